@@ -1,0 +1,3 @@
+pub mod NameSets
+pub mod Promises
+pub mod Examples

@@ -1,0 +1,153 @@
+-- Settings that lines lead to pass their checks, and a listed `.config` line sets its field again.
+use mathlib.Core.Path.{_≡_, refl, sym, ap, _∙_}
+use Prim.Native.Nat.{ℕ, _<_, _≤_, _^_}
+use native.Mathlib.Omega.{arith}
+use mathlib.Core.Bool.{Bool, true, false}
+use mathlib.Core.Option.{Option, none, some}
+use mathlib.Core.List.{List, [], _∷_, _++_, append-nil}
+use lib.ListN.{length, drop, length-append}
+use lib.Dec.{eqb}
+use lib.IntN.{ℤ, pos}
+use Rattle.text.specs.Bytes.{Result, value, refused, bytes, between, letter, digit, edge, nameStart, namePart, every, same, each}
+use Rattle.text.specs.Numbers.{residue, decimal, signedDecimal}
+use Rattle.text.specs.Names.{Name}
+use Rattle.text.specs.Tokens.{Token, identifier, number, directive, isIdentifier, isRegister, infront, tokens}
+use Rattle.text.specs.Lines.{Line, lines, kept, lineOf, readLine}
+use Rattle.text.proofs.Strings.{every-append, every-cons, ends}
+use Rattle.text.proofs.Numbers.{residue-small, decimal-length}
+use Rattle.text.proofs.Tokens.{tokens-nil, Within64, reads-directive, reads-space, reads-identifier, reads-decimal}
+use Rattle.text.proofs.Lines.{visible, Closed, closed-append, Trimmed, decimal-visible, decimal-closed, high-plain, read-visible}
+use Rattle.instruction.specs.Operands.{readIdentifier, readNumber}
+use Rattle.image.specs.Settings.{Settings, begin, settingsFault, set, checked, configuredBy, configuredWith, configured}
+use Rattle.image.specs.Assembling.{State, Kind, empty, labelled, config, ignored, plain, kindOf, Step, next, withSettings, stepOn, step}
+use Rattle.image.specs.Listing.{lineText, settingText}
+use Rattle.image.specs.Meaning.{changedBy, settingsOn, settingsFrom, settingsOf}
+use Rattle.image.proofs.Settings.{no-fault, begin-good}
+
+-- ---- settings that lines lead to
+
+abbrev pub GoodIf : Result Settings → Type 0
+GoodIf (value s) = settingsFault s ≡ none
+GoodIf (refused n) = Unit {0}
+
+good-checked : (r : Result Settings) → GoodIf (checked r)
+unfolding checked
+good-checked (refused n) = tt
+good-checked (value s) = go (settingsFault s) refl
+  where
+    go : (o : Option ℕ) → settingsFault s ≡ o → GoodIf (elim o [ some n ↦ refused n | none ↦ value s ])
+    go none e = e
+    go (some n) e = tt
+
+good-by : (s : Settings) (key v : Token) → GoodIf (configuredBy s key v)
+unfolding configuredBy
+good-by s key v = go (readIdentifier key)
+  where
+    by-number : (k : List ℕ) (o : Option ℤ) → GoodIf (elim o [ none ↦ refused 8 | some z ↦ checked (set s k (residue 8 z)) ])
+    by-number k none = tt
+    by-number k (some z) = good-checked (set s k (residue 8 z))
+
+    go : (o : Option (List ℕ)) → GoodIf (elim o [
+      | none ↦ refused 7
+      | some k ↦ elim (readNumber v) [ none ↦ refused 8 | some z ↦ checked (set s k (residue 8 z)) ]
+    ])
+    go none = tt
+    go (some k) = by-number k (readNumber v)
+
+good-with : (s : Settings) (ts : List Token) → GoodIf (configuredWith s ts)
+unfolding configuredWith
+good-with s [] = tt
+good-with s (key ∷ []) = tt
+good-with s (key ∷ v ∷ ts) = good-by s key v
+
+pub good-configured : (s : Settings) (l : Line) → GoodIf (configured s l)
+unfolding configured
+good-configured s l = go (eqb (l .count) 3)
+  where
+    go : (v : Bool) → GoodIf (elim v [ true ↦ configuredWith s (drop 1 (l .first)) | false ↦ refused 6 ])
+    go true = good-with s (drop 1 (l .first))
+    go false = tt
+
+good-changed : (s : Settings) → settingsFault s ≡ none → (r : Result Settings) → GoodIf r → settingsFault (changedBy s r) ≡ none
+unfolding changedBy
+good-changed s h (value s′) g = g
+good-changed s h (refused n) g = h
+
+good-on : (s : Settings) → settingsFault s ≡ none → (o : Option Line) → settingsFault (settingsOn s o) ≡ none
+unfolding settingsOn
+good-on s h none = h
+good-on s h (some l) = go (kindOf (l .first))
+  where
+    go : (k : Kind) → settingsFault (elim k [
+      | config ↦ changedBy s (configured s l)
+      | labelled _ ↦ s
+      | plain ↦ s
+      | empty ↦ s
+      | ignored ↦ s
+    ]) ≡ none
+    go config = good-changed s h (configured s l) (good-configured s l)
+    go (labelled _) = h
+    go plain = h
+    go empty = h
+    go ignored = h
+
+good-from : (names : List Name) (s : Settings) → settingsFault s ≡ none → (ls : List (List ℕ)) → settingsFault (settingsFrom names s ls) ≡ none
+unfolding settingsFrom
+good-from names s h [] = h
+good-from names s h (l ∷ ls) = good-from names (settingsOn s (readLine names l)) (good-on s h (readLine names l)) ls
+
+-- Whatever the source, its settings pass the checks.
+pub settings-pass : (names : List Name) (source : List ℕ) → settingsFault (settingsOf names source) ≡ none
+unfolding settingsOf
+settings-pass names source = good-from names begin (no-fault begin begin-good) (lines source)
+
+-- ---- a listed `.config` line
+
+-- What is asked of a key.
+pub record Key (names : List Name) (key : List ℕ) : Type 0 where
+  pub is-identifier : isIdentifier key ≡ true
+  pub no-register : isRegister names key ≡ false
+  pub is-visible : every visible key ≡ true
+  pub is-short : length key ≤ 10
+
+-- The line, without its end.
+unfoldable pub configText : List ℕ → ℕ → List ℕ
+configText key v = bytes ".config " ++ (key ++ (32 ∷ decimal v))
+
+module _ (names : List Name) (ok : each (λ n. isIdentifier (n .spelling)) names ≡ true) (key : List ℕ) (k : Key names key) (v : ℕ) (small : v < 100) where
+  config-tokens : tokens names (configText key v) ≡ some (directive (bytes "config") ∷ identifier key ∷ number (pos v) ∷ [])
+  unfolding configText bytes isIdentifier every nameStart namePart letter digit between ends infront signedDecimal Within64
+  config-tokens =
+      reads-directive names ok (bytes "config") (32 ∷ (key ++ (32 ∷ decimal v))) refl refl
+      ∙ ap (infront (directive (bytes "config"))) (reads-space names ok (key ++ (32 ∷ decimal v))
+      ∙ reads-identifier names ok key (32 ∷ decimal v) (k .is-identifier) (k .no-register) refl
+      ∙ ap (infront (identifier key)) (reads-space names ok (decimal v)
+      ∙ ap (tokens names) (sym (append-nil (decimal v)))
+      ∙ reads-decimal names ok (pos v) [] (omega arith) refl
+      ∙ ap (infront (number (pos v))) (tokens-nil names)))
+
+  pub config-visible : every visible (configText key v) ≡ true
+  unfolding configText bytes every visible between
+  config-visible = every-append visible key (32 ∷ decimal v) (k .is-visible) (decimal-visible v)
+
+  config-trimmed : Trimmed (configText key v)
+  unfolding configText bytes
+  config-trimmed =
+      record {
+        head = 46;
+        tail = bytes "config " ++ (key ++ (32 ∷ decimal v));
+        front = refl;
+        plain = high-plain 46 (omega arith);
+        closed = closed-append (bytes ".config ") (key ++ (32 ∷ decimal v)) (closed-append key (32 ∷ decimal v) (closed-append (32 ∷ []) (decimal v) (decimal-closed v)));
+      }
+
+  pub config-short : length (configText key v) ≤ 21
+  unfolding configText bytes
+  config-short = omega (arith, length-append key (32 ∷ decimal v), k .is-short, decimal-length 1 v small)
+
+  -- It sets the field of its key.
+  pub config-step : (room : ℕ) (st : State) (at : ℕ) (s : Settings) → set (st .setup) key v ≡ value s → settingsFault s ≡ none
+      → step room st at (readLine names (configText key v)) ≡ next (record { labels = st .labels; instructions = st .instructions; setup = s })
+  unfolding step stepOn kindOf same bytes lineOf kept configured configuredWith configuredBy readIdentifier readNumber checked withSettings
+  config-step room st at s e g =
+      rw (read-visible names (configText key v) _ config-trimmed config-visible config-tokens, residue-small 8 v (omega arith), e, checked, g)

@@ -1,0 +1,200 @@
+-- Assembling: a source is read line by line; the first faulty line decides. Quotations are document 01's.
+use Prim.Native.Nat.{ℕ, suc, _+_, _*_}
+use mathlib.Core.Bool.{Bool, true, false}
+use mathlib.Core.Option.{Option, none, some}
+use mathlib.Core.List.{List, [], _∷_, _++_}
+use lib.ListN.{length}
+use lib.Dec.{leb, ltb, eqb}
+use Rattle.text.specs.Bytes.{Result, value, refused, bytes, ascii, every, same, before, find, isSome}
+use Rattle.text.specs.Names.{Name}
+use Rattle.text.specs.Tokens.{Token, identifier, register, number, hex, binary, directive, comma, colon, opening, closing}
+use Rattle.text.specs.Lines.{Line, lines, indent, readLine}
+use Rattle.instruction.specs.Operands.{Instruction, readIdentifier, markByte, readInstruction, behind}
+use Rattle.image.specs.Settings.{Settings, begin, configured}
+use Rattle.image.specs.Program.{entry, imageLength}
+
+-- A label: its spelling, where it stands ("start counts from the source's first byte"), and its address.
+pub record Label : Type 0 where
+  pub spelling : List ℕ
+  pub start : ℕ
+  pub address : ℕ
+
+-- What the lines so far have come to: the labels and the instructions in the order entered, and the settings.
+pub record State : Type 0 where
+  pub labels : List Label
+  pub instructions : List Instruction
+  pub setup : Settings
+
+unfoldable pub start : State
+start = record { labels = []; instructions = []; setup = begin }
+
+-- What a line leads to: the next state, or a refusal and the state that it leaves.
+pub data Step : Type 0 where
+  next : State → Step
+  stop : ℕ → State → Step
+
+-- ---- what a line is
+
+pub data Kind : Type 0 where
+  -- "Empty lines do nothing."
+  empty : Kind
+  -- "Identifier then colon is a label"
+  labelled : (spelling : List ℕ) → Kind
+  -- "A first token `.config` (that case only)"
+  config : Kind
+  -- "other directives do nothing"
+  ignored : Kind
+  -- "Otherwise the line is an instruction"
+  plain : Kind
+
+-- A first token that is an Identifier: a label if a colon is next.
+unfoldable pub identifierKind : List ℕ → List Token → Kind
+identifierKind s [] = plain
+identifierKind s (t ∷ ts) = elim (eqb (markByte t) 58) [ true ↦ labelled s | false ↦ plain ]
+
+unfoldable pub kindOf : List Token → Kind
+kindOf [] = empty
+kindOf (identifier s ∷ ts) = identifierKind s ts
+kindOf (directive d ∷ ts) = elim (same d (bytes "config")) [ true ↦ config | false ↦ ignored ]
+kindOf (register r ∷ ts) = plain
+kindOf (number z ∷ ts) = plain
+kindOf (hex n ∷ ts) = plain
+kindOf (binary n ∷ ts) = plain
+kindOf (comma ∷ ts) = plain
+kindOf (colon ∷ ts) = plain
+kindOf (opening ∷ ts) = plain
+kindOf (closing ∷ ts) = plain
+
+-- ---- labels
+
+-- "compared case-sensitively"
+unfoldable pub isKnown : List Label → List ℕ → Bool
+isKnown labels s = isSome (find (λ l. same (l .spelling) s) labels)
+
+-- "its address is 0x1000 + 4 times the words before"
+unfoldable pub withLabel : State → ℕ → List ℕ → State
+withLabel st at s =
+    record {
+      labels = st .labels ++ (record { spelling = s; start = at; address = entry + 4 * length (st .instructions) } ∷ []);
+      instructions = st .instructions;
+      setup = st .setup;
+    }
+
+-- "4 duplicate label; 5 new label, table full"; the table has room for so many.
+unfoldable pub enter : ℕ → State → ℕ → List ℕ → Step
+enter room st at s =
+    elim (isKnown (st .labels) s) [
+      | true ↦ stop 4 st
+      | false ↦ elim (ltb (length (st .labels)) room) [ true ↦ next (withLabel st at s) | false ↦ stop 5 st ]
+    ]
+
+-- ---- settings and instructions
+
+unfoldable pub withSettings : State → Result Settings → Step
+withSettings st (refused n) = stop n st
+withSettings st (value s) = next (record { labels = st .labels; instructions = st .instructions; setup = s })
+
+-- "22 a 32,769th instruction"
+unfoldable pub most-words : ℕ
+most-words = 32768
+
+unfoldable pub withInstruction : State → Result Instruction → Step
+withInstruction st (refused n) = stop n st
+withInstruction st (value i) =
+    elim (ltb (length (st .instructions)) most-words) [
+      | true ↦ next (record { labels = st .labels; instructions = st .instructions ++ (i ∷ []); setup = st .setup })
+      | false ↦ stop 22 st
+    ]
+
+-- "What follows it must be an instruction", if anything follows.
+unfoldable pub afterLabel : Line → Step → Step
+afterLabel l (stop n st) = stop n st
+afterLabel l (next st) = elim (l .first) [ [] ↦ next st | t ∷ ts ↦ withInstruction st (readInstruction l) ]
+
+-- ---- a line
+
+-- A line whose content stands at a place of the source.
+unfoldable pub stepOn : ℕ → State → ℕ → Line → Step
+stepOn room st at l =
+    elim (kindOf (l .first)) [
+      | empty ↦ next st
+      | labelled s ↦ afterLabel (behind 2 l) (enter room st at s)
+      | config ↦ withSettings st (configured (st .setup) l)
+      | ignored ↦ next st
+      | plain ↦ withInstruction st (readInstruction l)
+    ]
+
+-- "3 bad token anywhere in it"
+unfoldable pub step : ℕ → State → ℕ → Option Line → Step
+step room st at none = stop 3 st
+step room st at (some l) = stepOn room st at l
+
+-- ---- all lines
+
+pub data Walk : Type 0 where
+  finished : State → Walk
+  stopped : (number line : ℕ) → State → Walk
+
+-- The lines from the one with a number on, whose first byte stands at a place of the source.
+unfoldable pub walk : List Name → ℕ → ℕ → ℕ → State → List (List ℕ) → Walk
+walk names room line at st [] = finished st
+walk names room line at st (l ∷ ls) =
+    elim (step room st (at + indent l) (readLine names l)) [
+      | next st′ ↦ walk names room (suc line) (at + suc (length l)) st′ ls
+      | stop n st′ ↦ stopped n line st′
+    ]
+
+-- ---- the answer
+
+-- "A refusal carries its number, the Rust's line and the true line (from 1)", "the label count, and 23 the needed length".
+pub record Refusal : Type 0 where
+  pub number : ℕ
+  pub rust-line : ℕ
+  pub true-line : ℕ
+  pub labels : List Label
+  pub needed : Option ℕ
+
+pub data Assembled : Type 0 where
+  accepted : State → Assembled
+  rejected : Refusal → Assembled
+
+-- "The Rust's line is 0 for 3, 8 and 18, elsewhere the true line."
+unfoldable pub rustLine : ℕ → ℕ → ℕ
+rustLine n line = elim (eqb n 3) [ true ↦ 0 | false ↦ elim (eqb n 8) [ true ↦ 0 | false ↦ elim (eqb n 18) [ true ↦ 0 | false ↦ line ] ] ]
+
+unfoldable pub refusing : ℕ → ℕ → ℕ → List Label → Option ℕ → Assembled
+refusing n rust line labels needed =
+    rejected (record { number = n; rust-line = rust; true-line = line; labels = labels; needed = needed })
+
+unfoldable pub readTo : Walk → Assembled
+readTo (finished st) = accepted st
+readTo (stopped n line st) = refusing n (rustLine n line) line (st .labels) none
+
+-- "1 source over 1,048,576 bytes"
+unfoldable pub most-bytes : ℕ
+most-bytes = 1048576
+
+-- Reading a source with a table that has room for so many labels: all refusals but 23. "Before any line: 1 source over 1,048,576
+-- bytes; 2 a byte above 127 (true line of the first)."
+unfoldable pub reading : List Name → List ℕ → ℕ → Assembled
+reading names source room =
+    elim (leb (length source) most-bytes) [
+      | false ↦ refusing 1 0 0 [] none
+      | true ↦ elim (every ascii source) [
+        | false ↦ refusing 2 0 (length (lines (before ascii source))) [] none
+        | true ↦ readTo (walk names room 1 0 start (lines source))
+      ]
+    ]
+
+-- "At the end: 23 image buffer too short"; "1 and 23 give both as 0".
+unfoldable pub fitted : ℕ → Assembled → Assembled
+fitted size (rejected r) = rejected r
+fitted size (accepted st) =
+    elim (leb (imageLength (length (st .instructions))) size) [
+      | true ↦ accepted st
+      | false ↦ refusing 23 0 0 (st .labels) (some (imageLength (length (st .instructions))))
+    ]
+
+-- "Assembling takes a source, a label table and an image buffer."
+unfoldable pub assembling : List Name → List ℕ → ℕ → ℕ → Assembled
+assembling names source room size = fitted size (reading names source room)

@@ -1,0 +1,1 @@
+// The image layer: settings, header, opening, assembling and listing.

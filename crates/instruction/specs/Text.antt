@@ -1,0 +1,32 @@
+-- The text of an instruction: "lower case, `r` names, comma and space, decimal numbers". Quotations are document 01's.
+use Prim.Native.Nat.{ℕ}
+use mathlib.Core.Option.{Option, none, some}
+use mathlib.Core.List.{List, [], _∷_, _++_}
+use lib.IntN.{ℤ}
+use Rattle.text.specs.Numbers.{decimal, signedDecimal}
+use Rattle.instruction.specs.Table.{Place, reg, num, comma-place, opening-place, closing-place, places}
+use Rattle.instruction.specs.Operands.{Instruction}
+
+unfoldable pub registerText : ℕ → List ℕ
+registerText n = 114 ∷ decimal n
+
+unfoldable pub numberText : Option ℤ → List ℕ
+numberText none = []
+numberText (some z) = signedDecimal z
+
+unfoldable pub placesText : List Place → List ℕ → Option ℤ → List ℕ
+placesText [] rs n = []
+placesText (reg bit ∷ ps) [] n = placesText ps [] n
+placesText (reg bit ∷ ps) (r ∷ rs) n = registerText r ++ placesText ps rs n
+placesText (num bit width signed ∷ ps) rs n = numberText n ++ placesText ps rs n
+placesText (comma-place ∷ ps) rs n = 44 ∷ 32 ∷ placesText ps rs n
+placesText (opening-place ∷ ps) rs n = 40 ∷ placesText ps rs n
+placesText (closing-place ∷ ps) rs n = 41 ∷ placesText ps rs n
+
+-- A space stands before operands, where there are some.
+unfoldable pub operandsText : List Place → List ℕ → Option ℤ → List ℕ
+operandsText [] rs n = []
+operandsText (p ∷ ps) rs n = 32 ∷ placesText (p ∷ ps) rs n
+
+unfoldable pub instructionText : Instruction → List ℕ
+instructionText i = i .row .mnemonic ++ operandsText (places (i .row .form)) (i .registers) (i .number)

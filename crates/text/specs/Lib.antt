@@ -1,0 +1,6 @@
+pub mod Bytes
+pub mod Numbers
+pub mod Names
+pub mod Tokens
+pub mod Lines
+pub mod NameSets

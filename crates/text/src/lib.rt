@@ -1,0 +1,4 @@
+// placeholder
+pub fn zero() -> u8 {
+    0
+}

@@ -1,0 +1,79 @@
+//! Document 01's added limits, laid over the reference's answer.
+
+use crate::answer::{ascii, ask, line_ends, words_before, words_in, Answer, Label};
+
+pub(crate) const MOST_SOURCE_BYTES: usize = 1_048_576;
+pub(crate) const MOST_WORDS: usize = 32_768;
+
+/// The answer when a label table of `table` entries and an image buffer of `room` bytes are lent.
+pub fn answer_within(source: &[u8], table: usize, room: usize) -> Answer {
+    if source.len() > MOST_SOURCE_BYTES {
+        return refusal(1, 0, 0, Vec::new());
+    }
+    let Some(text) = ascii(source) else {
+        let byte = source.iter().position(|byte| *byte > 127);
+        let line = line_of(source, byte.expect("a byte is above 127"));
+        return refusal(2, 0, line, Vec::new());
+    };
+    let answer = ask(text);
+    // A label that the reference enters stands on a line without 3 and 4, and 5 comes before the
+    // line's other faults. An instruction that the reference takes has no faults, so 22 is left.
+    let full = answer
+        .labels()
+        .get(table)
+        .map(|label| line_of(source, label.start));
+    let many = line_of_excess(text, &answer);
+    match (full, many) {
+        (Some(line), many) if many.is_none_or(|many| line <= many) => {
+            refusal(5, line, line, answer.labels()[..table].to_vec())
+        }
+        (_, Some(line)) => {
+            let entered = answer.labels().iter().copied();
+            let entered = entered.filter(|label| line_of(source, label.start) <= line);
+            refusal(22, line, line, entered.collect())
+        }
+        _ => in_room(answer, room),
+    }
+}
+
+/// 23 for an accepted source whose image does not fit.
+fn in_room(answer: Answer, room: usize) -> Answer {
+    match answer {
+        Answer::Accepted { image, labels, .. } if image.len() > room => Answer::Refused {
+            number: 23,
+            rust_line: 0,
+            true_line: 0,
+            labels,
+            needed: image.len(),
+        },
+        other => other,
+    }
+}
+
+/// The line, from 1, on which a byte stands.
+fn line_of(source: &[u8], at: usize) -> usize {
+    1 + source[..at].iter().filter(|byte| **byte == b'\n').count()
+}
+
+/// The line of the first instruction over the limit, among those that the reference takes.
+fn line_of_excess(text: &str, answer: &Answer) -> Option<usize> {
+    if words_before(text, answer) <= MOST_WORDS {
+        return None;
+    }
+    let ends = line_ends(text);
+    let taken = match answer {
+        Answer::Accepted { .. } => &ends[..],
+        Answer::Refused { true_line, .. } => &ends[..true_line - 1],
+    };
+    Some(1 + taken.partition_point(|end| words_in(&text[..*end]) <= MOST_WORDS))
+}
+
+fn refusal(number: u32, rust_line: usize, true_line: usize, labels: Vec<Label>) -> Answer {
+    Answer::Refused {
+        number,
+        rust_line,
+        true_line,
+        labels,
+        needed: 0,
+    }
+}

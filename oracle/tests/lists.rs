@@ -1,0 +1,146 @@
+//! The lists in `lists/`: made again, replayed, and looked through for what they must cover.
+
+use std::collections::{BTreeMap, BTreeSet};
+
+use oracle::isa::ROWS;
+use oracle::list::{answer_lines, read, Record, USUAL_TABLE};
+use oracle::{answer_within, image_list, model, source_list};
+
+const RUST: &str = include_str!("../lists/rust.txt");
+const BY_HAND: &str = include_str!("../lists/by_hand.txt");
+const IMAGES: &str = include_str!("../lists/images.txt");
+
+#[test]
+fn the_made_lists_are_made_again() {
+    // Not `assert_eq`, which would print both files.
+    assert!(
+        source_list() == RUST,
+        "lists/rust.txt is not what make-list writes"
+    );
+    assert!(
+        image_list() == IMAGES,
+        "lists/images.txt is not what make-list writes"
+    );
+}
+
+#[test]
+fn every_record_is_answered_again() {
+    for record in read(RUST).into_iter().chain(read(BY_HAND)) {
+        let table = record.table.unwrap_or(USUAL_TABLE);
+        let room = record.room.unwrap_or(usize::MAX);
+        let mut lines = answer_lines(&answer_within(&record.source, table, room));
+        if !record.answer.iter().any(|line| line.starts_with("i ")) {
+            lines.retain(|line| !line.starts_with("i "));
+        }
+        let start = String::from_utf8_lossy(&record.source[..record.source.len().min(60)]);
+        assert_eq!(
+            record.answer, lines,
+            "table {table}, room {room}, source {start:?}"
+        );
+    }
+}
+
+/// How many records have each refusal number; accepted ones stand under 0.
+fn counts(records: &[Record]) -> BTreeMap<u32, usize> {
+    let mut counts = BTreeMap::new();
+    for record in records {
+        let mut words = record.answer[0].split(' ');
+        let number = match words.next() {
+            Some("a") => 0,
+            _ => words.next().unwrap().parse().unwrap(),
+        };
+        *counts.entry(number).or_default() += 1;
+    }
+    counts
+}
+
+#[test]
+fn the_list_of_sources_covers_all_that_the_rust_refuses() {
+    let records = read(RUST);
+    assert!(records.len() >= 3000, "only {} sources", records.len());
+    assert!(RUST.len() < 900 * 1024, "{} bytes", RUST.len());
+    let sources: BTreeSet<_> = records.iter().map(|record| &record.source).collect();
+    assert_eq!(sources.len(), records.len(), "a source stands twice");
+    let found: Vec<u32> = counts(&records).into_keys().collect();
+    let wanted: Vec<u32> = [0, 3, 4].into_iter().chain(6..=21).collect();
+    assert_eq!(found, wanted);
+}
+
+#[test]
+fn the_list_by_hand_covers_the_added_limits() {
+    let counts = counts(&read(BY_HAND));
+    for number in [1, 2, 5, 22, 23] {
+        assert!(
+            counts[&number] >= 10,
+            "{number} stands only {} times",
+            counts[&number]
+        );
+    }
+}
+
+#[test]
+fn every_mnemonic_is_accepted_with_distinct_registers() {
+    let mut seen = BTreeSet::new();
+    for record in read(RUST) {
+        // Behind the header there is one word.
+        let word = match &record.answer[..] {
+            [counts, image] if counts.starts_with("a 1 0 ") => &image[2 + 64..],
+            _ => continue,
+        };
+        let word = u32::from_str_radix(word, 16).unwrap().swap_bytes();
+        let fields = [(word >> 7) & 15, (word >> 11) & 15, (word >> 15) & 15];
+        if fields[0] != fields[1] && fields[1] != fields[2] && fields[0] != fields[2]
+            || word & 0x7E == 0x50
+        {
+            seen.insert(word & 0x7F);
+        }
+    }
+    assert!(seen.into_iter().eq(ROWS.iter().map(|row| row.opcode)));
+}
+
+#[test]
+fn the_list_of_images_covers_opening_and_listing() {
+    let numbers = |tag: &str| -> BTreeSet<u32> {
+        let lines = IMAGES.lines().filter_map(|line| line.strip_prefix(tag));
+        lines
+            .map(|line| line.split(' ').next().unwrap().parse().unwrap())
+            .collect()
+    };
+    let opening: BTreeSet<u32> = (10..=13).chain(24..=28).collect();
+    let listing: BTreeSet<u32> = opening.iter().copied().chain(29..=32).collect();
+    assert_eq!(numbers("q "), opening);
+    assert_eq!(numbers("z "), listing);
+    let records = IMAGES.lines().filter(|line| line.starts_with("n ")).count();
+    assert!(records >= 400, "only {records} images");
+    for row in ROWS {
+        let line = format!("\ns {}", row.mnemonic);
+        assert!(IMAGES.contains(&(line.clone() + " ")) || IMAGES.contains(&(line + "\\0a")));
+    }
+}
+
+/// The reference takes each listing back to the image that was listed.
+#[test]
+fn listings_assemble_to_their_images() {
+    let image_of = |record: &str| -> Vec<u8> {
+        let hex: String = record
+            .lines()
+            .filter_map(|line| line.strip_prefix("i "))
+            .collect();
+        let byte = |at| u8::from_str_radix(&hex[at..at + 2], 16).unwrap();
+        (0..hex.len()).step_by(2).map(byte).collect()
+    };
+    let mut listed = 0;
+    for record in IMAGES.split("\n\n").skip(1) {
+        let image = image_of(record);
+        let Ok(text) = model::list(&image, usize::MAX) else {
+            continue;
+        };
+        let lines = answer_lines(&oracle::answer(text.as_bytes()));
+        assert!(lines[1..]
+            .iter()
+            .cloned()
+            .eq(oracle::list::image_lines(&image)));
+        listed += 1;
+    }
+    assert!(listed > 100, "only {listed} images are listed");
+}
