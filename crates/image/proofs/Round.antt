@@ -13,7 +13,8 @@ use Rattle.text.specs.Names.{Name}
 use Rattle.text.specs.Tokens.{isIdentifier, tokens, tokensPast}
 use Rattle.text.specs.Lines.{Line, lines, indent, content, trim, trimEnd, cut, kept, lineOf, recordOf, readLine}
 use Rattle.text.proofs.Strings.{every-append, every-cons, every-mono}
-use Rattle.text.proofs.Lines.{inside, lines-cons, visible, visible-inside, visible-ascii}
+use Rattle.text.specs.Places.{inside}
+use Rattle.text.proofs.Lines.{lines-cons, visible, visible-inside, visible-ascii}
 use Rattle.instruction.specs.Operands.{Instruction, readInstruction}
 use Rattle.instruction.specs.Words.{instructionOf}
 use Rattle.instruction.specs.Text.{instructionText}

@@ -1,30 +1,39 @@
 -- Fields of a word, at any bits and of any widths: a value is added where a word has nothing and is read back, every other
 -- field stays as it was, and fields without a gap between them tell the word.
-use mathlib.Core.Path.{_≡_, refl, sym, ap, _∙_}
+use mathlib.Core.Path.{_≡_, ap, _∙_}
 use Prim.Native.Nat.{ℕ, _+_, _-_, _*_, _/_, _%_, _^_, _≤_, _<_}
 use native.Mathlib.Nat.{mod-lt, add-comm, add-mul-mod-self-right, add-mul-div-right, div-eq-of-lt, div-lt-iff-lt-mul, zero-mod, div-add-mod'}
 use native.Mathlib.Omega.{arith}
 use mathlib.Core.Bool.{Bool, true, _||_}
 use lib.Dec.{leb}
-use lib.Pow.{pow-pos, pow-add, mod-pow-add, mod-mod-pow, shr-shr, field}
+use lib.Pow.{pow-pos, pow-mono, pow-add, mod-pow-add, mod-mod-pow, shr-shr, field}
 use lib.Arith.{digits-div, digits-mod}
 use borrow.Author.Tests.{leb-true}
-use Rattle.text.proofs.Tests.{or-elim}
+use Rattle.text.proofs.Tests.{or-left, or-right, or-elim}
 use Rattle.instruction.specs.Words.{fieldAt}
 
 -- Two fields have no bit in common.
 unfoldable pub disjoint : (b k b′ k′ : ℕ) → Bool
 disjoint b k b′ k′ = leb (b + k) b′ || leb (b′ + k′) b
 
+-- Either way round.
+pub disjoint-sym : (b k b′ k′ : ℕ) → disjoint b k b′ k′ ≡ true → disjoint b′ k′ b k ≡ true
+unfolding disjoint
+disjoint-sym b k b′ k′ h =
+    or-elim (leb (b + k) b′) (leb (b′ + k′) b) h (λ l. or-right (leb (b′ + k′) b) (leb (b + k) b′) l) (λ l. or-left (leb (b′ + k′) b) (leb (b + k) b′) l)
+
 -- A field is below the power of its width.
 pub field-lt : (w b k : ℕ) → fieldAt w b k < 2 ^ k
 unfolding fieldAt
 field-lt w b k = mod-lt (w / 2 ^ b) (pow-pos k)
 
--- A number has nothing above its bits.
-pub field-none : (x b k : ℕ) → x < 2 ^ b → fieldAt x b k ≡ 0
-unfolding fieldAt
-field-none x b k h = rw (div-eq-of-lt h) (zero-mod (2 ^ k))
+-- A number below a power has nothing in a field apart from its bits.
+pub field-empty : (x c b k : ℕ) → x < 2 ^ c → disjoint b k 0 c ≡ true → fieldAt x b k ≡ 0
+unfolding disjoint fieldAt
+field-empty x c b k h d =
+    or-elim (leb (b + k) 0) (leb (0 + c) b) d
+    (λ l. let n = leb-true (b + k) 0 l in let z : k ≡ 0 = omega arith in rw z (omega arith))
+    (λ l. let n = leb-true (0 + c) b l in let m : 2 ^ c ≤ 2 ^ b = pow-mono {i = c} {j = b} (omega arith) in rw (div-eq-of-lt {n = x} {m = 2 ^ b} (omega arith)) (zero-mod (2 ^ k)))
 
 -- Numbers with the same bits from c on have the same fields there.
 above : (x y b k c : ℕ) → c ≤ b → x / 2 ^ c ≡ y / 2 ^ c → fieldAt x b k ≡ fieldAt y b k

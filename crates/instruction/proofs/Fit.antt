@@ -1,8 +1,8 @@
 -- When an instruction fits: its row is one of the table, and it has the registers and the number that the row's form asks for.
 use Prim.Native.Nat.{ℕ, _<_}
 use mathlib.Core.Path.{_≡_}
-use mathlib.Core.Bool.{Bool, true, false}
-use mathlib.Core.Option.{Option, some}
+use mathlib.Core.Bool.{Bool}
+use mathlib.Core.Option.{Option, none, some}
 use mathlib.Core.List.{List, [], _∷_}
 use Rattle.text.specs.Bytes.{isSome}
 use Rattle.instruction.specs.Table.{Place, reg, num, comma-place, opening-place, closing-place, places, Row, rowNamed}
@@ -11,6 +11,10 @@ use Rattle.instruction.specs.Operands.{Instruction}
 -- A row of the table is the one that its mnemonic names.
 abbrev pub InTable : Row → Type 0
 InTable r = rowNamed (r .mnemonic) ≡ some r
+
+-- The places of a row's form.
+abbrev pub placesOf : Row → List Place
+placesOf r = places (r .form)
 
 -- As many registers as places for them, each one of sixteen.
 unfoldable pub Regs : List Place → List ℕ → Type 0
@@ -23,25 +27,38 @@ Regs (comma-place ∷ ps) rs = Regs ps rs
 Regs (opening-place ∷ ps) rs = Regs ps rs
 Regs (closing-place ∷ ps) rs = Regs ps rs
 
--- There is a place for a number.
+-- The field of a number: its width, and whether it is read as signed.
+pub record NumberField : Type 0 where
+  pub width : ℕ
+  pub signed : Bool
+
+-- The number's field, where there is a place for a number.
+unfoldable pub numberField : List Place → Option NumberField
+numberField [] = none
+numberField (num bit width signed ∷ ps) = some (record { width = width; signed = signed })
+numberField (reg bit ∷ ps) = numberField ps
+numberField (comma-place ∷ ps) = numberField ps
+numberField (opening-place ∷ ps) = numberField ps
+numberField (closing-place ∷ ps) = numberField ps
+
+-- There is one.
 unfoldable pub hasNumber : List Place → Bool
-hasNumber [] = false
-hasNumber (num bit width signed ∷ ps) = true
-hasNumber (reg bit ∷ ps) = hasNumber ps
-hasNumber (comma-place ∷ ps) = hasNumber ps
-hasNumber (opening-place ∷ ps) = hasNumber ps
-hasNumber (closing-place ∷ ps) = hasNumber ps
+hasNumber ps = isSome (numberField ps)
 
--- The width of the number's field; 0 where there is none.
+-- A field's width; 0 where there is none.
+unfoldable pub widthOf : Option NumberField → ℕ
+widthOf none = 0
+widthOf (some f) = f .width
+
+-- The width of the number's field.
 unfoldable pub numberWidth : List Place → ℕ
-numberWidth [] = 0
-numberWidth (num bit width signed ∷ ps) = width
-numberWidth (reg bit ∷ ps) = numberWidth ps
-numberWidth (comma-place ∷ ps) = numberWidth ps
-numberWidth (opening-place ∷ ps) = numberWidth ps
-numberWidth (closing-place ∷ ps) = numberWidth ps
+numberWidth ps = widthOf (numberField ps)
 
+-- An instruction fits.
 pub record Fits (i : Instruction) : Type 0 where
+  -- its row is one of the table
   pub in-table : InTable (i .row)
-  pub registers : Regs (places (i .row .form)) (i .registers)
-  pub number : isSome (i .number) ≡ hasNumber (places (i .row .form))
+  -- it has the registers that its form names
+  pub registers : Regs (placesOf (i .row)) (i .registers)
+  -- and a number exactly if its form has one
+  pub number : isSome (i .number) ≡ hasNumber (placesOf (i .row))

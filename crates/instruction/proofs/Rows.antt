@@ -3,16 +3,16 @@ use mathlib.Core.Path.{_≡_, refl, sym, ap, _∙_}
 use Prim.Native.Nat.{ℕ, _≤_, _<_}
 use native.Mathlib.Omega.{arith}
 use mathlib.Core.Bool.{Bool, true, false, not, _&&_, _||_, true≢false, and-eq-true-iff}
-use mathlib.Core.Option.{Option, none, some}
+use mathlib.Core.Option.{Option, some}
 use mathlib.Core.List.{List, [], _∷_, map}
 use lib.Dec.{leb, ltb, eqb}
-use borrow.Author.Tests.{le-leb, lt-leb, ltb-true, eqb-true, eq-eqb, not-true}
+use borrow.Author.Tests.{leb-true, le-leb, lt-leb, ltb-true, eqb-true, eq-eqb, not-true}
 use Rattle.text.specs.Bytes.{bytes, between, letter, digit, nameStart, namePart, lower, every, same, find, isSome, each}
 use Rattle.text.specs.Tokens.{isIdentifier}
 use Rattle.text.proofs.Tests.{both, or-elim, no-both, between-true}
 use Rattle.text.proofs.Strings.{every-head, every-tail, same-eq, eq-same, found}
 use Rattle.instruction.specs.Table.{Place, reg, num, comma-place, opening-place, closing-place, places, Row, row, table, rowNamed, rowCoded}
-use Rattle.instruction.proofs.Fit.{InTable, hasNumber, numberWidth}
+use Rattle.instruction.proofs.Fit.{InTable, placesOf, numberField, hasNumber, widthOf, numberWidth}
 
 -- ---- a row found in the table
 
@@ -22,7 +22,7 @@ unfolding rowNamed
 carried q k r h = found (λ s. same (s .mnemonic) (r .mnemonic)) q table r h k .1
 
 -- No two entries are alike.
-unfoldable pub unique : {A : Type 0} → (A → A → Bool) → List A → Bool
+unique : {A : Type 0} → (A → A → Bool) → List A → Bool
 unique like [] = true
 unique like (a ∷ l) = elim (each (λ b. not (like a b)) l) [ true ↦ unique like l | false ↦ false ]
 
@@ -37,7 +37,7 @@ found-again {A} like self p (x ∷ l) a u h =
   where
     go : (v : Bool) → each (λ b. not (like x b)) l ≡ true → (find p l ≡ some a → find (λ b. like b a) l ≡ some a)
         → _≡_ {A = Option A} (elim v [ true ↦ some x | false ↦ find p l ]) (some a) → find (λ b. like b a) (x ∷ l) ≡ some a
-    go true ux f g = let i : x ≡ a = cc in rw (i, find, self a)
+    go true ux f g = let i : x ≡ a = cc in rw (find, i, self a) (ap some i)
     go false ux f g = rw (find, not-true (like x a) (found p (λ b. not (like x b)) l a g ux .1)) (f g)
 
 -- ---- the rules
@@ -55,11 +55,11 @@ marked (comma-place ∷ ps) = true
 marked (opening-place ∷ ps) = true
 marked (closing-place ∷ ps) = true
 
--- A register or a number is followed by a mark or by nothing, and no number is wider than 21 bits.
+-- A register or a number is followed by a mark or by nothing.
 unfoldable pub apart : List Place → Bool
 apart [] = true
 apart (reg bit ∷ ps) = elim (marked ps) [ true ↦ apart ps | false ↦ false ]
-apart (num bit width signed ∷ ps) = elim (leb width 21 && marked ps) [ true ↦ apart ps | false ↦ false ]
+apart (num bit width signed ∷ ps) = elim (marked ps) [ true ↦ apart ps | false ↦ false ]
 apart (comma-place ∷ ps) = apart ps
 apart (opening-place ∷ ps) = apart ps
 apart (closing-place ∷ ps) = apart ps
@@ -72,19 +72,23 @@ statedWidth m =
       | false ↦ elim (same m (bytes "slli") || (same m (bytes "srli") || same m (bytes "srai"))) [ true ↦ 8 | false ↦ 17 ]
     ]
 
-unfoldable pub rule : Row → Bool
+-- What is asked of each row.
+rule : Row → Bool
 rule r =
-    isIdentifier (r .mnemonic) && (every lowerCase (r .mnemonic) && (ltb (r .opcode) 128 && (apart (places (r .form))
-    && (not (hasNumber (places (r .form))) || eqb (numberWidth (places (r .form))) (statedWidth (r .mnemonic))))))
+    isIdentifier (r .mnemonic) && (every lowerCase (r .mnemonic) && (ltb (r .opcode) 128
+    && (apart (placesOf r) && (leb (numberWidth (placesOf r)) 21
+    && (not (hasNumber (placesOf r)) || eqb (numberWidth (placesOf r)) (statedWidth (r .mnemonic)))))))
 
 table-ruled : each rule table ≡ true
-unfolding each rule table row bytes isIdentifier nameStart namePart letter digit lowerCase between every apart marked places hasNumber numberWidth statedWidth same
+unfolding each rule table row bytes isIdentifier nameStart namePart letter digit lowerCase between every apart marked places isSome numberField hasNumber widthOf numberWidth statedWidth same
 table-ruled = refl
 
+-- No two rows have the same mnemonic.
 mnemonics-unique : unique (λ r s. same (r .mnemonic) (s .mnemonic)) table ≡ true
 unfolding unique each table row bytes same
 mnemonics-unique = refl
 
+-- Nor the same opcode.
 opcodes-unique : unique (λ r s. eqb (r .opcode) (s .opcode)) table ≡ true
 unfolding unique each table row
 opcodes-unique = refl
@@ -113,6 +117,7 @@ coded-row c r h =
     let (t, e) = found-row (λ q. eqb (q .opcode) c) r h in
     (t, eqb-true (r .opcode) c e)
 
+-- Lower-case letters are left as they are.
 lower-same : (s : List ℕ) → every lowerCase s ≡ true → map lower s ≡ s
 unfolding lower between lowerCase
 lower-same [] h = refl
@@ -120,23 +125,38 @@ lower-same (b ∷ s) h =
     let r = between-true 97 122 b (every-head lowerCase b s h) in
     rw (lower, le-leb 65 b (omega arith), lt-leb b 90 (omega arith), lower-same s (every-tail lowerCase b s h))
 
+-- Rows of the table with the same mnemonic are the same.
+pub same-row : (r s : Row) → InTable r → InTable s → r .mnemonic ≡ s .mnemonic → r ≡ s
+same-row r s h k e = let n = ap rowNamed e in cc
+
 -- What holds of a row of the table.
 pub record RowFacts (r : Row) : Type 0 where
+  -- its mnemonic is an Identifier
   pub identifier : isIdentifier (r .mnemonic) ≡ true
+  -- of lower-case letters
   pub letters : every lowerCase (r .mnemonic) ≡ true
+  -- that names it, lowered
   pub again : rowNamed (map lower (r .mnemonic)) ≡ some r
+  -- its opcode names it
   pub coded : rowCoded (r .opcode) ≡ some r
+  -- and has seven bits
   pub small : r .opcode < 128
-  pub stands : apart (places (r .form)) ≡ true
-  pub width : hasNumber (places (r .form)) ≡ true → numberWidth (places (r .form)) ≡ statedWidth (r .mnemonic)
+  -- its places stand apart
+  pub stands : apart (placesOf r) ≡ true
+  -- its number has at most 21 bits
+  pub narrow : numberWidth (placesOf r) ≤ 21
+  -- just as many as are stated for its mnemonic
+  pub width : hasNumber (placesOf r) ≡ true → numberWidth (placesOf r) ≡ statedWidth (r .mnemonic)
 
+-- All of this holds of each row of the table.
 pub row-facts : (r : Row) → InTable r → RowFacts r
 unfolding rule rowNamed rowCoded
 row-facts r h =
     let (i, k) = and-eq-true-iff (isIdentifier (r .mnemonic)) _ .0 (carried rule table-ruled r h) in
     let (l, k) = and-eq-true-iff (every lowerCase (r .mnemonic)) _ .0 k in
     let (o, k) = and-eq-true-iff (ltb (r .opcode) 128) _ .0 k in
-    let (a, w) = and-eq-true-iff (apart (places (r .form))) _ .0 k in
+    let (a, k) = and-eq-true-iff (apart (placesOf r)) _ .0 k in
+    let (n, w) = and-eq-true-iff (leb (numberWidth (placesOf r)) 21) _ .0 k in
     record {
       identifier = i;
       letters = l;
@@ -144,5 +164,6 @@ row-facts r h =
       coded = found-again (λ q s. eqb (q .opcode) (s .opcode)) (λ q. eq-eqb (q .opcode) (q .opcode) refl) _ table r opcodes-unique h;
       small = ltb-true (r .opcode) 128 o;
       stands = a;
-      width = λ n. or-elim (not (hasNumber (places (r .form)))) _ w (λ e. no-both n (not-true (hasNumber (places (r .form))) e)) (λ e. eqb-true _ _ e);
+      narrow = leb-true _ 21 n;
+      width = λ t. or-elim (not (hasNumber (placesOf r))) _ w (λ e. no-both t (not-true (hasNumber (placesOf r)) e)) (λ e. eqb-true _ _ e);
     }

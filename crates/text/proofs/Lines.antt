@@ -12,14 +12,12 @@ use Rattle.text.specs.Numbers.{decimal}
 use Rattle.text.specs.Names.{Name}
 use Rattle.text.specs.Tokens.{Token, tokens}
 use Rattle.text.specs.Lines.{extended, lines, keptByte, trimEnd, trim, cut, content, lineOf, recordOf, readLine}
+use Rattle.text.specs.Places.{inside}
 use Rattle.text.proofs.Tests.{both, between-true, true-between}
 use Rattle.text.proofs.Strings.{every-head, every-tail, every-mono, before-all}
 use Rattle.text.proofs.Numbers.{Digits, decimal-digits}
 
--- A byte that ends no line, and one that begins no comment.
-unfoldable pub inside : ℕ → Bool
-inside b = not (eqb b 10)
-
+-- A byte that begins no comment.
 unfoldable pub uncommented : ℕ → Bool
 uncommented b = not (eqb b 35)
 

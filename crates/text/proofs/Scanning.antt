@@ -81,7 +81,7 @@ digit-not-start b h =
 -- ---- the longest match, by its length
 
 -- Beginnings in no class are passed over.
-longest-down : (names : List Name) (s : List ℕ) (n k : ℕ) → ((i : ℕ) → i < k → classOf names (take (suc (n + i)) s) ≡ none)
+pub longest-down : (names : List Name) (s : List ℕ) (n k : ℕ) → ((i : ℕ) → i < k → classOf names (take (suc (n + i)) s) ≡ none)
     → longest names s (n + k) ≡ longest names s n
 unfolding longest
 longest-down names s n zero h = rw add-zero
@@ -153,16 +153,19 @@ zero-digit = refl
 -- ---- the class of a string, by the tests
 
 module _ (names : List Name) (ok : each (λ n. isIdentifier (n .spelling)) names ≡ true) where
-  -- what is no Identifier is no Register
-  no-register : (s : List ℕ) → isIdentifier s ≡ false → isRegister names s ≡ false
+  -- a Register is spelled like an Identifier
+  pub register-identifier : (s : List ℕ) → isRegister names s ≡ true → isIdentifier s ≡ true
   unfolding isRegister named isSome
-  no-register s h = go (find (λ n. same (n .spelling) s) names) refl
+  register-identifier s h = go (find (λ n. same (n .spelling) s) names) refl h
     where
-      go : (o : Option Name) → find (λ n. same (n .spelling) s) names ≡ o → isSome o ≡ false
-      go none e = refl
-      go (some n) e =
+      go : (o : Option Name) → find (λ n. same (n .spelling) s) names ≡ o → isSome o ≡ true → isIdentifier s ≡ true
+      go none e g = absurd (true≢false (sym g))
+      go (some n) e g =
           let (p, q) = found (λ m. same (m .spelling) s) (λ m. isIdentifier (m .spelling)) names n e ok in
-          no-both (rw (same-eq (n .spelling) s p) at q) h
+          rw (same-eq (n .spelling) s p) at q
+
+  no-register : (s : List ℕ) → isIdentifier s ≡ false → isRegister names s ≡ false
+  no-register s h = not-true (isRegister names s) (λ e. no-both (register-identifier s e) h)
 
   number-class : (s : List ℕ) → isIdentifier s ≡ false → isNumber s ≡ true → classOf names s ≡ some Number
   unfolding classOf classes find isIn

@@ -10,14 +10,14 @@ use lib.Seq.{take-append-seam, drop-append-seam}
 use lib.Dec.{leb, ltb, eqb}
 use lib.IntN.{ℤ, pos, negsuc}
 use borrow.Author.Tests.{eqb-true, ne-eqb, le-leb, lt-ltb}
-use Rattle.text.specs.Bytes.{letter, digit, between, blank, mark, nameStart, namePart, every, same, before, find, isSome, each}
+use Rattle.text.specs.Bytes.{letter, digit, between, blank, mark, nameStart, namePart, every, before, isSome, each}
 use Rattle.text.specs.Numbers.{valueOf, minus, decimal, signedDecimal}
 use Rattle.text.specs.Names.{Name, named}
 use Rattle.text.specs.Tokens.{isIdentifier, isRegister, Class, Register, Identifier, Number, Directive, Mark, Match, longest, Token, identifier, register, number, directive, comma, colon, opening, closing, within, numberToken, registerToken, markToken, tokenOf, Sized, sized, matched, front, infront, tokensPast, tokens}
 use Rattle.text.proofs.Tests.{by-test, both, or-left, or-right, between-true, no-both, not-true}
-use Rattle.text.proofs.Strings.{every-head, every-tail, run, ends, ends-head, before-append, run-append, same-eq, found}
+use Rattle.text.proofs.Strings.{every-head, every-tail, run, ends, ends-head, before-append, run-append}
 use Rattle.text.proofs.Numbers.{Digits, decimal-digits, decimal-value}
-use Rattle.text.proofs.Scanning.{matching, wordClass, digitScan, dotScan, atLeastOne, scan, longest-scan, start-from, digit-from, digit-not-start}
+use Rattle.text.proofs.Scanning.{matching, wordClass, digitScan, dotScan, atLeastOne, scan, longest-scan, register-identifier, start-from, digit-from, digit-not-start}
 
 -- ---- from the front on
 
@@ -146,28 +146,26 @@ module _ (names : List Name) (ok : each (λ n. isIdentifier (n .spelling)) names
       reads-scanned b u rest Identifier (identifier (b ∷ u)) (start-solid b hb)
       (word-scanned b u rest hb hu he ∙ ap (λ (v : Bool). some (matching (suc (length u)) (wordClass v))) hr) refl
 
-  register-is : (s : List ℕ) (r : Option ℕ) → tokenOf names Register s ≡ some (register r) → (isRegister names s ≡ true) × (isIdentifier s ≡ true)
-  unfolding tokenOf registerToken isRegister isSome named
-  register-is s r h = go (find (λ n. same (n .spelling) s) names) refl h
+  register-is : (s : List ℕ) (r : Option ℕ) → tokenOf names Register s ≡ some (register r) → isRegister names s ≡ true
+  unfolding tokenOf registerToken isRegister isSome
+  register-is s r h = go (named names s) h
     where
-      go : (o : Option Name) → find (λ n. same (n .spelling) s) names ≡ o → registerToken o ≡ some (register r) → (isSome o ≡ true) × (isIdentifier s ≡ true)
-      go none e g = let z : _≡_ {A = ℕ} 0 1 = cc in absurd (omega arith)
-      go (some n) e g =
-          let (p, q) = found (λ m. same (m .spelling) s) (λ m. isIdentifier (m .spelling)) names n e ok in
-          (refl, rw (same-eq (n .spelling) s p) at q)
+      go : (o : Option Name) → registerToken o ≡ some (register r) → isSome o ≡ true
+      go none g = let z : _≡_ {A = ℕ} 0 1 = cc in absurd (omega arith)
+      go (some n) g = refl
 
   pub reads-register : (s rest : List ℕ) (r : Option ℕ) → tokenOf names Register s ≡ some (register r) → ends namePart rest ≡ true
       → tokens names (s ++ rest) ≡ infront (register r) (tokens names rest)
   unfolding isIdentifier wordClass
-  reads-register s rest r h he = go s (register-is s r h) h
+  reads-register s rest r h he = go s (register-is s r h) (register-identifier names ok s (register-is s r h)) h
     where
-      go : (s : List ℕ) → (isRegister names s ≡ true) × (isIdentifier s ≡ true) → tokenOf names Register s ≡ some (register r)
+      go : (s : List ℕ) → isRegister names s ≡ true → isIdentifier s ≡ true → tokenOf names Register s ≡ some (register r)
           → tokens names (s ++ rest) ≡ infront (register r) (tokens names rest)
-      go [] k h = absurd (true≢false (sym (k .1)))
-      go (b ∷ u) k h =
-          let (hb, hu) = both (nameStart b) (every namePart u) (k .1) in
+      go [] k i h = absurd (true≢false (sym i))
+      go (b ∷ u) k i h =
+          let (hb, hu) = both (nameStart b) (every namePart u) i in
           reads-scanned b u rest Register (register r) (start-solid b hb)
-          (word-scanned b u rest hb hu he ∙ ap (λ (v : Bool). some (matching (suc (length u)) (wordClass v))) (k .0)) h
+          (word-scanned b u rest hb hu he ∙ ap (λ (v : Bool). some (matching (suc (length u)) (wordClass v))) k) h
 
   pub reads-directive : (s rest : List ℕ) → isIdentifier s ≡ true → ends namePart rest ≡ true
       → tokens names (46 ∷ (s ++ rest)) ≡ infront (directive s) (tokens names rest)

@@ -4,3 +4,4 @@ pub mod Names
 pub mod Tokens
 pub mod Lines
 pub mod NameSets
+pub mod Places
