@@ -1,2 +1,4 @@
 pub mod Computing
 pub mod Examples
+pub mod NameSets
+pub mod Demand3

@@ -5,3 +5,4 @@ pub mod Listing
 pub mod Walking
 pub mod Config
 pub mod Round
+pub mod Fitting

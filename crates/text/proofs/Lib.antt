@@ -4,4 +4,3 @@ pub mod Numbers
 pub mod Scanning
 pub mod Tokens
 pub mod Lines
-pub mod Left

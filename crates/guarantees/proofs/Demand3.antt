@@ -1,0 +1,201 @@
+-- Demand 3 holds of the definitions, whichever name sets the sources are read by.
+use mathlib.Core.Path.{_≡_, refl, sym, ap, ap₂, _∙_}
+use Prim.Native.Nat.{ℕ, _+_, _*_, _≤_}
+use native.Mathlib.Omega.{arith}
+use mathlib.Core.Logic.{_↔_}
+use mathlib.Core.Bool.{Bool, true, false, not, true≢false}
+use mathlib.Core.Option.{Option, none, some}
+use mathlib.Core.List.{List, [], _∷_, map}
+use lib.ListN.{length, length-map}
+use lib.Dec.{leb, ltb}
+use lib.IntN.{ℤ}
+use borrow.Author.Tests.{leb-true, le-leb, not-true}
+use Rattle.text.specs.Bytes.{bytes, letter, digit, between, nameStart, namePart, every, each}
+use Rattle.text.specs.Names.{Name}
+use Rattle.text.specs.Tokens.{isIdentifier, isRegister}
+use Rattle.text.proofs.Tests.{both}
+use Rattle.text.proofs.Lines.{visible}
+use Rattle.instruction.specs.Operands.{Instruction}
+use Rattle.instruction.specs.Words.{wordOf}
+use Rattle.instruction.proofs.Rows.{statedWidth}
+use Rattle.instruction.proofs.Fit.{Fits}
+use Rattle.instruction.proofs.Decoding.{residues, word-iff}
+use Rattle.image.specs.Settings.{Settings, settingsFault, limb-bits-key, data-limbs-key, addr-limbs-key}
+use Rattle.image.specs.Program.{image, imageLength, header-size, headerOf, codeOf}
+use Rattle.image.specs.Assembling.{State, Assembled, accepted, rejected, reading, fitted, assembling}
+use Rattle.image.specs.Listing.{wordsOf, textOf, Listing, written, rejected as unlisted, Refusal, refusal, listingFault, listing}
+use Rattle.image.specs.Meaning.{instructionsOf, settingsOf, imageOf, isAccepted, Accepted, isWritten, Listed}
+use Rattle.image.proofs.Settings.{good}
+use Rattle.image.proofs.Program.{byte, Words, image-length}
+use Rattle.image.proofs.Listing.{AllDecoded, words-of-image, settings-of-image, image-listed, Usual, listed-usual}
+use Rattle.image.proofs.Walking.{Means, MeansIf, reading-means, Assembles, accepted-assembles}
+use Rattle.image.proofs.Config.{Key, settings-pass}
+use Rattle.image.proofs.Round.{Keys, AllRead, instructionsIn, text-reading}
+use Rattle.image.proofs.Fitting.{AllFit, source-fits, fit-words, fit-decoded, words-read, words-again}
+use Rattle.guarantees.specs.NameSets.{keys, NameSet}
+use Rattle.guarantees.specs.Promises.{bitsFor, modulo, Same, Agree, AreBytes, Demand3}
+use Rattle.guarantees.specs.Promises.{Assembles as Source}
+
+-- ---- instructions agree exactly if their words are equal
+
+modulo-is : (k : ℕ) (n : Option ℤ) → modulo k n ≡ residues k n
+unfolding residues modulo
+modulo-is k none = refl
+modulo-is k (some z) = refl
+
+bits-are : (m : List ℕ) → bitsFor m ≡ statedWidth m
+unfolding bitsFor statedWidth
+bits-are m = refl
+
+number-is : (m : List ℕ) (n : Option ℤ) → modulo (bitsFor m) n ≡ residues (statedWidth m) n
+number-is m n = ap (λ (k : ℕ). modulo k n) (bits-are m) ∙ modulo-is (statedWidth m) n
+
+same-words : (i j : Instruction) → Fits i → Fits j → Same i j → wordOf i ≡ wordOf j
+same-words i j f g s =
+    word-iff i j f g .1 (s .mnemonic, s .registers, sym (number-is (i .row .mnemonic) (i .number)) ∙ s .number ∙ number-is (i .row .mnemonic) (j .number))
+
+words-same : (i j : Instruction) → Fits i → Fits j → wordOf i ≡ wordOf j → Same i j
+words-same i j f g e =
+    let (m, r, n) = word-iff i j f g .0 e in
+    record { mnemonic = m; registers = r; number = number-is (i .row .mnemonic) (i .number) ∙ n ∙ sym (number-is (i .row .mnemonic) (j .number)) }
+
+agree-words : (is js : List Instruction) → AllFit is → AllFit js → Agree is js → map wordOf is ≡ map wordOf js
+agree-words [] [] f g a = refl
+agree-words [] (j ∷ js) f g a = absurd a
+agree-words (i ∷ is) [] f g a = absurd a
+agree-words (i ∷ is) (j ∷ js) f g a = rw (same-words i j (f .0) (g .0) (a .0), agree-words is js (f .1) (g .1) (a .1))
+
+words-agree : (is js : List Instruction) → AllFit is → AllFit js → map wordOf is ≡ map wordOf js → Agree is js
+words-agree [] [] f g e = tt
+words-agree [] (j ∷ js) f g e = let z : _≡_ {A = ℕ} 0 1 = cc in omega arith
+words-agree (i ∷ is) [] f g e = let z : _≡_ {A = ℕ} 0 1 = cc in omega arith
+words-agree (i ∷ is) (j ∷ js) f g e =
+    let head : wordOf i ≡ wordOf j = cc in
+    let tail : map wordOf is ≡ map wordOf js = cc in
+    (words-same i j (f .0) (g .0) head, words-agree is js (f .1) (g .1) tail)
+
+-- ---- an accepted source
+
+-- What is known of its image.
+record Imaged (N : NameSet) (s : List ℕ) (size : ℕ) : Type 0 where
+  few : length (map wordOf (instructionsOf (N .names) s)) ≤ 32768
+  fits : AllFit (instructionsOf (N .names) s)
+  room : imageLength (length (map wordOf (instructionsOf (N .names) s))) ≤ size
+
+imaged : (N : NameSet) (s : List ℕ) (t size : ℕ) → Accepted (N .names) s t size → Imaged N s size
+imaged N s t size h =
+    let a = accepted-assembles (N .names) s t size h in
+    let e : length (map wordOf (instructionsOf (N .names) s)) ≡ length (a .state .instructions)
+    = length-map (instructionsOf (N .names) s) wordOf ∙ ap length (sym (a .means .instructions)) in
+    record { few = rw e (a .means .few); fits = source-fits (N .names) (N .naming) s; room = rw e (a .fits) }
+
+-- an image tells its settings and its words
+image-tells : (N N′ : NameSet) (s s′ : List ℕ) (i i′ : ℕ) → Imaged N s i → Imaged N′ s′ i′ → imageOf (N .names) s ≡ imageOf (N′ .names) s′
+    → (settingsOf (N .names) s ≡ settingsOf (N′ .names) s′) × Agree (instructionsOf (N .names) s) (instructionsOf (N′ .names) s′)
+unfolding imageOf
+image-tells N N′ s s′ i i′ a b e =
+    let c = settingsOf (N .names) s in
+    let c′ = settingsOf (N′ .names) s′ in
+    let is = instructionsOf (N .names) s in
+    let is′ = instructionsOf (N′ .names) s′ in
+    let ws = map wordOf is in
+    let ws′ = map wordOf is′ in
+    let g = settings-pass (N .names) s in
+    let g′ = settings-pass (N′ .names) s′ in (
+      sym (settings-of-image c ws g (a .few)) ∙ ap (λ (x : List ℕ). headerOf x .setup) e ∙ settings-of-image c′ ws′ g′ (b .few),
+      words-agree is is′ (a .fits) (b .fits) (sym (words-of-image c ws g (a .few) (fit-words is (a .fits))) ∙ ap (λ (x : List ℕ). wordsOf (codeOf x)) e ∙ words-of-image c′ ws′ g′ (b .few) (fit-words is′ (b .fits))),
+    )
+
+-- ---- what is listed
+
+-- The listing accepts an image that has a text and whose text has room.
+listed-none : (b : List ℕ) (n : ℕ) → Listed b n → (listingFault b ≡ none) × (length (textOf b) ≤ n)
+unfolding listing isWritten
+listed-none b n h = go (listingFault b) refl h
+  where
+    room : (v : Bool) → leb (length (textOf b)) n ≡ v
+        → isWritten (elim v [ true ↦ written (textOf b) | false ↦ unlisted (refusal 32 none (some (length (textOf b)))) ]) ≡ true → length (textOf b) ≤ n
+    room true e g = leb-true (length (textOf b)) n e
+    room false e g = absurd (true≢false (sym g))
+
+    go : (o : Option Refusal) → listingFault b ≡ o
+        → isWritten (elim o [
+          | some r ↦ unlisted r
+          | none ↦ elim (leb (length (textOf b)) n) [ true ↦ written (textOf b) | false ↦ unlisted (refusal 32 none (some (length (textOf b)))) ]
+        ]) ≡ true → (listingFault b ≡ none) × (length (textOf b) ≤ n)
+    go (some r) e g = absurd (true≢false (sym g))
+    go none e g = (e, room (leb (length (textOf b)) n) refl g)
+
+none-written : (b : List ℕ) (n : ℕ) → listingFault b ≡ none → length (textOf b) ≤ n → listing b n ≡ written (textOf b)
+unfolding listing
+none-written b n h l = rw (listing, h, le-leb (length (textOf b)) n l)
+
+none-listed : (b : List ℕ) (n : ℕ) → listingFault b ≡ none → length (textOf b) ≤ n → Listed b n
+unfolding isWritten
+none-listed b n h l = ap isWritten (none-written b n h l)
+
+-- ---- the text of what is listed, as a source
+
+key-of : (N : NameSet) (key : List ℕ) → isIdentifier key ≡ true → not (isRegister (N .names) key) ≡ true → every visible key ≡ true → length key ≤ 10 → Key (N .names) key
+key-of N key i r v l = record { is-identifier = i; no-register = not-true (isRegister (N .names) key) r; is-visible = v; is-short = l }
+
+keys-of : (N : NameSet) → Keys (N .names)
+unfolding keys each limb-bits-key data-limbs-key addr-limbs-key bytes isIdentifier nameStart namePart letter digit between every visible
+keys-of N =
+    let (a, x) = both (not (isRegister (N .names) limb-bits-key)) _ (N .keys-free) in
+    let (b, y) = both (not (isRegister (N .names) data-limbs-key)) _ x in
+    let (c, z) = both (not (isRegister (N .names) addr-limbs-key)) _ y in
+    record {
+      limb-bits = key-of N limb-bits-key refl a refl (omega arith);
+      data-limbs = key-of N data-limbs-key refl b refl (omega arith);
+      addr-limbs = key-of N addr-limbs-key refl c refl (omega arith);
+    }
+
+instructions-length : (names : List Name) (ws : List ℕ) (r : AllRead names ws) → length (instructionsIn names ws r) ≡ length ws
+instructions-length names ws r = sym (length-map (instructionsIn names ws r) wordOf) ∙ ap length (words-again names ws r)
+
+fitted-yes : (st : State) (size : ℕ) → imageLength (length (st .instructions)) ≤ size → isAccepted (fitted size (accepted st)) ≡ true
+unfolding fitted isAccepted
+fitted-yes st size h = rw (fitted, le-leb (imageLength (length (st .instructions))) size h)
+
+text-back : (N : NameSet) (b : List ℕ) (t size : ℕ) → AreBytes b → listingFault b ≡ none → length b ≤ size
+    → Accepted (N .names) (textOf b) t size × (imageOf (N .names) (textOf b) ≡ b)
+unfolding textOf assembling imageOf byte
+text-back N b t size h e l =
+    let u = listed-usual b e in
+    let c = headerOf b .setup in
+    let ws = wordsOf (codeOf b) in
+    let r = words-read (N .names) (N .naming) (N .mnemonics-free) ws (u .words) in
+    let is = instructionsIn (N .names) ws r in
+    let d = text-reading (N .names) (N .naming .identifiers) (keys-of N) c (good c (u .settings-good)) t ws r (u .few) in
+    let m = rw d at (reading-means (N .names) (textOf b) t) in
+    let n : imageLength (length is) ≡ length b = ap imageLength (instructions-length (N .names) ws r) ∙ sym (image-length c ws) ∙ ap length (u .is-image h) in (
+      ap (λ (a : Assembled). isAccepted (fitted size a)) d ∙ fitted-yes _ size (omega arith),
+      ap₂ (λ (x : Settings) (y : List Instruction). image x (map wordOf y) []) (sym (m .setup)) (sym (m .instructions))
+      ∙ ap (λ (x : List ℕ). image c x []) (words-again (N .names) ws r) ∙ u .is-image h,
+    )
+
+-- ---- the promises
+
+pub demand-3 : Demand3
+unfolding imageOf
+demand-3 =
+    record {
+      images-tell = λ N N′ s s′ t t′ i i′ h h′.
+          let a = imaged N s t i h in
+          let b = imaged N′ s′ t′ i′ h′ in (
+            image-tells N N′ s s′ i i′ a b,
+            (λ e. ap₂ (λ (x : Settings) (y : List ℕ). image x y []) (e .0) (agree-words (instructionsOf (N .names) s) (instructionsOf (N′ .names) s′) (a .fits) (b .fits) (e .1))),
+          );
+      lists-exactly = λ N b n h. (
+        (λ l. let (e, k) = listed-none b n l in
+        let (x, y) = text-back N b 0 (length b) h e (omega arith) in
+        (record { source = textOf b; table = 0; size = length b; is-accepted = x; same-image = y }, k)),
+        (λ l. let s = l .0 in
+        let a = imaged N (s .source) (s .table) (s .size) (s .is-accepted) in
+        let is = instructionsOf (N .names) (s .source) in
+        none-listed b n (rw (← s .same-image) (image-listed (settingsOf (N .names) (s .source)) (map wordOf is) (settings-pass (N .names) (s .source)) (a .few) (fit-words is (a .fits)) (fit-decoded is (a .fits)))) (l .1)),
+      );
+      writes-text = λ b n l. let (e, k) = listed-none b n l in none-written b n e k;
+      text-assembles = λ N b n t i h l k. text-back N b t i h (listed-none b n l .0) k;
+    }

@@ -1,0 +1,127 @@
+-- The instructions of a source fit their forms, so their words decode again; and the text of a word that decodes reads as its
+-- instruction.
+use mathlib.Core.Path.{_≡_, refl, sym, ap, _∙_}
+use Prim.Native.Nat.{ℕ}
+use native.Mathlib.Omega.{arith}
+use mathlib.Core.Bool.{Bool, true, false, not, true≢false}
+use mathlib.Core.Option.{Option, none, some}
+use mathlib.Core.List.{List, [], _∷_, _++_, map, flatMap}
+use lib.Dec.{eqb}
+use borrow.Author.Tests.{not-true}
+use Rattle.text.specs.Bytes.{Result, value, refused, each}
+use Rattle.text.specs.Names.{Name}
+use Rattle.text.specs.Tokens.{Token, identifier, isRegister}
+use Rattle.text.specs.Lines.{Line, lines, lineOf, readLine}
+use Rattle.text.specs.NameSets.{Naming}
+use Rattle.text.proofs.Tests.{both}
+use Rattle.instruction.specs.Table.{Row, table}
+use Rattle.instruction.specs.Operands.{Instruction, readInstruction, behind, markByte}
+use Rattle.instruction.specs.Words.{wordOf, instructionOf}
+use Rattle.instruction.specs.Text.{instructionText}
+use Rattle.instruction.proofs.Fit.{Fits, InTable}
+use Rattle.instruction.proofs.Rows.{carried}
+use Rattle.instruction.proofs.Decoding.{reducedTo, decode-encode, word-bound, decoded-fits, decoded-reduced, encode-decode}
+use Rattle.instruction.proofs.Reading.{numberedToken, read-fits, line-numbered, behind-numbered}
+use Rattle.instruction.proofs.Text.{operandTokens, noColon, no-colon, tokens-kept, tokens-read, text-visible, text-length, text-line}
+use Rattle.image.specs.Assembling.{Kind, empty, labelled, config, ignored, plain, identifierKind, kindOf}
+use Rattle.image.specs.Meaning.{oneOf, instructionOn, instructionsOf}
+use Rattle.image.proofs.Program.{Words}
+use Rattle.image.proofs.Listing.{Decoded, AllDecoded}
+use Rattle.image.proofs.Round.{Reads, AllRead, instructionsIn}
+
+-- ---- the instructions of a source
+
+abbrev pub AllFit : List Instruction → Type 0
+AllFit [] = Unit {0}
+AllFit (i ∷ is) = Fits i × AllFit is
+
+fit-append : (is js : List Instruction) → AllFit is → AllFit js → AllFit (is ++ js)
+fit-append [] js a b = b
+fit-append (i ∷ is) js a b = (a .0, fit-append is js (a .1) b)
+
+fit-read : (l : Line) → each numberedToken (l .first) ≡ true → AllFit (oneOf (readInstruction l))
+unfolding oneOf
+fit-read l h = go (readInstruction l) refl
+  where
+    go : (r : Result Instruction) → readInstruction l ≡ r → AllFit (oneOf r)
+    go (value i) e = (read-fits l i h e, tt)
+    go (refused n) e = tt
+
+fit-line : (l : Line) → each numberedToken (l .first) ≡ true → AllFit (instructionOn (some l))
+unfolding instructionOn
+fit-line l h = go (kindOf (l .first))
+  where
+    go : (k : Kind) → AllFit (elim k [
+      | labelled s ↦ oneOf (readInstruction (behind 2 l))
+      | plain ↦ oneOf (readInstruction l)
+      | empty ↦ []
+      | config ↦ []
+      | ignored ↦ []
+    ])
+    go (labelled s) = fit-read (behind 2 l) (behind-numbered 2 l h)
+    go plain = fit-read l h
+    go empty = tt
+    go config = tt
+    go ignored = tt
+
+fit-on : (names : List Name) → Naming names → (l : List ℕ) → AllFit (instructionOn (readLine names l))
+unfolding instructionOn
+fit-on names N l = go (readLine names l) refl
+  where
+    go : (o : Option Line) → readLine names l ≡ o → AllFit (instructionOn o)
+    go none e = tt
+    go (some x) e = fit-line x (line-numbered names N l x e)
+
+fit-lines : (names : List Name) → Naming names → (ls : List (List ℕ)) → AllFit (flatMap (λ l. instructionOn (readLine names l)) ls)
+unfolding flatMap
+fit-lines names N [] = tt
+fit-lines names N (l ∷ ls) = fit-append (instructionOn (readLine names l)) _ (fit-on names N l) (fit-lines names N ls)
+
+pub source-fits : (names : List Name) → Naming names → (source : List ℕ) → AllFit (instructionsOf names source)
+unfolding instructionsOf
+source-fits names N source = fit-lines names N (lines source)
+
+-- ---- their words
+
+pub fit-words : (is : List Instruction) → AllFit is → Words (map wordOf is)
+fit-words [] f = tt
+fit-words (i ∷ is) f = (word-bound i (f .0), fit-words is (f .1))
+
+pub fit-decoded : (is : List Instruction) → AllFit is → AllDecoded (map wordOf is)
+fit-decoded [] f = tt
+fit-decoded (i ∷ is) f = ((reducedTo i, decode-encode i (f .0)), fit-decoded is (f .1))
+
+-- ---- the text of a word
+
+plain-first : (m : List ℕ) (ts : List Token) → each noColon ts ≡ true → kindOf (identifier m ∷ ts) ≡ plain
+unfolding kindOf identifierKind each noColon
+plain-first m [] h = refl
+plain-first m (t ∷ ts) h = let (ht, hs) = both (not (eqb (markByte t) 58)) (each noColon ts) h in rw (identifierKind, not-true (eqb (markByte t) 58) ht)
+
+module _ (names : List Name) (N : Naming names) (free : each (λ r. not (isRegister names (r .mnemonic))) table ≡ true) where
+  word-reads : (w : ℕ) → Decoded w → Reads names w
+  word-reads w d =
+      let i = d .0 in
+      let f = decoded-fits w i (d .1) in
+      let r = decoded-reduced w i (d .1) in
+      let n = not-true (isRegister names (i .row .mnemonic)) (carried (λ r. not (isRegister names (r .mnemonic))) free (i .row) (f .in-table)) in
+      record {
+        instruction = i;
+        decoded = d .1;
+        is-visible = text-visible i f;
+        is-short = text-length i f r;
+        line = lineOf (identifier (i .row .mnemonic) ∷ operandTokens i);
+        is-line = text-line i f r names N n;
+        is-plain = ap kindOf (tokens-kept i f) ∙ plain-first (i .row .mnemonic) (operandTokens i) (no-colon i);
+        is-read = tokens-read i f;
+      }
+
+  pub words-read : (ws : List ℕ) → AllDecoded ws → AllRead names ws
+  words-read [] a = tt
+  words-read (w ∷ ws) a = (word-reads w (a .0), words-read ws (a .1))
+
+-- the instructions of words have those words
+pub words-again : (names : List Name) (ws : List ℕ) (r : AllRead names ws) → map wordOf (instructionsIn names ws r) ≡ ws
+unfolding instructionsIn
+words-again names [] r = refl
+words-again names (w ∷ ws) r = rw (encode-decode w (r .0 .instruction) (r .0 .decoded), words-again names ws (r .1))
