@@ -3,23 +3,24 @@ use mathlib.Core.Path.{_≡_, refl, sym, ap, ap₂, _∙_}
 use Prim.Native.Nat.{ℕ, _+_, _*_, _≤_}
 use native.Mathlib.Omega.{arith}
 use mathlib.Core.Logic.{_↔_}
-use mathlib.Core.Bool.{Bool, true, false, not, true≢false}
+use mathlib.Core.Bool.{Bool, true, false, not, _||_, true≢false}
 use mathlib.Core.Option.{Option, none, some}
 use mathlib.Core.List.{List, [], _∷_, map}
 use lib.ListN.{length, length-map}
-use lib.Dec.{leb, ltb}
+use lib.Dec.{leb, ltb, eqb}
 use lib.IntN.{ℤ}
-use borrow.Author.Tests.{leb-true, le-leb, not-true}
-use Rattle.text.specs.Bytes.{bytes, letter, digit, between, nameStart, namePart, every, each}
+use borrow.Author.Tests.{leb-true, le-leb, eqb-true, not-true}
+use Rattle.text.specs.Bytes.{bytes, letter, digit, between, nameStart, namePart, every, same, isSome, each}
 use Rattle.text.specs.Names.{Name}
 use Rattle.text.specs.Tokens.{isIdentifier, isRegister}
-use Rattle.text.proofs.Tests.{both}
+use Rattle.text.proofs.Tests.{both, or-elim, no-both}
 use Rattle.text.proofs.Lines.{visible}
 use Rattle.instruction.specs.Operands.{Instruction}
-use Rattle.instruction.specs.Words.{wordOf}
-use Rattle.instruction.proofs.Rows.{statedWidth}
-use Rattle.instruction.proofs.Fit.{Fits}
-use Rattle.instruction.proofs.Decoding.{residues, word-iff}
+use Rattle.instruction.specs.Table.{places, Row, row, table}
+use Rattle.instruction.specs.Words.{modulo, wordOf}
+use Rattle.instruction.proofs.Fit.{InTable, placesOf, numberField, hasNumber, widthOf, numberWidth, Fits}
+use Rattle.instruction.proofs.Rows.{carried, same-row}
+use Rattle.instruction.proofs.Decoding.{word-tells, same-word}
 use Rattle.image.specs.Settings.{Settings, settingsFault, limb-bits-key, data-limbs-key, addr-limbs-key}
 use Rattle.image.specs.Program.{image, imageLength, header-size, headerOf, codeOf}
 use Rattle.image.specs.Assembling.{State, Assembled, accepted, rejected, reading, fitted, assembling}
@@ -33,31 +34,37 @@ use Rattle.image.proofs.Config.{Key, settings-pass}
 use Rattle.image.proofs.Round.{Keys, AllRead, instructionsIn, text-reading}
 use Rattle.image.proofs.Fitting.{AllFit, source-fits, fit-words, fit-decoded, words-read, words-again}
 use Rattle.guarantees.specs.NameSets.{keys, NameSet}
-use Rattle.guarantees.specs.Promises.{bitsFor, modulo, Same, Agree, AreBytes, Demand3}
+use Rattle.guarantees.specs.Promises.{bitsFor, Same, Agree, AreBytes, Demand3}
 use Rattle.guarantees.specs.Promises.{Assembles as Source}
 
 -- ---- instructions agree exactly if their words are equal
 
-modulo-is : (k : ℕ) (n : Option ℤ) → modulo k n ≡ residues k n
-unfolding residues modulo
-modulo-is k none = refl
-modulo-is k (some z) = refl
+-- The width of a row's number is the one that the promise states.
+stated : Row → Bool
+stated r = not (hasNumber (placesOf r)) || eqb (numberWidth (placesOf r)) (bitsFor (r .mnemonic))
 
-bits-are : (m : List ℕ) → bitsFor m ≡ statedWidth m
-unfolding bitsFor statedWidth
-bits-are m = refl
+table-stated : each stated table ≡ true
+unfolding stated bitsFor each table row bytes places numberField hasNumber isSome widthOf numberWidth same
+table-stated = refl
 
-number-is : (m : List ℕ) (n : Option ℤ) → modulo (bitsFor m) n ≡ residues (statedWidth m) n
-number-is m n = ap (λ (k : ℕ). modulo k n) (bits-are m) ∙ modulo-is (statedWidth m) n
+stated-modulo : (r : Row) → InTable r → (n : Option ℤ) → isSome n ≡ hasNumber (placesOf r) → modulo (numberWidth (placesOf r)) n ≡ modulo (bitsFor (r .mnemonic)) n
+unfolding stated modulo isSome
+stated-modulo r h none e = refl
+stated-modulo r h (some z) e =
+    let w = or-elim (not (hasNumber (placesOf r))) _ (carried stated table-stated r h) (λ k. no-both (sym e) (not-true (hasNumber (placesOf r)) k)) (λ k. eqb-true (numberWidth (placesOf r)) (bitsFor (r .mnemonic)) k) in
+    rw w
 
 same-words : (i j : Instruction) → Fits i → Fits j → Same i j → wordOf i ≡ wordOf j
 same-words i j f g s =
-    word-iff i j f g .1 (s .mnemonic, s .registers, sym (number-is (i .row .mnemonic) (i .number)) ∙ s .number ∙ number-is (i .row .mnemonic) (j .number))
+    let r = same-row (i .row) (j .row) (f .in-table) (g .in-table) (s .mnemonic) in
+    let at-i = stated-modulo (i .row) (f .in-table) in
+    same-word i j f g r (s .registers) (at-i (i .number) (f .number) ∙ s .number ∙ sym (at-i (j .number) (rw r (g .number))))
 
 words-same : (i j : Instruction) → Fits i → Fits j → wordOf i ≡ wordOf j → Same i j
 words-same i j f g e =
-    let (m, r, n) = word-iff i j f g .0 e in
-    record { mnemonic = m; registers = r; number = number-is (i .row .mnemonic) (i .number) ∙ n ∙ sym (number-is (i .row .mnemonic) (j .number)) }
+    let (r, s, n) = word-tells i j f g e in
+    let at-i = stated-modulo (i .row) (f .in-table) in
+    record { mnemonic = ap (λ (x : Row). x .mnemonic) r; registers = s; number = sym (at-i (i .number) (f .number)) ∙ n ∙ at-i (j .number) (rw r (g .number)) }
 
 agree-words : (is js : List Instruction) → AllFit is → AllFit js → Agree is js → map wordOf is ≡ map wordOf js
 agree-words [] [] f g a = refl
@@ -172,7 +179,7 @@ text-back N b t size h e l =
     let n : imageLength (length is) ≡ length b = ap imageLength (instructions-length (N .names) ws r) ∙ sym (image-length c ws) ∙ ap length (u .is-image h) in (
       ap (λ (a : Assembled). isAccepted (fitted size a)) d ∙ fitted-yes _ size (omega arith),
       ap₂ (λ (x : Settings) (y : List Instruction). image x (map wordOf y) []) (sym (m .setup)) (sym (m .instructions))
-      ∙ ap (λ (x : List ℕ). image c x []) (words-again (N .names) ws r) ∙ u .is-image h,
+          ∙ ap (λ (x : List ℕ). image c x []) (words-again (N .names) ws r) ∙ u .is-image h,
     )
 
 -- ---- the promises
@@ -189,12 +196,12 @@ demand-3 =
           );
       lists-exactly = λ N b n h. (
         (λ l. let (e, k) = listed-none b n l in
-        let (x, y) = text-back N b 0 (length b) h e (omega arith) in
-        (record { source = textOf b; table = 0; size = length b; is-accepted = x; same-image = y }, k)),
+            let (x, y) = text-back N b 0 (length b) h e (omega arith) in
+            (record { source = textOf b; table = 0; size = length b; is-accepted = x; same-image = y }, k)),
         (λ l. let s = l .0 in
-        let a = imaged N (s .source) (s .table) (s .size) (s .is-accepted) in
-        let is = instructionsOf (N .names) (s .source) in
-        none-listed b n (rw (← s .same-image) (image-listed (settingsOf (N .names) (s .source)) (map wordOf is) (settings-pass (N .names) (s .source)) (a .few) (fit-words is (a .fits)) (fit-decoded is (a .fits)))) (l .1)),
+            let a = imaged N (s .source) (s .table) (s .size) (s .is-accepted) in
+            let is = instructionsOf (N .names) (s .source) in
+            none-listed b n (rw (← s .same-image) (image-listed (settingsOf (N .names) (s .source)) (map wordOf is) (settings-pass (N .names) (s .source)) (a .few) (fit-words is (a .fits)) (fit-decoded is (a .fits)))) (l .1)),
       );
       writes-text = λ b n l. let (e, k) = listed-none b n l in none-written b n e k;
       text-assembles = λ N b n t i h l k. text-back N b t i h (listed-none b n l .0) k;

@@ -9,8 +9,8 @@ use Rattle.text.specs.Bytes.{bytes, same, isSome, each}
 use Rattle.text.specs.Names.{present}
 use Rattle.instruction.specs.Words.{wordOf}
 use Rattle.image.specs.Settings.{Settings}
-use Rattle.image.specs.Assembling.{State, Refusal, Assembled, accepted, rejected, assembling}
-use Rattle.image.specs.Meaning.{imageOf}
+use Rattle.image.specs.Assembling.{Refusal, Assembled, accepted, rejected, assembling}
+use Rattle.image.specs.Meaning.{instructionsOf, settingsOf, imageOf}
 
 -- What an example states: the image's bytes, the words, the settings, or a refusal's number, both lines and label count.
 pub data Expected : Type 0 where
@@ -31,8 +31,8 @@ refusalList r = r .number ∷ r .rust-line ∷ r .true-line ∷ length (r .label
 
 unfoldable pub meets : Expected → List ℕ → Assembled → Bool
 meets (image-is b) source (accepted st) = same b (imageOf present source)
-meets (words-are ws) source (accepted st) = same ws (map wordOf (st .instructions))
-meets (settings-are a b c) source (accepted st) = same (a ∷ b ∷ c ∷ []) (settingsList (st .setup))
+meets (words-are ws) source (accepted st) = same ws (map wordOf (instructionsOf present source))
+meets (settings-are a b c) source (accepted st) = same (a ∷ b ∷ c ∷ []) (settingsList (settingsOf present source))
 meets (refused-with n rust line labels) source (accepted st) = false
 meets (image-is b) source (rejected r) = false
 meets (words-are ws) source (rejected r) = false

@@ -4,15 +4,13 @@ use Prim.Native.Nat.{ℕ, _≤_}
 use mathlib.Core.Path.{_≡_}
 use mathlib.Core.Logic.{_↔_}
 use mathlib.Core.Bool.{Bool, true, false, _||_}
-use mathlib.Core.Option.{Option, none, some}
 use mathlib.Core.List.{List, [], _∷_}
 use lib.ListN.{length}
 use lib.Dec.{ltb}
-use lib.IntN.{ℤ}
 use Rattle.text.specs.Bytes.{bytes, same, every}
-use Rattle.text.specs.Numbers.{residue}
 use Rattle.text.specs.Names.{Name}
 use Rattle.instruction.specs.Operands.{Instruction}
+use Rattle.instruction.specs.Words.{modulo}
 use Rattle.image.specs.Listing.{written, listing, textOf}
 use Rattle.image.specs.Meaning.{instructionsOf, settingsOf, imageOf, Accepted, Listed}
 use Rattle.guarantees.specs.NameSets.{NameSet}
@@ -26,11 +24,6 @@ bitsFor m =
       | true ↦ 21
       | false ↦ elim (same m (bytes "slli") || (same m (bytes "srli") || same m (bytes "srai"))) [ true ↦ 8 | false ↦ 17 ]
     ]
-
--- A number, if there is one, modulo 2^k.
-unfoldable pub modulo : ℕ → Option ℤ → Option ℕ
-modulo k none = none
-modulo k (some z) = some (residue k z)
 
 -- Two instructions agree "by mnemonic, register numbers and number".
 pub record Same (i j : Instruction) : Type 0 where

@@ -59,8 +59,15 @@ module _ (s : Settings) (ws : List ℕ) (good : settingsFault s ≡ none) (few :
       let g : settingsFault (headerOf (image s ws []) .setup) ≡ none = ap (λ (x : Header). settingsFault (x .setup)) h ∙ good in
       let c : headerOf (image s ws []) .code-size ≡ 4 * length ws = ap (λ (x : Header). x .code-size) h in
       let d : headerOf (image s ws []) .data-size ≡ 0 = ap (λ (x : Header). x .data-size) h in
-      rw (openingFault, le-ltb (length (image s ws [])) 32 (omega arith), eq-eqb _ _ m, eq-eqb _ _ v, g, eq-eqb (headerOf (image s ws []) .code-size % 4) 0 (omega arith),
-      eq-eqb (length (image s ws [])) (32 + headerOf (image s ws []) .code-size + headerOf (image s ws []) .data-size) (omega arith))
+      rw (
+        openingFault,
+        le-ltb (length (image s ws [])) 32 (omega arith),
+        eq-eqb _ _ m,
+        eq-eqb _ _ v,
+        g,
+        eq-eqb (headerOf (image s ws []) .code-size % 4) 0 (omega arith),
+        eq-eqb (length (image s ws [])) (32 + headerOf (image s ws []) .code-size + headerOf (image s ws []) .data-size) (omega arith),
+      )
 
   usual : isUsual (headerOf (image s ws [])) ≡ true
   unfolding isUsual headerFor entry stack-size most-words
@@ -121,7 +128,7 @@ listed-usual b h =
     let (u5, u6) = and-eq-true-iff (eqb (headerOf b .stack-size) stack-size) _ .0 q4 in
     let long : 32 ≤ length b = ltb-false (length b) 32 o1 in
     let no-data : headerOf b .data-size ≡ 0 = eqb-true (headerOf b .data-size) 0 u3 in
-    let total : length b ≡ 32 + headerOf b .code-size + headerOf b .data-size 
+    let total : length b ≡ 32 + headerOf b .code-size + headerOf b .data-size
     = eqb-true (length b) (32 + headerOf b .code-size + headerOf b .data-size) o6 in
     let size : length (drop 32 b) ≡ headerOf b .code-size = omega (arith, length-drop 32 b) in
     let all : take (headerOf b .code-size) (drop 32 b) ≡ drop 32 b = take-all (headerOf b .code-size) (drop 32 b) (omega arith) in

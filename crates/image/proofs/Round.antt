@@ -174,9 +174,9 @@ module _ (names : List Name) (ok : each (λ n. isIdentifier (n .spelling)) names
         4,
         0 + suc (length a) + suc (length b) + suc (length c),
         ap (λ (x : List ℕ). walk names room 1 0 start (lines x)) (apart a b c)
-        ∙ walk-line names room 1 0 start _ a (lineText b ++ (lineText c ++ rest)) bits-visible (step-bits room (0 + indent a))
-        ∙ walk-line names room 2 (0 + suc (length a)) _ _ b (lineText c ++ rest) data-visible (step-data room (0 + suc (length a) + indent b))
-        ∙ walk-line names room 3 (0 + suc (length a) + suc (length b)) _ _ c rest addr-visible (step-addr room (0 + suc (length a) + suc (length b) + indent c)),
+            ∙ walk-line names room 1 0 start _ a (lineText b ++ (lineText c ++ rest)) bits-visible (step-bits room (0 + indent a))
+            ∙ walk-line names room 2 (0 + suc (length a)) _ _ b (lineText c ++ rest) data-visible (step-data room (0 + suc (length a) + indent b))
+            ∙ walk-line names room 3 (0 + suc (length a) + suc (length b)) _ _ c rest addr-visible (step-addr room (0 + suc (length a) + suc (length b) + indent c)),
       )
     where
       apart : (a b c : List ℕ) → (lineText a ++ (lineText b ++ lineText c)) ++ rest ≡ lineText a ++ (lineText b ++ (lineText c ++ rest))
@@ -195,10 +195,15 @@ module _ (names : List Name) (ok : each (λ n. isIdentifier (n .spelling)) names
       let a = configText limb-bits-key (s .limb-bits) in
       let b = configText data-limbs-key (s .data-limbs) in
       let c = configText addr-limbs-key (s .addr-limbs) in
-      omega (arith, length-append (settingsText s) rest, length-append (lineText a) (lineText b ++ lineText c), length-append (lineText b) (lineText c),
-      line-length a 21 (config-short names ok limb-bits-key (k .limb-bits) (s .limb-bits) (small-bits s g)),
-      line-length b 21 (config-short names ok data-limbs-key (k .data-limbs) (s .data-limbs) (small-data s g)),
-      line-length c 21 (config-short names ok addr-limbs-key (k .addr-limbs) (s .addr-limbs) (small-addr s g)))
+      omega (
+        arith,
+        length-append (settingsText s) rest,
+        length-append (lineText a) (lineText b ++ lineText c),
+        length-append (lineText b) (lineText c),
+        line-length a 21 (config-short names ok limb-bits-key (k .limb-bits) (s .limb-bits) (small-bits s g)),
+        line-length b 21 (config-short names ok data-limbs-key (k .data-limbs) (s .data-limbs) (small-data s g)),
+        line-length c 21 (config-short names ok addr-limbs-key (k .addr-limbs) (s .addr-limbs) (small-addr s g)),
+      )
 
   pub text-reading : (room : ℕ) (ws : List ℕ) (r : AllRead names ws) → length ws ≤ 32768
       → reading names (settingsText s ++ flatMap wordText ws) room ≡ accepted (record { labels = []; instructions = instructionsIn names ws r; setup = s })
@@ -206,5 +211,9 @@ module _ (names : List Name) (ok : each (λ n. isIdentifier (n .spelling)) names
   text-reading room ws r few =
       let (line, at, e) = walk-settings room (flatMap wordText ws) in
       let w = e ∙ walk-words names room line at configuredState ws r (omega arith) in
-      rw (reading, le-leb (length (settingsText s ++ flatMap wordText ws)) 1048576 (omega (arith, text-length (flatMap wordText ws), words-length names ws r)),
-      text-visible (flatMap wordText ws) (words-ascii names ws r), w)
+      rw (
+        reading,
+        le-leb (length (settingsText s ++ flatMap wordText ws)) 1048576 (omega (arith, text-length (flatMap wordText ws), words-length names ws r)),
+        text-visible (flatMap wordText ws) (words-ascii names ws r),
+        w,
+      )

@@ -175,7 +175,7 @@ unfoldable pub most-bytes : ℕ
 most-bytes = 1048576
 
 -- Reading a source with a table that has room for so many labels: all refusals but 23. "Before any line: 1 source over 1,048,576
--- bytes; 2 a byte above 127 (true line of the first)."
+-- bytes (added); 2 a byte above 127 (added; true line of the first). Then the first faulty line decides".
 unfoldable pub reading : List Name → List ℕ → ℕ → Assembled
 reading names source room =
     elim (leb (length source) most-bytes) [
@@ -195,6 +195,6 @@ fitted size (accepted st) =
       | false ↦ refusing 23 0 0 (st .labels) (some (imageLength (length (st .instructions))))
     ]
 
--- "Assembling takes a source, a label table and an image buffer."
+-- "Assembling takes a source, a label table (entries of start, length, address) and an image buffer": here their lengths.
 unfoldable pub assembling : List Name → List ℕ → ℕ → ℕ → Assembled
 assembling names source room size = fitted size (reading names source room)

@@ -6,7 +6,7 @@ use lib.ListN.{length, drop}
 use Rattle.text.specs.Names.{Name}
 use Rattle.image.specs.Settings.{Settings}
 use Rattle.image.specs.Assembling.{Label, State, Refusal, Assembled, accepted, rejected}
-use Rattle.image.specs.Listing.{Listing, written, rejected as unlisted}
+use Rattle.image.specs.Listing.{Listing, written, rejected as refusedText}
 use Rattle.image.specs.Meaning.{imageOf}
 
 -- A lent slice whose front is written over: "later bytes keep their values", "Entries past the count keep their values".
@@ -42,14 +42,23 @@ entered (rejected r) = r .labels
 unfoldable pub tableAfter : Assembled → List Entry → List Entry
 tableAfter a old = over (map entryOf (entered a)) old
 
--- "After a refusal the image buffer holds what it held before" (demand 1).
+-- After a refusal the image buffer holds what it held before (demand 1).
 unfoldable pub imageAfter : List Name → List ℕ → Assembled → List ℕ → List ℕ
 imageAfter names source (accepted st) old = over (imageOf names source) old
 imageAfter names source (rejected r) old = old
 
 -- ---- listing
 
--- "it answers the text length"; after a refusal the text buffer holds what it held before (demand 1).
+-- "it answers the text length"; a refusal its number, for 30 and 31 the word's index, for 32 the needed length.
+pub data ListAnswer : Type 0 where
+  listed : (length : ℕ) → ListAnswer
+  unlisted : (number : ℕ) (index needed : Option ℕ) → ListAnswer
+
+unfoldable pub listAnswerOf : Listing → ListAnswer
+listAnswerOf (written t) = listed (length t)
+listAnswerOf (refusedText r) = unlisted (r .number) (r .index) (r .needed)
+
+-- After a refusal the text buffer holds what it held before (demand 1).
 unfoldable pub textAfter : Listing → List ℕ → List ℕ
 textAfter (written t) old = over t old
-textAfter (unlisted r) old = old
+textAfter (refusedText r) old = old

@@ -59,7 +59,7 @@ settingsFrom names s (l ∷ ls) = settingsFrom names (settingsOn s (readLine nam
 unfoldable pub settingsOf : List Name → List ℕ → Settings
 settingsOf names source = settingsFrom names begin (lines source)
 
--- ---- "its image is the bytes then filled: the header, then the words of its instructions in line order"
+-- ---- "its image is the bytes then filled, none later: the header, then the words of its instructions in line order"
 
 unfoldable pub imageOf : List Name → List ℕ → List ℕ
 imageOf names source = image (settingsOf names source) (map wordOf (instructionsOf names source)) []

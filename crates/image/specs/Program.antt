@@ -32,8 +32,8 @@ entry = 0x1000
 unfoldable pub stack-size : ℕ
 stack-size = 2 ^ 20
 
--- "Header, little-endian: magic, version, the bytes limb_bits, data_limbs, addr_limbs and flags, then five 32-bit fields:
--- entry, code size in bytes, data, bss, stack"
+-- "Header, little-endian": magic, version, "the bytes limb_bits, data_limbs, addr_limbs and flags", "then five 32-bit fields":
+-- entry, code size, data size, bss size, stack size.
 unfoldable pub headerBytes : Header → List ℕ
 headerBytes h =
     little 4 (h .magic) ++ (little 4 (h .version)

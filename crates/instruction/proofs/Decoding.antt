@@ -15,9 +15,9 @@ use Rattle.text.specs.Numbers.{residue}
 use Rattle.text.proofs.Numbers.{residue-lt, residue-meant}
 use Rattle.instruction.specs.Table.{Row, rowCoded}
 use Rattle.instruction.specs.Operands.{Instruction}
-use Rattle.instruction.specs.Words.{reduced, wordOf, registersIn, unusedFrom, taken, instructionOf}
-use Rattle.instruction.proofs.Fit.{InTable, placesOf, NumberField, numberField, hasNumber, widthOf, numberWidth, Fits}
-use Rattle.instruction.proofs.Rows.{statedWidth, coded-row, same-row, row-facts}
+use Rattle.instruction.specs.Words.{modulo, reduced, wordOf, registersIn, unusedFrom, taken, instructionOf}
+use Rattle.instruction.proofs.Fit.{placesOf, NumberField, numberField, hasNumber, widthOf, numberWidth, Fits}
+use Rattle.instruction.proofs.Rows.{coded-row, row-facts}
 use Rattle.instruction.proofs.Results.{test-value, option-value, nothing}
 use Rattle.instruction.proofs.Placing.{read-number, read-registers, reducedIn, read-reduced, unused-most, Placed, placed, placed-tells}
 
@@ -90,38 +90,33 @@ decodes-iff w = (
 
 -- ---- instructions of one word
 
--- A number, if there is one, modulo 2^k.
-unfoldable pub residues : ℕ → Option ℤ → Option ℕ
-residues k none = none
-residues k (some z) = some (residue k z)
-
 -- What a field keeps of a number leaves the same as the number.
-residues-reduced : (o : Option NumberField) (n : Option ℤ) → isSome n ≡ isSome o → residues (widthOf o) (reducedIn o n) ≡ residues (widthOf o) n
-unfolding residues reducedIn reduced widthOf isSome
-residues-reduced none n h = sym (ap (residues 0) (nothing n h))
-residues-reduced (some f) none h = absurd (true≢false (sym h))
-residues-reduced (some f) (some z) h = rw (residue-meant (f .signed) (f .width) _ (residue-lt (f .width) z))
+modulo-reduced : (o : Option NumberField) (n : Option ℤ) → isSome n ≡ isSome o → modulo (widthOf o) (reducedIn o n) ≡ modulo (widthOf o) n
+unfolding modulo reducedIn reduced widthOf isSome
+modulo-reduced none n h = sym (ap (modulo 0) (nothing n h))
+modulo-reduced (some f) none h = absurd (true≢false (sym h))
+modulo-reduced (some f) (some z) h = rw (residue-meant (f .signed) (f .width) _ (residue-lt (f .width) z))
 
 orZero : Option ℕ → ℕ
 orZero none = 0
 orZero (some v) = v
 
-reduced-residues : (k : ℕ) (n : Option ℤ) → reduced k n ≡ orZero (residues k n)
-unfolding reduced residues orZero
-reduced-residues k none = refl
-reduced-residues k (some z) = refl
+reduced-modulo : (k : ℕ) (n : Option ℤ) → reduced k n ≡ orZero (modulo k n)
+unfolding reduced modulo orZero
+reduced-modulo k none = refl
+reduced-modulo k (some z) = refl
 
 -- A field keeps the same of numbers that leave the same.
-reduced-same : (o : Option NumberField) (n m : Option ℤ) → residues (widthOf o) n ≡ residues (widthOf o) m → reducedIn o n ≡ reducedIn o m
+reduced-same : (o : Option NumberField) (n m : Option ℤ) → modulo (widthOf o) n ≡ modulo (widthOf o) m → reducedIn o n ≡ reducedIn o m
 unfolding reducedIn widthOf
 reduced-same none n m e = refl
-reduced-same (some f) n m e = rw (reduced-residues (f .width) n, reduced-residues (f .width) m, e)
+reduced-same (some f) n m e = rw (reduced-modulo (f .width) n, reduced-modulo (f .width) m, e)
 
 -- Instructions that fit have the same word only if they have the same row, the same registers, and the same number modulo 2 to the
 -- width of its field.
 pub word-tells : (i j : Instruction) → Fits i → Fits j → wordOf i ≡ wordOf j
     → (i .row ≡ j .row) × (i .registers ≡ j .registers)
-    × (residues (numberWidth (placesOf (i .row))) (i .number) ≡ residues (numberWidth (placesOf (i .row))) (j .number))
+    × (modulo (numberWidth (placesOf (i .row))) (i .number) ≡ modulo (numberWidth (placesOf (i .row))) (j .number))
 unfolding reducedTo hasNumber numberWidth
 word-tells i j f g e =
     let v : value (reducedTo i) ≡ value (reducedTo j) = sym (decode-encode i f) ∙ ap instructionOf e ∙ decode-encode j g in
@@ -129,40 +124,17 @@ word-tells i j f g e =
     let r : i .row ≡ j .row = ap (λ (x : Instruction). x .row) q in (
       r,
       ap (λ (x : Instruction). x .registers) q,
-      sym (residues-reduced (numberField (placesOf (i .row))) (i .number) (f .number))
-          ∙ ap (λ (x : Instruction). residues (numberWidth (placesOf (x .row))) (x .number)) q
-          ∙ residues-reduced (numberField (placesOf (j .row))) (j .number) (g .number)
-          ∙ ap (λ (x : Row). residues (numberWidth (placesOf x)) (j .number)) (sym r),
+      sym (modulo-reduced (numberField (placesOf (i .row))) (i .number) (f .number))
+          ∙ ap (λ (x : Instruction). modulo (numberWidth (placesOf (x .row))) (x .number)) q
+          ∙ modulo-reduced (numberField (placesOf (j .row))) (j .number) (g .number)
+          ∙ ap (λ (x : Row). modulo (numberWidth (placesOf x)) (j .number)) (sym r),
     )
 
 -- If they have the same row, the same registers, and the same number so reduced, they have the same word.
 pub same-word : (i j : Instruction) → Fits i → Fits j → i .row ≡ j .row → i .registers ≡ j .registers
-    → residues (numberWidth (placesOf (i .row))) (i .number) ≡ residues (numberWidth (placesOf (i .row))) (j .number) → wordOf i ≡ wordOf j
+    → modulo (numberWidth (placesOf (i .row))) (i .number) ≡ modulo (numberWidth (placesOf (i .row))) (j .number) → wordOf i ≡ wordOf j
 unfolding reducedTo numberWidth
 same-word i j f g r s n =
     let m = reduced-same (numberField (placesOf (i .row))) (i .number) (j .number) n ∙ ap (λ (x : Row). reducedIn (numberField (placesOf x)) (j .number)) r in
     let q : reducedTo i ≡ reducedTo j = λ k. record { row = r k; registers = s k; number = m k } in
     sym (encode-decode (wordOf i) (reducedTo i) (decode-encode i f)) ∙ ap wordOf q ∙ encode-decode (wordOf j) (reducedTo j) (decode-encode j g)
-
--- That width is the one that is stated for the mnemonic.
-stated-residues : (r : Row) → InTable r → (n : Option ℤ) → isSome n ≡ hasNumber (placesOf r)
-    → residues (numberWidth (placesOf r)) n ≡ residues (statedWidth (r .mnemonic)) n
-unfolding residues isSome
-stated-residues r h none e = refl
-stated-residues r h (some z) e = rw (row-facts r h .width (sym e))
-
--- Instructions that fit have the same word exactly if they agree by mnemonic, register numbers and number, this modulo 2 to the
--- width that is stated for the mnemonic.
-pub word-iff : (i j : Instruction) → Fits i → Fits j
-    → (wordOf i ≡ wordOf j)
-    ↔ ((i .row .mnemonic ≡ j .row .mnemonic) × (i .registers ≡ j .registers)
-    × (residues (statedWidth (i .row .mnemonic)) (i .number) ≡ residues (statedWidth (i .row .mnemonic)) (j .number)))
-word-iff i j f g = (
-  (λ e. let (r, s, n) = word-tells i j f g e in
-      (ap (λ (x : Row). x .mnemonic) r, s, sym (at-i (i .number) (f .number)) ∙ n ∙ at-i (j .number) (rw r (g .number)))),
-  (λ (m, s, n). let r = same-row (i .row) (j .row) (f .in-table) (g .in-table) m in
-      same-word i j f g r s (at-i (i .number) (f .number) ∙ n ∙ sym (at-i (j .number) (rw r (g .number))))),
-)
-  where
-    at-i : (n : Option ℤ) → isSome n ≡ hasNumber (placesOf (i .row)) → residues (numberWidth (placesOf (i .row))) n ≡ residues (statedWidth (i .row .mnemonic)) n
-    at-i = stated-residues (i .row) (f .in-table)

@@ -5,6 +5,7 @@ use native.Mathlib.Omega.{arith}
 use mathlib.Core.Bool.{Bool, true, false, not, _&&_, _||_, true≢false, and-eq-true-iff}
 use mathlib.Core.Option.{Option, some}
 use mathlib.Core.List.{List, [], _∷_, map}
+use lib.ListN.{length}
 use lib.Dec.{leb, ltb, eqb}
 use borrow.Author.Tests.{leb-true, le-leb, lt-leb, ltb-true, eqb-true, eq-eqb, not-true}
 use Rattle.text.specs.Bytes.{bytes, between, letter, digit, nameStart, namePart, lower, every, same, find, isSome, each}
@@ -12,7 +13,12 @@ use Rattle.text.specs.Tokens.{isIdentifier}
 use Rattle.text.proofs.Tests.{both, or-elim, no-both, between-true}
 use Rattle.text.proofs.Strings.{every-head, every-tail, same-eq, eq-same, found}
 use Rattle.instruction.specs.Table.{Place, reg, num, comma-place, opening-place, closing-place, places, Row, row, table, rowNamed, rowCoded}
-use Rattle.instruction.proofs.Fit.{InTable, placesOf, numberField, hasNumber, widthOf, numberWidth}
+use Rattle.instruction.proofs.Fit.{InTable, placesOf, numberField, widthOf, numberWidth}
+
+-- "fifty mnemonics"
+pub fifty : length table ≡ 50
+unfolding table
+fifty = refl
 
 -- ---- a row found in the table
 
@@ -64,23 +70,14 @@ apart (comma-place ∷ ps) = apart ps
 apart (opening-place ∷ ps) = apart ps
 apart (closing-place ∷ ps) = apart ps
 
--- "modulo 2^17, for jal 2^21, for shifts 2^8": the exponent, by mnemonic.
-unfoldable pub statedWidth : List ℕ → ℕ
-statedWidth m =
-    elim (same m (bytes "jal")) [
-      | true ↦ 21
-      | false ↦ elim (same m (bytes "slli") || (same m (bytes "srli") || same m (bytes "srai"))) [ true ↦ 8 | false ↦ 17 ]
-    ]
-
 -- What is asked of each row.
 rule : Row → Bool
 rule r =
     isIdentifier (r .mnemonic) && (every lowerCase (r .mnemonic) && (ltb (r .opcode) 128
-    && (apart (placesOf r) && (leb (numberWidth (placesOf r)) 21
-    && (not (hasNumber (placesOf r)) || eqb (numberWidth (placesOf r)) (statedWidth (r .mnemonic)))))))
+    && (apart (placesOf r) && leb (numberWidth (placesOf r)) 21)))
 
 table-ruled : each rule table ≡ true
-unfolding each rule table row bytes isIdentifier nameStart namePart letter digit lowerCase between every apart marked places isSome numberField hasNumber widthOf numberWidth statedWidth same
+unfolding each rule table row bytes isIdentifier nameStart namePart letter digit lowerCase between every apart marked places isSome numberField widthOf numberWidth
 table-ruled = refl
 
 -- No two rows have the same mnemonic.
@@ -145,8 +142,6 @@ pub record RowFacts (r : Row) : Type 0 where
   pub stands : apart (placesOf r) ≡ true
   -- its number has at most 21 bits
   pub narrow : numberWidth (placesOf r) ≤ 21
-  -- just as many as are stated for its mnemonic
-  pub width : hasNumber (placesOf r) ≡ true → numberWidth (placesOf r) ≡ statedWidth (r .mnemonic)
 
 -- All of this holds of each row of the table.
 pub row-facts : (r : Row) → InTable r → RowFacts r
@@ -155,8 +150,7 @@ row-facts r h =
     let (i, k) = and-eq-true-iff (isIdentifier (r .mnemonic)) _ .0 (carried rule table-ruled r h) in
     let (l, k) = and-eq-true-iff (every lowerCase (r .mnemonic)) _ .0 k in
     let (o, k) = and-eq-true-iff (ltb (r .opcode) 128) _ .0 k in
-    let (a, k) = and-eq-true-iff (apart (placesOf r)) _ .0 k in
-    let (n, w) = and-eq-true-iff (leb (numberWidth (placesOf r)) 21) _ .0 k in
+    let (a, n) = and-eq-true-iff (apart (placesOf r)) _ .0 k in
     record {
       identifier = i;
       letters = l;
@@ -165,5 +159,4 @@ row-facts r h =
       small = ltb-true (r .opcode) 128 o;
       stands = a;
       narrow = leb-true _ 21 n;
-      width = λ t. or-elim (not (hasNumber (placesOf r))) _ w (λ e. no-both t (not-true (hasNumber (placesOf r)) e)) (λ e. eqb-true _ _ e);
     }

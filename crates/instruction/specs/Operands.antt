@@ -20,7 +20,8 @@ pub record Instruction : Type 0 where
 
 -- ---- one operand token
 
--- The number that a token means: Number, Hex or Binary. (`extract_number`)
+-- The number that a token means: Number, Hex or Binary. (`extract_number` turns the last two into i64, which leaves the same
+-- modulo 2^64, and so modulo every field.)
 unfoldable pub readNumber : Token → Option ℤ
 readNumber (number z) = some z
 readNumber (hex n) = some (pos n)

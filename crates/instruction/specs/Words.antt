@@ -12,6 +12,11 @@ use Rattle.instruction.specs.Operands.{Instruction}
 
 -- ---- from an instruction to its word
 
+-- A number, if there is one, modulo 2^k.
+unfoldable pub modulo : ℕ → Option ℤ → Option ℕ
+modulo k none = none
+modulo k (some z) = some (residue k z)
+
 -- The number, reduced to so many bits; 0 where there is none.
 unfoldable pub reduced : ℕ → Option ℤ → ℕ
 reduced width none = 0

@@ -417,4 +417,3 @@ module _ (names : List Name) (ok : each (λ n. isIdentifier (n .spelling)) names
       (λ p. by-test (mark b) (λ e. rw (scan, n, d, m, p, e) (mark-scan b t n d m p e))
       (λ e. rw (scan, n, d, m, p, e) (longest-none names b t (λ j l. let k = other-facts b (take j t) n d m in
       no-class-of (b ∷ take j t) (k .0) (k .1) (k .2) (k .3) (no-directive b (take j t) p) (no-mark b (take j t) e))))))))
-
