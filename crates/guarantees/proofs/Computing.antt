@@ -1,12 +1,13 @@
 -- One name that opens every definition of the three layers: a theorem by computation says `unfolding computing`.
 use mathlib.Core.List.{flatMap}
-use Rattle.text.specs.Bytes.{bytes, between, letter, digit, hexDigit, binaryDigit, blank, edge, mark, nameStart, namePart, ascii, lower, every, oneOrMore, same, before, after, find, isSome, each}
+use Rattle.text.specs.Bytes.{bytes, between, letter, digit, hexDigit, binaryDigit, blank, edge, mark, nameStart, namePart, ascii, lower, every, oneOrMore, same, before, run, after, find, isSome, each}
 use Rattle.text.specs.Numbers.{digitValue, valueFrom, valueOf, minus, residue, meantBy, decimalIn, decimal, signedDecimal, little, unlittle}
 use Rattle.text.specs.Names.{name, named, numbered, conventional, present}
 use Rattle.text.specs.Tokens.{isIdentifier, isRegister, isNumber, isPrefixed, isDirective, isMark, isIn, classes, classOf, longest, within, numberToken, patternToken, registerToken, markToken, tokenOf, sized, matched, front, infront, tokensPast, tokens}
 use Rattle.text.specs.Lines.{extended, lines, keptByte, trimEnd, trim, cut, content, indent, kept, lineOf, recordOf, readLine}
 use Rattle.text.specs.NameSets.{isNumbered}
-use Rattle.text.specs.Places.{inside, restAt, leftAt, margin}
+use Rattle.text.specs.Places.{inside, restAt, leftAt, endAt, margin}
+use Rattle.text.specs.Contracts.{packed, keyOf}
 use Rattle.instruction.specs.Table.{places, row, table, rowNamed, rowCoded}
 use Rattle.instruction.specs.Operands.{readNumber, readIdentifier, readRegister, markByte, noOperands, withRegister, withNumber, readPlace, readOperands, made, readRow, readMnemonic, readInstruction, behind}
 use Rattle.instruction.specs.Words.{modulo, reduced, fields, wordOf, fieldAt, registersIn, numberIn, unusedFrom, taken, instructionOf}
@@ -21,5 +22,5 @@ use Rattle.image.specs.Lent.{over, answerOf, entryOf, entered, tableAfter, imag
 use Rattle.image.specs.Zkasm.{refusalText, outputOf, programOutput}
 
 unfoldable pub computing : Unit {0}
-unfolding flatMap bytes between letter digit hexDigit binaryDigit blank edge mark nameStart namePart ascii lower every oneOrMore same before after find isSome each digitValue valueFrom valueOf minus residue meantBy decimalIn decimal signedDecimal little unlittle name named numbered conventional present isIdentifier isRegister isNumber isPrefixed isDirective isMark isIn classes classOf longest within numberToken patternToken registerToken markToken tokenOf sized matched front infront tokensPast tokens extended lines keptByte trimEnd trim cut content indent kept lineOf recordOf readLine isNumbered inside restAt leftAt margin places row table rowNamed rowCoded readNumber readIdentifier readRegister markByte noOperands withRegister withNumber readPlace readOperands made readRow readMnemonic readInstruction behind modulo reduced fields wordOf fieldAt registersIn numberIn unusedFrom taken instructionOf registerText numberText placesText operandsText instructionText settings begin settingsFault limb-bits-key data-limbs-key addr-limbs-key set checked configuredBy configuredWith configured magic version entry stack-size headerBytes header-size headerFor image imageLength numberAt headerOf codeOf dataOf openingFault opening start identifierKind kindOf isKnown withLabel enter withSettings most-words withInstruction afterLabel stepOn step walk rustLine refusing readTo most-bytes reading fitted assembling wordsOf lineText settingText settingsText wordText textOf refusal isUsual wordsFault listingFault listing oneOf instructionOn instructionsOf changedBy settingsOn settingsFrom settingsOf imageOf isAccepted isWritten over answerOf entryOf entered tableAfter imageAfter listAnswerOf textAfter refusalText outputOf programOutput
+unfolding flatMap bytes between letter digit hexDigit binaryDigit blank edge mark nameStart namePart ascii lower every oneOrMore same before run after find isSome each digitValue valueFrom valueOf minus residue meantBy decimalIn decimal signedDecimal little unlittle name named numbered conventional present isIdentifier isRegister isNumber isPrefixed isDirective isMark isIn classes classOf longest within numberToken patternToken registerToken markToken tokenOf sized matched front infront tokensPast tokens extended lines keptByte trimEnd trim cut content indent kept lineOf recordOf readLine isNumbered inside restAt leftAt endAt margin packed keyOf places row table rowNamed rowCoded readNumber readIdentifier readRegister markByte noOperands withRegister withNumber readPlace readOperands made readRow readMnemonic readInstruction behind modulo reduced fields wordOf fieldAt registersIn numberIn unusedFrom taken instructionOf registerText numberText placesText operandsText instructionText settings begin settingsFault limb-bits-key data-limbs-key addr-limbs-key set checked configuredBy configuredWith configured magic version entry stack-size headerBytes header-size headerFor image imageLength numberAt headerOf codeOf dataOf openingFault opening start identifierKind kindOf isKnown withLabel enter withSettings most-words withInstruction afterLabel stepOn step walk rustLine refusing readTo most-bytes reading fitted assembling wordsOf lineText settingText settingsText wordText textOf refusal isUsual wordsFault listingFault listing oneOf instructionOn instructionsOf changedBy settingsOn settingsFrom settingsOf imageOf isAccepted isWritten over answerOf entryOf entered tableAfter imageAfter listAnswerOf textAfter refusalText outputOf programOutput
 computing = tt

@@ -1,15 +1,16 @@
 -- Laws of numbers: a printed decimal read again, its length and its bytes; reduction and signed readings, for any width.
 use mathlib.Core.Path.{_≡_, refl, sym, ap, _∙_}
 use Prim.Native.Nat.{ℕ, zero, suc, _+_, _-_, _*_, _/_, _%_, _^_, _≤_, _<_}
-use native.Mathlib.Nat.{div-add-mod', suc-mul, zero-mod, mul-mod-left, pow-suc, mod-lt, mod-eq-of-lt}
+use native.Mathlib.Nat.{div-add-mod', suc-mul, mul-add-mod-self-right, pow-suc, mod-lt, mod-eq-of-lt}
 use native.Mathlib.Omega.{arith}
-use mathlib.Core.Bool.{Bool, true, false, true≢false}
+use mathlib.Core.Logic.{_↔_}
+use mathlib.Core.Bool.{Bool, true, false}
 use mathlib.Core.List.{List, [], _∷_, _++_}
 use lib.ListN.{length, length-append}
-use lib.IntN.{ℤ, pos, negsuc}
+use lib.IntN.{ℤ, pos, negsuc, _+ℤ_, _-ℤ_, _*ℤ_, +ℤ-assoc, +ℤ-comm, +ℤ-negℤ-cancel, -ℤ-+ℤ-cancel, *ℤ-comm, *ℤ-zero, sucℤ-*ℤ}
 use lib.Pow.{pow-pos}
-use borrow.Author.Tests.{lt-ltb, le-ltb, le-leb, lt-leb}
-use Rattle.text.specs.Bytes.{digit, between, every}
+use borrow.Author.Tests.{lt-ltb, le-ltb, le-leb}
+use Rattle.text.specs.Bytes.{digit, every}
 use Rattle.text.specs.Numbers.{digitValue, valueFrom, valueOf, minus, residue, meantBy, decimalIn, decimal}
 use Rattle.text.proofs.Tests.{split, true-between}
 use Rattle.text.proofs.Strings.{every-append, every-cons}
@@ -102,3 +103,73 @@ residue-meant false k v h = mod-eq-of-lt h
 residue-meant true k v h =
     split (v + v) (2 ^ k) (λ l. rw (meantBy, lt-ltb (v + v) (2 ^ k) l) (mod-eq-of-lt h))
     (λ l. rw (meantBy, le-ltb (v + v) (2 ^ k) l, mod-eq-of-lt {n = 2 ^ k - suc v} {m = 2 ^ k} (omega (arith, pow-pos k))) (omega arith))
+
+-- The residue of -m, as the code reduces it.
+pub residue-minus : (k m : ℕ) → 0 < m → residue k (minus m) ≡ 2 ^ k - suc ((m - 1) % 2 ^ k)
+unfolding minus residue
+residue-minus k zero h = absurd (omega arith)
+residue-minus k (suc n) h = let e : suc n - 1 ≡ n = omega arith in rw e
+
+-- ---- two numbers leave the same if and only if 2^k divides their difference
+
+times-suc : (a : ℤ) (m : ℕ) → a *ℤ pos (suc m) ≡ a *ℤ pos m +ℤ a
+times-suc a m = *ℤ-comm a (pos (suc m)) ∙ sucℤ-*ℤ (pos m) a ∙ ap (λ (x : ℤ). x +ℤ a) (*ℤ-comm (pos m) a)
+
+sum-times : (a b : ℤ) (m : ℕ) → (a +ℤ b) *ℤ pos m ≡ a *ℤ pos m +ℤ b *ℤ pos m
+sum-times a b zero = rw (*ℤ-zero (a +ℤ b), *ℤ-zero a, *ℤ-zero b)
+sum-times a b (suc m) =
+    rw (times-suc (a +ℤ b) m, times-suc a m, times-suc b m, sum-times a b m) (mixed (a *ℤ pos m) (b *ℤ pos m))
+  where
+    mixed : (x y : ℤ) → (x +ℤ y) +ℤ (a +ℤ b) ≡ (x +ℤ a) +ℤ (y +ℤ b)
+    mixed x y = rw (+ℤ-assoc x y (a +ℤ b), ← +ℤ-assoc y a b, +ℤ-comm y a, +ℤ-assoc a y b, +ℤ-assoc x a (y +ℤ b))
+
+negative-times : (a m r : ℕ) → r < m → negsuc a *ℤ pos m +ℤ pos r ≡ negsuc (a * m + (m - suc r))
+negative-times a m r h =
+    let e : suc a * m ≡ suc (a * m + (m - 1)) = omega (arith, suc-mul a m) in
+    rw (e, lt-ltb r (suc (a * m + (m - 1))) (omega arith)) (ap negsuc (omega arith))
+
+-- A number is a multiple of 2^k and what it leaves,
+divided : (k : ℕ) (z : ℤ) → (q : ℤ) × (z ≡ q *ℤ pos (2 ^ k) +ℤ pos (residue k z))
+unfolding residue
+divided k (pos n) = (pos (n / 2 ^ k), ap pos (sym (div-add-mod' n (2 ^ k))))
+divided k (negsuc n) =
+    let l = mod-lt n (pow-pos k) in
+    let e = negative-times (n / 2 ^ k) (2 ^ k) (2 ^ k - suc (n % 2 ^ k)) (omega arith) in
+    (negsuc (n / 2 ^ k), sym (e ∙ ap negsuc (omega (arith, div-add-mod' n (2 ^ k)))))
+
+-- and leaves no other number below 2^k.
+leaves : (k : ℕ) (q : ℤ) (r : ℕ) → r < 2 ^ k → residue k (q *ℤ pos (2 ^ k) +ℤ pos r) ≡ r
+unfolding residue
+leaves k (pos a) r h = mul-add-mod-self-right a (2 ^ k) r ∙ mod-eq-of-lt h
+leaves k (negsuc a) r h =
+    let l : 2 ^ k - suc r < 2 ^ k = omega arith in
+    rw (negative-times a (2 ^ k) r h, mul-add-mod-self-right a (2 ^ k) (2 ^ k - suc r), mod-eq-of-lt l) (omega arith)
+
+times-more : (k : ℕ) (d w : ℤ) → d *ℤ pos (2 ^ k) +ℤ w ≡ (d +ℤ divided k w .0) *ℤ pos (2 ^ k) +ℤ pos (residue k w)
+times-more k d w =
+    let (p, e) = divided k w in
+    ap (λ (x : ℤ). d *ℤ pos (2 ^ k) +ℤ x) e ∙ rw (sum-times d p (2 ^ k), +ℤ-assoc (d *ℤ pos (2 ^ k)) (p *ℤ pos (2 ^ k)) (pos (residue k w)))
+
+pub residue-iff : (k : ℕ) (z w : ℤ) → (residue k z ≡ residue k w) ↔ ((q : ℤ) × (z -ℤ w ≡ q *ℤ pos (2 ^ k)))
+residue-iff k z w = (there, λ (q, e). back q e)
+  where
+    there : residue k z ≡ residue k w → (q : ℤ) × (z -ℤ w ≡ q *ℤ pos (2 ^ k))
+    there e =
+        let (q, h) = divided k z in
+        let d = q -ℤ divided k w .0 in
+        let s : z ≡ d *ℤ pos (2 ^ k) +ℤ w = h ∙ rw (e, times-more k d w, -ℤ-+ℤ-cancel q (divided k w .0)) in
+        (d, ap (λ (x : ℤ). x -ℤ w) s ∙ +ℤ-negℤ-cancel (d *ℤ pos (2 ^ k)) w)
+
+    back : (q : ℤ) → z -ℤ w ≡ q *ℤ pos (2 ^ k) → residue k z ≡ residue k w
+    back q e =
+        let s : z ≡ q *ℤ pos (2 ^ k) +ℤ w = sym (-ℤ-+ℤ-cancel z w) ∙ ap (λ (x : ℤ). x +ℤ w) e in
+        ap (residue k) (s ∙ times-more k q w) ∙ leaves k (q +ℤ divided k w .0) (residue k w) (residue-lt k w)
+
+pub residue-iff-8 : (z w : ℤ) → (residue 8 z ≡ residue 8 w) ↔ ((q : ℤ) × (z -ℤ w ≡ q *ℤ pos 256))
+residue-iff-8 = residue-iff 8
+
+pub residue-iff-17 : (z w : ℤ) → (residue 17 z ≡ residue 17 w) ↔ ((q : ℤ) × (z -ℤ w ≡ q *ℤ pos 131072))
+residue-iff-17 = residue-iff 17
+
+pub residue-iff-21 : (z w : ℤ) → (residue 21 z ≡ residue 21 w) ↔ ((q : ℤ) × (z -ℤ w ≡ q *ℤ pos 2097152))
+residue-iff-21 = residue-iff 21

@@ -10,7 +10,7 @@ use lib.ListN.{length, take, drop, getD, drop-of-length-le, take-append-drop}
 use lib.Seq.{drop-cons}
 use lib.Dec.{eqb}
 use borrow.Author.Tests.{eqb-true, eq-eqb}
-use Rattle.text.specs.Bytes.{every, same, before, find, isSome, each}
+use Rattle.text.specs.Bytes.{every, same, before, run, find, isSome, each}
 use Rattle.text.proofs.Tests.{by-test, both, and-both}
 
 -- ---- strings of one class
@@ -69,10 +69,6 @@ eq-same s t e = rw (← e) (refl-same s)
 
 -- ---- runs of a class
 
--- How many bytes of the class stand in front.
-unfoldable pub run : (ℕ → Bool) → List ℕ → ℕ
-run p s = length (before p s)
-
 pub take-run : (p : ℕ → Bool) (s : List ℕ) → take (run p s) s ≡ before p s
 unfolding run before
 take-run p [] = refl
@@ -94,6 +90,21 @@ past-run p [] j h l = absurd (omega arith)
 past-run p (b ∷ s) zero h l = absurd (omega arith)
 past-run p (b ∷ s) (suc j) h l =
     by-test (p b) (λ e. rw (every, e) (past-run p s j (le-of-suc-le-suc (rw (before, e) at h)) (omega arith))) (λ e. rw (every, e))
+
+-- A run stops at a byte outside the class.
+pub run-stop : (p : ℕ → Bool) (s : List ℕ) → run p s < length s → p (getD s (run p s) 0) ≡ false
+unfolding run before
+run-stop p [] h = absurd (omega arith)
+run-stop p (b ∷ s) h = by-test (p b) (λ e. rw (before, e) (run-stop p s (omega (arith, rw (before, e) at h)))) (λ e. rw (before, e) e)
+
+-- A run is what of it has been passed, and the rest.
+pub run-past : (p : ℕ → Bool) (k : ℕ) (s : List ℕ) → k ≤ length s → every p (take k s) ≡ true → run p s ≡ k + run p (drop k s)
+unfolding run before
+run-past p zero s l h = omega arith
+run-past p (suc k) [] l h = absurd (omega arith)
+run-past p (suc k) (b ∷ s) l h =
+    let e = every-head p b (take k s) h in
+    rw (before, e) (omega (arith, run-past p k s (omega arith) (every-tail p b (take k s) h)))
 
 -- A text does not begin with a byte of the class.
 unfoldable pub ends : (ℕ → Bool) → List ℕ → Bool

@@ -10,12 +10,12 @@ use lib.Seq.{take-append-seam, drop-append-seam}
 use lib.Dec.{leb, ltb, eqb}
 use lib.IntN.{ℤ, pos, negsuc}
 use borrow.Author.Tests.{eqb-true, ne-eqb, le-leb, lt-ltb}
-use Rattle.text.specs.Bytes.{letter, digit, between, blank, mark, nameStart, namePart, every, before, isSome, each}
+use Rattle.text.specs.Bytes.{letter, digit, between, blank, mark, nameStart, namePart, every, before, isSome, each, run}
 use Rattle.text.specs.Numbers.{valueOf, minus, decimal, signedDecimal}
 use Rattle.text.specs.Names.{Name, named}
 use Rattle.text.specs.Tokens.{isIdentifier, isRegister, Class, Register, Identifier, Number, Directive, Mark, Match, longest, Token, identifier, register, number, directive, comma, colon, opening, closing, within, numberToken, registerToken, markToken, tokenOf, Sized, sized, matched, front, infront, tokensPast, tokens}
 use Rattle.text.proofs.Tests.{by-test, both, or-left, or-right, between-true, no-both, not-true}
-use Rattle.text.proofs.Strings.{every-head, every-tail, run, ends, ends-head, before-append, run-append}
+use Rattle.text.proofs.Strings.{every-head, every-tail, ends, ends-head, before-append, run-append}
 use Rattle.text.proofs.Numbers.{Digits, decimal-digits, decimal-value}
 use Rattle.text.proofs.Scanning.{matching, wordClass, digitScan, dotScan, atLeastOne, scan, longest-scan, register-identifier, start-from, digit-from, digit-not-start}
 

@@ -5,6 +5,7 @@ use Prim.Native.String.{String, [] as []ˢ, _∷_ as _∷ˢ_}
 use mathlib.Core.Bool.{Bool, true, false, _&&_, _||_}
 use mathlib.Core.Option.{Option, none, some}
 use mathlib.Core.List.{List, [], _∷_}
+use lib.ListN.{length}
 use lib.Dec.{leb, eqb}
 
 -- A finished value, or a refusal by its number.
@@ -89,6 +90,10 @@ same (x ∷ s) (y ∷ t) = elim (eqb x y) [ true ↦ same s t | false ↦ false 
 unfoldable pub before : (ℕ → Bool) → List ℕ → List ℕ
 before p [] = []
 before p (b ∷ s) = elim (p b) [ true ↦ b ∷ before p s | false ↦ [] ]
+
+-- How many they are.
+unfoldable pub run : (ℕ → Bool) → List ℕ → ℕ
+run p s = length (before p s)
 
 -- The bytes from the first one outside the class on.
 unfoldable pub after : (ℕ → Bool) → List ℕ → List ℕ

@@ -5,3 +5,4 @@ pub mod Tokens
 pub mod Lines
 pub mod NameSets
 pub mod Places
+pub mod Contracts

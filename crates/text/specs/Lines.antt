@@ -5,7 +5,7 @@ use mathlib.Core.Option.{Option, none, some}
 use mathlib.Core.List.{List, [], _∷_}
 use lib.ListN.{length, take}
 use lib.Dec.{eqb}
-use Rattle.text.specs.Bytes.{edge, before, after}
+use Rattle.text.specs.Bytes.{edge, before, run, after}
 use Rattle.text.specs.Names.{Name}
 use Rattle.text.specs.Tokens.{Token, tokens}
 
@@ -44,7 +44,7 @@ content s = trim (cut (trim s))
 
 -- How many bytes of a line stand before its content.
 unfoldable pub indent : List ℕ → ℕ
-indent s = length (before edge s)
+indent s = run edge s
 
 -- ---- the record of a line
 

@@ -1,8 +1,8 @@
 -- A line where it stands in a text, as the code reads it: from a place on, up to byte 10 or the text's end.
-use Prim.Native.Nat.{ℕ}
+use Prim.Native.Nat.{ℕ, _+_}
 use mathlib.Core.Bool.{Bool, not, _&&_}
 use mathlib.Core.List.{List}
-use lib.ListN.{drop}
+use lib.ListN.{length, drop}
 use lib.Dec.{eqb}
 use Rattle.text.specs.Bytes.{edge, before}
 use Rattle.text.specs.Lines.{trimEnd, cut}
@@ -19,6 +19,10 @@ restAt s at = before inside (drop at s)
 unfoldable pub leftAt : List ℕ → ℕ → List ℕ
 leftAt s at = trimEnd (cut (restAt s at))
 
--- A byte that an end of a line loses.
+-- Where the line ends.
+unfoldable pub endAt : List ℕ → ℕ → ℕ
+endAt s at = at + length (restAt s at)
+
+-- A byte that an end of a line loses, byte 10 aside, which ends the line.
 unfoldable pub margin : ℕ → Bool
-margin b = edge b && inside b
+margin b = inside b && edge b

@@ -1,4 +1,6 @@
-// placeholder
-pub fn zero() -> u8 {
-    0
-}
+// The text layer: bytes, numbers, register names, tokens and the record of a line.
+pub mod bytes;
+pub mod lexer;
+pub mod number;
+pub mod parser;
+pub mod register;

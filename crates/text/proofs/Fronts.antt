@@ -1,0 +1,358 @@
+-- The token at a place of a text, in the code's terms: the text, the place, and where the scanner stopped.
+use mathlib.Core.Path.{_≡_, refl, sym, ap, _∙_}
+use Prim.Native.Nat.{ℕ, zero, suc, _+_, _-_, _^_, _≤_, _<_}
+use native.Mathlib.Omega.{arith}
+use native.Mathlib.Numerals.{add-one}
+use mathlib.Core.Bool.{Bool, true, false, _||_}
+use mathlib.Core.Logic.{_⊎_, inl, inr}
+use mathlib.Core.List.{List, [], _∷_}
+use mathlib.Core.Option.{Option, none, some}
+use lib.ListN.{length, take, drop, getD, length-drop, drop-of-length-le}
+use lib.Seq.{drop-cons}
+use lib.Dec.{leb, ltb, eqb}
+use lib.IntN.{ℤ, pos}
+use borrow.Author.Tests.{eqb-true, ne-eqb, lt-ltb, le-ltb, le-leb, lt-leb}
+use Rattle.text.specs.Bytes.{bytes, between, letter, digit, hexDigit, binaryDigit, mark, nameStart, namePart, every, before, run, isSome, each}
+use Rattle.text.specs.Numbers.{valueOf, minus}
+use Rattle.text.specs.Names.{Name, name, named, numbered, conventional, present}
+use Rattle.text.specs.Tokens.{isIdentifier, isRegister, Class, Register, Identifier, Number, Hex, Binary, Directive, Mark, longest, Token, identifier, register, number, hex, binary, directive, comma, colon, opening, closing, within, numberToken, patternToken, registerToken, markToken, tokenOf, Sized, sized, matched, front}
+use Rattle.text.specs.Contracts.{kindMeant, meant, nameMeant, nameNumber, At}
+use Rattle.text.specs.declared.lexer.Kind.{Kind}
+use Rattle.text.specs.declared.lexer.Kind.the-variants.{Identifier as IdentifierKind, Register as RegisterKind, NoRegister}
+use Rattle.text.specs.declared.lexer.Scan.the-variants.{Found, Bad, End}
+use Rattle.text.specs.declared.parser.RegisterName.{RegisterName}
+use Rattle.text.specs.declared.parser.RegisterName.the-variants.{Is, NoSuch, Other}
+use Rattle.text.proofs.Tests.{split, by-test}
+use Rattle.text.proofs.Strings.{take-run, run-le}
+use Rattle.text.proofs.Scanning.{matching, wordClass, atLeastOne, radixOr, digitScan, dotScan, scan, longest-scan, digit-from, digit-not-start}
+use Rattle.text.proofs.Tokens.{front-scan}
+
+-- ---- places
+
+-- A run ends within the line
+pub run-in : (p : ℕ → Bool) (s : List ℕ) (i : ℕ) → i ≤ length s → i + run p (drop i s) ≤ length s
+run-in p s i h = omega (arith, run-le p (drop i s), length-drop i s)
+
+-- The part from a place on begins with the byte there
+pub part-cons : (s : List ℕ) (at e : ℕ) → at < e → at < length s → take (e - at) (drop at s) ≡ getD s at 0 ∷ take (e - (at + 1)) (drop (at + 1) s)
+part-cons s at e h l =
+    let q : e - at ≡ suc (e - (at + 1)) = omega arith in
+    rw (q, drop-cons s at 0 l, add-one at)
+
+-- ---- the answers
+
+pub at-found : (s : List ℕ) (at e : ℕ) (k : Kind) → at ≤ e → e ≤ length s
+    → front present (drop at s) ≡ sized (e - at) (some (kindMeant k (take (e - at) (drop at s))))
+    → At s at (Found (record { kind = k; start = at; length = e - at }) e)
+unfolding sized
+at-found s at e k h l q = (q, refl, omega arith, l)
+
+pub names-ok : each (λ n. isIdentifier (n .spelling)) present ≡ true
+unfolding each present numbered conventional name bytes isIdentifier every nameStart namePart letter digit between
+names-ok = refl
+
+-- What the text begins with is what the scan finds.
+pub front-found : (s : List ℕ) (n : ℕ) (c : Class) → scan present s ≡ some (matching n c) → front present s ≡ sized n (tokenOf present c (take n s))
+unfolding matched matching
+front-found s n c h = front-scan present names-ok s ∙ rw h
+
+pub front-none : (s : List ℕ) → scan present s ≡ none → front present s ≡ none
+unfolding matched
+front-none s h = front-scan present names-ok s ∙ rw h
+
+-- The longest match is what the scan finds.
+pub longest-found : (s : List ℕ) (n : ℕ) (c : Class) → scan present s ≡ some (matching n c) → longest present s (length s) ≡ some (record { size = n; class = c })
+unfolding matching
+longest-found s n c h = longest-scan present names-ok s ∙ h
+
+pub found-longest : (s : List ℕ) (n : ℕ) (c : Class) → longest present s (length s) ≡ some (record { size = n; class = c }) → scan present s ≡ some (matching n c)
+unfolding matching
+found-longest s n c h = sym (longest-scan present names-ok s) ∙ h
+
+-- ---- a word
+
+scan-word : (b : ℕ) (t : List ℕ) → nameStart b ≡ true
+    → scan present (b ∷ t) ≡ some (matching (suc (run namePart t)) (wordClass (isRegister present (b ∷ before namePart t))))
+unfolding scan
+scan-word b t h = rw (scan, h)
+
+pub word-front : (s : List ℕ) (at e : ℕ) → at < length s → nameStart (getD s at 0) ≡ true → e ≡ at + 1 + run namePart (drop (at + 1) s)
+    → front present (drop at s)
+    ≡ sized (e - at) (tokenOf present (wordClass (isRegister present (take (e - at) (drop at s)))) (take (e - at) (drop at s)))
+word-front s at e l h q =
+    let t = drop (suc at) s in
+    let q′ : e - at ≡ suc (run namePart (drop (suc at) s)) = omega (arith, rw (add-one at) at q) in
+    rw (q′, drop-cons s at 0 l, take-run namePart t)
+    (front-found (getD s at 0 ∷ t) (suc (run namePart t)) (wordClass (isRegister present (getD s at 0 ∷ before namePart t))) (scan-word (getD s at 0) t h) ∙ rw (take-run namePart t))
+
+-- The token of a word, by the number that its name has.
+wordMeant : Option (Option ℕ) → List ℕ → Token
+wordMeant (some r) u = register r
+wordMeant none u = identifier u
+
+word-token : (u : List ℕ) → tokenOf present (wordClass (isRegister present u)) u ≡ some (wordMeant (nameNumber (named present u)) u)
+unfolding isRegister isSome tokenOf registerToken wordClass wordMeant
+word-token u = go (named present u) refl
+  where
+    go : (o : Option Name) → named present u ≡ o → tokenOf present (wordClass (isSome o)) u ≡ some (wordMeant (nameNumber o) u)
+    go none e = refl
+    go (some n) e = rw e
+
+-- A name's meaning, and the kind of token that it makes.
+abbrev pub nameKind : RegisterName → Kind
+nameKind (Is r) = RegisterKind r
+nameKind NoSuch = NoRegister
+nameKind Other = IdentifierKind
+
+kind-word : (n : RegisterName) (u : List ℕ) → wordMeant (nameMeant n) u ≡ kindMeant (nameKind n) u
+unfolding wordMeant
+kind-word (Is r) u = refl
+kind-word NoSuch u = refl
+kind-word Other u = refl
+
+pub word-at : (s : List ℕ) (at e : ℕ) (n : RegisterName) → at < length s → nameStart (getD s at 0) ≡ true → e ≡ at + 1 + run namePart (drop (at + 1) s)
+    → nameMeant n ≡ nameNumber (named present (take (e - at) (drop at s))) → At s at (Found (record { kind = nameKind n; start = at; length = e - at }) e)
+word-at s at e n l h q m =
+    let u = take (e - at) (drop at s) in
+    let r = run-in namePart s (at + 1) (omega (arith, add-one at)) in
+    at-found s at e (nameKind n) (omega arith) (omega arith)
+    (word-front s at e l h q ∙ ap (sized (e - at)) (word-token u ∙ ap (λ (o : Option (Option ℕ)). some (wordMeant o u)) (sym m) ∙ ap some (kind-word n u)))
+
+-- ---- a number
+
+digit-no-minus : (b : ℕ) → digit b ≡ true → eqb b 45 ≡ false
+digit-no-minus b h = let l = digit-from b h in ne-eqb b 45 (λ e. omega arith)
+
+pub decimal-fits : (s : List ℕ) (at e v : ℕ) → at < e → e ≤ length s → digit (getD s at 0) ≡ true
+    → scan present (drop at s) ≡ some (matching (e - at) Number) → valueOf 10 (take (e - at) (drop at s)) ≡ v → v < 2 ^ 63
+    → front present (drop at s) ≡ sized (e - at) (some (number (pos v)))
+unfolding tokenOf numberToken within
+decimal-fits s at e v h l d q k m =
+    front-found (drop at s) (e - at) Number q
+    ∙ ap (sized (e - at)) (rw (part-cons s at e h (omega arith)) (go _ (rw (part-cons s at e h (omega arith)) at k)))
+  where
+    go : (u : List ℕ) → valueOf 10 (getD s at 0 ∷ u) ≡ v → numberToken (getD s at 0 ∷ u) ≡ some (number (pos v))
+    go u k′ = rw (numberToken, digit-no-minus (getD s at 0) d, k′, lt-ltb v (2 ^ 63) m)
+
+pub decimal-large : (s : List ℕ) (at e : ℕ) → at < e → e ≤ length s → digit (getD s at 0) ≡ true
+    → scan present (drop at s) ≡ some (matching (e - at) Number) → 2 ^ 63 ≤ valueOf 10 (take (e - at) (drop at s))
+    → front present (drop at s) ≡ none
+unfolding tokenOf numberToken within sized
+decimal-large s at e h l d q m =
+    let z : numberToken (take (e - at) (drop at s)) ≡ none = rw (part-cons s at e h (omega arith)) (go _ (rw (part-cons s at e h (omega arith)) at m)) in
+    front-found (drop at s) (e - at) Number q ∙ rw z
+  where
+    go : (u : List ℕ) → 2 ^ 63 ≤ valueOf 10 (getD s at 0 ∷ u) → numberToken (getD s at 0 ∷ u) ≡ none
+    go u m′ = rw (numberToken, digit-no-minus (getD s at 0) d, le-ltb _ (2 ^ 63) m′)
+
+digits-one : (b : ℕ) → digitScan b [] ≡ matching (suc (run digit [])) Number
+unfolding digitScan run before
+digits-one b = refl
+
+digits-two : (b x : ℕ) (h : List ℕ) → (b ≡ 48 → (x ≡ 120 → ⊥) × (x ≡ 98 → ⊥)) → digitScan b (x ∷ h) ≡ matching (suc (run digit (x ∷ h))) Number
+unfolding digitScan
+digits-two b x h g =
+    by-test (eqb b 48)
+    (λ t. let k = g (eqb-true b 48 t) in rw (digitScan, t, ne-eqb x 120 (k .0), ne-eqb x 98 (k .1)))
+    (λ t. rw (digitScan, t))
+
+-- Digits that no 0x or 0b begins
+pub digits-scan : (s : List ℕ) (at e : ℕ) → at < length s → digit (getD s at 0) ≡ true → e ≡ at + 1 + run digit (drop (at + 1) s)
+    → (getD s at 0 ≡ 48 → at + 1 < length s → (getD s (at + 1) 0 ≡ 120 → ⊥) × (getD s (at + 1) 0 ≡ 98 → ⊥))
+    → scan present (drop at s) ≡ some (matching (e - at) Number)
+unfolding scan
+digits-scan s at e l d q f =
+    let q′ : e - at ≡ suc (run digit (drop (suc at) s)) = omega (arith, rw (add-one at) at q) in
+    rw (q′, drop-cons s at 0 l, scan, digit-not-start (getD s at 0) d, d)
+    (ap some (split (suc at) (length s)
+    (λ m. rw (drop-cons s (suc at) 0 m) (digits-two (getD s at 0) (getD s (suc at) 0) (drop (suc (suc at)) s) (λ z. rw (← add-one at) (f z (omega arith)))))
+    (λ m. rw (drop-of-length-le s m) (digits-one (getD s at 0)))))
+
+-- A minus
+scan-minus : (t : List ℕ) → scan present (45 ∷ t) ≡ atLeastOne Number (run digit t)
+unfolding scan nameStart letter digit between
+scan-minus t = refl
+
+scan-minus-none : (t : List ℕ) → run digit t ≡ 0 → scan present (45 ∷ t) ≡ none
+unfolding atLeastOne
+scan-minus-none t r = scan-minus t ∙ rw r
+
+scan-minus-some : (t : List ℕ) (n : ℕ) → run digit t ≡ suc n → scan present (45 ∷ t) ≡ some (matching (suc (suc n)) Number)
+unfolding atLeastOne
+scan-minus-some t n r = scan-minus t ∙ rw r
+
+pub minus-none : (s : List ℕ) (at e : ℕ) → at < length s → getD s at 0 ≡ 45 → e ≡ at + 1 + run digit (drop (at + 1) s) → e ≡ at + 1
+    → front present (drop at s) ≡ none
+minus-none s at e l b q z =
+    let r : run digit (drop (suc at) s) ≡ 0 = omega (arith, rw (add-one at) at q) in
+    rw (drop-cons s at 0 l, b) (front-none (45 ∷ drop (suc at) s) (scan-minus-none (drop (suc at) s) r))
+
+minus-front : (s : List ℕ) (at e : ℕ) → at < length s → getD s at 0 ≡ 45 → e ≡ at + 1 + run digit (drop (at + 1) s) → (e ≡ at + 1 → ⊥)
+    → front present (drop at s) ≡ sized (e - at) (numberToken (45 ∷ take (e - (at + 1)) (drop (at + 1) s)))
+unfolding tokenOf
+minus-front s at e l b q z =
+    let c = run-in digit s (at + 1) (omega (arith, add-one at)) in
+    front-found (drop at s) (e - at) Number scanned-as
+    ∙ rw (part-cons s at e (omega arith) l, b)
+  where
+    scanned-as : scan present (drop at s) ≡ some (matching (e - at) Number)
+    scanned-as =
+        let r : run digit (drop (suc at) s) ≡ suc (e - (at + 2)) = omega (arith, rw (add-one at) at q) in
+        let w : e - at ≡ suc (suc (e - (at + 2))) = omega (arith, rw (add-one at) at q) in
+        rw (w, drop-cons s at 0 l, b) (scan-minus-some (drop (suc at) s) (e - (at + 2)) r)
+
+number-minus : (u : List ℕ) (v : ℕ) → valueOf 10 u ≡ v → v ≤ 2 ^ 63 → numberToken (45 ∷ u) ≡ some (number (minus v))
+unfolding numberToken within
+number-minus u v k m = rw (numberToken, le-leb (valueOf 10 u) (2 ^ 63) (omega arith)) (ap (λ (n : ℕ). some (number (minus n))) k)
+
+number-minus-large : (u : List ℕ) → 2 ^ 63 < valueOf 10 u → numberToken (45 ∷ u) ≡ none
+unfolding numberToken within
+number-minus-large u m = rw (numberToken, lt-leb (valueOf 10 u) (2 ^ 63) m)
+
+pub minus-fits : (s : List ℕ) (at e v : ℕ) → at < length s → getD s at 0 ≡ 45 → e ≡ at + 1 + run digit (drop (at + 1) s) → (e ≡ at + 1 → ⊥)
+    → valueOf 10 (take (e - (at + 1)) (drop (at + 1) s)) ≡ v → v ≤ 2 ^ 63
+    → front present (drop at s) ≡ sized (e - at) (some (number (minus v)))
+minus-fits s at e v l b q z k m = minus-front s at e l b q z ∙ ap (sized (e - at)) (number-minus _ v k m)
+
+pub minus-large : (s : List ℕ) (at e : ℕ) → at < length s → getD s at 0 ≡ 45 → e ≡ at + 1 + run digit (drop (at + 1) s) → (e ≡ at + 1 → ⊥)
+    → 2 ^ 63 < valueOf 10 (take (e - (at + 1)) (drop (at + 1) s)) → front present (drop at s) ≡ none
+unfolding sized
+minus-large s at e l b q z m = minus-front s at e l b q z ∙ ap (sized (e - at)) (number-minus-large _ m)
+
+-- 0x and 0b
+pub hex-scan : (h : List ℕ) → digitScan 48 (120 ∷ h) ≡ radixOr Hex (run hexDigit h)
+unfolding digitScan
+hex-scan h = refl
+
+pub binary-scan : (h : List ℕ) → digitScan 48 (98 ∷ h) ≡ radixOr Binary (run binaryDigit h)
+unfolding digitScan
+binary-scan h = refl
+
+zero-first : (t : List ℕ) → scan present (48 ∷ t) ≡ some (digitScan 48 t)
+unfolding scan nameStart letter digit between
+zero-first t = refl
+
+-- What the two have in common: the second byte, the class and the token class are given, with what the scan then is
+module _ (x : ℕ) (p : ℕ → Bool) (c : Class) (scan-is : (h : List ℕ) → digitScan 48 (x ∷ h) ≡ radixOr c (run p h)) where
+  pub radix-none : (s : List ℕ) (at e : ℕ) → at + 1 < length s → getD s at 0 ≡ 48 → getD s (at + 1) 0 ≡ x
+      → e ≡ at + 2 + run p (drop (at + 2) s) → e ≡ at + 2 → scan present (drop at s) ≡ some (matching (at + 1 - at) Number)
+  unfolding radixOr
+  radix-none s at e l b y q z =
+      let w : at + 1 - at ≡ 1 = omega arith in
+      let v : at + 2 ≡ suc (suc at) = omega arith in
+      let r : run p (drop (suc (suc at)) s) ≡ 0 = omega (arith, rw v at q) in
+      rw (w, drop-cons s at 0 (omega arith), b, drop-cons s (suc at) 0 (omega arith), rw (add-one at) at y)
+      (zero-first (x ∷ drop (suc (suc at)) s) ∙ ap some (scan-is (drop (suc (suc at)) s) ∙ ap (radixOr c) r))
+
+  pub radix-some : (s : List ℕ) (at e : ℕ) → at + 1 < length s → getD s at 0 ≡ 48 → getD s (at + 1) 0 ≡ x
+      → e ≡ at + 2 + run p (drop (at + 2) s) → (e ≡ at + 2 → ⊥) → scan present (drop at s) ≡ some (matching (e - at) c)
+  unfolding radixOr
+  radix-some s at e l b y q z =
+      let v : at + 2 ≡ suc (suc at) = omega arith in
+      let r : run p (drop (suc (suc at)) s) ≡ suc (e - (at + 3)) = omega (arith, rw v at q) in
+      let w : e - at ≡ suc (suc (suc (e - (at + 3)))) = omega (arith, rw v at q) in
+      rw (w, drop-cons s at 0 (omega arith), b, drop-cons s (suc at) 0 (omega arith), rw (add-one at) at y)
+      (zero-first (x ∷ drop (suc (suc at)) s) ∙ ap some (scan-is (drop (suc (suc at)) s) ∙ ap (radixOr c) r))
+
+-- What stands behind `0x`
+pub part-two : (s : List ℕ) (at e : ℕ) → at + 2 ≤ e → e ≤ length s → drop 2 (take (e - at) (drop at s)) ≡ take (e - (at + 2)) (drop (at + 2) s)
+part-two s at e h l =
+    let v : at + 1 + 1 ≡ at + 2 = omega arith in
+    rw (part-cons s at e (omega arith) (omega arith), part-cons s (at + 1) e (omega arith) (omega arith), v)
+
+-- ---- a directive and a mark
+
+dot-first : (t : List ℕ) → scan present (46 ∷ t) ≡ dotScan t
+unfolding scan nameStart letter digit between
+dot-first t = refl
+
+pub directive-none : (s : List ℕ) (at : ℕ) → at < length s → getD s at 0 ≡ 46 → (at + 1 < length s → nameStart (getD s (at + 1) 0) ≡ false)
+    → front present (drop at s) ≡ none
+unfolding dotScan
+directive-none s at l b f =
+    rw (drop-cons s at 0 l, b) (front-none (46 ∷ drop (suc at) s) (dot-first (drop (suc at) s) ∙
+    split (suc at) (length s)
+    (λ m. rw (drop-cons s (suc at) 0 m, dotScan, rw (add-one at) at (f (omega arith))))
+    (λ m. rw (drop-of-length-le s m))))
+
+pub directive-front : (s : List ℕ) (at e : ℕ) → at + 1 < length s → getD s at 0 ≡ 46 → nameStart (getD s (at + 1) 0) ≡ true
+    → e ≡ at + 1 + 1 + run namePart (drop (at + 1 + 1) s)
+    → front present (drop at s) ≡ sized (e - at) (some (directive (drop 1 (take (e - at) (drop at s)))))
+unfolding dotScan tokenOf
+directive-front s at e l b n q =
+    let v : at + 1 + 1 ≡ suc (suc at) = omega arith in
+    let w : e - at ≡ suc (suc (run namePart (drop (suc (suc at)) s))) = omega (arith, rw v at q) in
+    front-found (drop at s) (e - at) Directive
+    (rw (w, drop-cons s at 0 (omega arith), b, drop-cons s (suc at) 0 (omega arith))
+    (dot-first (getD s (suc at) 0 ∷ drop (suc (suc at)) s) ∙ rw (dotScan, rw (add-one at) at n)))
+
+scan-mark : (b : ℕ) (t : List ℕ) → nameStart b ≡ false → digit b ≡ false → (b ≡ 45 → ⊥) → (b ≡ 46 → ⊥) → mark b ≡ true → scan present (b ∷ t) ≡ some (matching 1 Mark)
+unfolding scan
+scan-mark b t n d m p k = rw (scan, n, d, ne-eqb b 45 m, ne-eqb b 46 p, k)
+
+scan-bad : (b : ℕ) (t : List ℕ) → nameStart b ≡ false → digit b ≡ false → (b ≡ 45 → ⊥) → (b ≡ 46 → ⊥) → mark b ≡ false → scan present (b ∷ t) ≡ none
+unfolding scan
+scan-bad b t n d m p k = rw (scan, n, d, ne-eqb b 45 m, ne-eqb b 46 p, k)
+
+pub mark-none : (s : List ℕ) (at : ℕ) → at < length s → nameStart (getD s at 0) ≡ false → digit (getD s at 0) ≡ false
+    → (getD s at 0 ≡ 45 → ⊥) → (getD s at 0 ≡ 46 → ⊥) → mark (getD s at 0) ≡ false → front present (drop at s) ≡ none
+mark-none s at l n d m p k = rw (drop-cons s at 0 l) (front-none _ (scan-bad (getD s at 0) (drop (suc at) s) n d m p k))
+
+pub mark-front : (s : List ℕ) (at : ℕ) (t : Token) → at < length s → nameStart (getD s at 0) ≡ false → digit (getD s at 0) ≡ false
+    → (getD s at 0 ≡ 45 → ⊥) → (getD s at 0 ≡ 46 → ⊥) → mark (getD s at 0) ≡ true → markToken (getD s at 0 ∷ []) ≡ some t
+    → front present (drop at s) ≡ sized 1 (some t)
+unfolding tokenOf
+mark-front s at t l n d m p k e =
+    rw (drop-cons s at 0 l) (front-found (getD s at 0 ∷ drop (suc at) s) 1 Mark (scan-mark (getD s at 0) (drop (suc at) s) n d m p k) ∙ ap (sized 1) e)
+
+-- ---- what `0x` and `0b` mean
+
+pattern-fits : (make : ℕ → Token) (radix : ℕ) (u : List ℕ) (v : ℕ) → valueOf radix (drop 2 u) ≡ v → v < 2 ^ 64 → patternToken make radix u ≡ some (make v)
+unfolding patternToken within
+pattern-fits make radix u v k m = rw (k, lt-ltb v (2 ^ 64) m)
+
+pattern-large : (make : ℕ → Token) (radix : ℕ) (u : List ℕ) → 2 ^ 64 ≤ valueOf radix (drop 2 u) → patternToken make radix u ≡ none
+unfolding patternToken within
+pattern-large make radix u m = rw (le-ltb (valueOf radix (drop 2 u)) (2 ^ 64) m)
+
+module _ (c : Class) (make : ℕ → Token) (radix : ℕ) (token-is : (u : List ℕ) → tokenOf present c u ≡ patternToken make radix u) where
+  pub radix-fits : (s : List ℕ) (at e v : ℕ) → at + 2 ≤ e → e ≤ length s → scan present (drop at s) ≡ some (matching (e - at) c)
+      → valueOf radix (take (e - (at + 2)) (drop (at + 2) s)) ≡ v → v < 2 ^ 64
+      → front present (drop at s) ≡ sized (e - at) (some (make v))
+  radix-fits s at e v h l q k m =
+      front-found (drop at s) (e - at) c q
+      ∙ ap (sized (e - at)) (token-is (take (e - at) (drop at s)) ∙ pattern-fits make radix _ v (ap (valueOf radix) (part-two s at e h l) ∙ k) m)
+
+  pub radix-large : (s : List ℕ) (at e : ℕ) → at + 2 ≤ e → e ≤ length s → scan present (drop at s) ≡ some (matching (e - at) c)
+      → 2 ^ 64 ≤ valueOf radix (take (e - (at + 2)) (drop (at + 2) s)) → front present (drop at s) ≡ none
+  unfolding sized
+  radix-large s at e h l q m =
+      front-found (drop at s) (e - at) c q
+      ∙ ap (sized (e - at)) (token-is (take (e - at) (drop at s)) ∙ pattern-large make radix _ (rw (part-two s at e h l) m))
+
+pub hex-means : (u : List ℕ) → tokenOf present Hex u ≡ patternToken hex 16 u
+unfolding tokenOf
+hex-means u = refl
+
+pub binary-means : (u : List ℕ) → tokenOf present Binary u ≡ patternToken binary 2 u
+unfolding tokenOf
+binary-means u = refl
+
+pub zero-is-digit : (b : ℕ) → b ≡ 48 → digit b ≡ true
+unfolding digit between
+zero-is-digit b e = rw e
+
+-- The marks
+pub mark-yes : (b : ℕ) → (b ≡ 44) ⊎ ((b ≡ 58) ⊎ ((b ≡ 40) ⊎ (b ≡ 41))) → mark b ≡ true
+unfolding mark
+mark-yes b (inl e) = rw e
+mark-yes b (inr (inl e)) = rw e
+mark-yes b (inr (inr (inl e))) = rw e
+mark-yes b (inr (inr (inr e))) = rw e
+
+pub mark-no : (b : ℕ) → (b ≡ 44 → ⊥) → (b ≡ 58 → ⊥) → (b ≡ 40 → ⊥) → (b ≡ 41 → ⊥) → mark b ≡ false
+unfolding mark
+mark-no b f g h k = rw (ne-eqb b 44 f, ne-eqb b 58 g, ne-eqb b 40 h, ne-eqb b 41 k)
+
+pub mark-token : (b k : ℕ) (t : Token) → b ≡ k → markToken (k ∷ []) ≡ some t → markToken (b ∷ []) ≡ some t
+mark-token b k t e h = rw e h

@@ -1,0 +1,89 @@
+-- `text::lexer::front` meets its contract.
+use mathlib.Core.Path.{_≡_, sym, ap, _∙_}
+use Prim.Native.Nat.{_+_, _-_, _≤_, _<_}
+use native.Mathlib.Omega.{arith}
+use lib.ListN.{length, take, drop, getD}
+use Rattle.text.proofs.Left.{start-solid, digit-solid, high-solid}
+use Rattle.text.proofs.Stepping.{solid-step}
+use borrow.Author.Needs.{needs}
+use Rattle.text.proofs.lexer.front.Statement.{statement}
+use Rattle.text.proofs.lexer.front.Tie as tie
+
+shared-slice-read-b : tie.Need-shared-slice-read-b
+shared-slice-read-b c = search needs
+
+is-name-start-requires : tie.Need-is-name-start-requires
+is-name-start-requires c κs = search needs
+
+word-requires : tie.Need-word-requires
+word-requires c κs = (c .before .before .before .before .pre .0, sym (c .before .is-name-start .ensures) ∙ c .if1 .taken)
+
+returns : tie.Need-returns
+returns c =
+    let n = c .before .before in
+    let r = n .before .before .before in
+    solid-step (r .args .text .now) (r .args .at) (c .word .result) (r .pre .0) (start-solid _ (sym (n .is-name-start .ensures) ∙ c .before .if1 .taken)) (c .word .ensures)
+
+is-digit-requires : tie.Need-is-digit-requires
+is-digit-requires c κs = search needs
+
+digits-requires : tie.Need-digits-requires
+digits-requires c κs = (c .before .before .before .before .before .before .pre .0, sym (c .before .is-digit .ensures) ∙ c .if2 .taken)
+
+returns-2 : tie.Need-returns-2
+returns-2 c =
+    let d = c .before .before in
+    let r = d .before .before .before .before .before in
+    solid-step (r .args .text .now) (r .args .at) (c .digits .result) (r .pre .0) (digit-solid _ (sym (d .is-digit .ensures) ∙ c .before .if2 .taken)) (c .digits .ensures)
+
+minus-requires : tie.Need-minus-requires
+minus-requires c κs = search needs
+
+returns-3 : tie.Need-returns-3
+returns-3 c =
+    let r = c .before .before .before .before .before .before .before .before in
+    solid-step (r .args .text .now) (r .args .at) (c .minus .result) (r .pre .0) (high-solid _ (omega (arith, c .before .if3 .taken))) (c .minus .ensures)
+
+directive-requires : tie.Need-directive-requires
+directive-requires c κs = search needs
+
+returns-4 : tie.Need-returns-4
+returns-4 c =
+    let r = c .before .before .before .before .before .before .before .before .before in
+    solid-step (r .args .text .now) (r .args .at) (c .directive .result) (r .pre .0) (high-solid _ (omega (arith, c .before .if4 .taken))) (c .directive .ensures)
+
+mark-or-ending-requires : tie.Need-mark-or-ending-requires
+mark-or-ending-requires c κs =
+    let d = c .before .before .before in
+    let n = d .before .before in
+    let r = n .before .before .before in (
+      r .pre .0,
+      record {
+        no-blank = r .pre .1;
+        no-start = sym (n .is-name-start .ensures) ∙ d .before .if1 .left;
+        no-digit = sym (d .is-digit .ensures) ∙ c .before .before .if2 .left;
+        no-minus = c .before .if3 .left;
+        no-dot = c .if4 .left;
+      },
+    )
+
+returns-5 : tie.Need-returns-5
+returns-5 c = search needs
+
+pub front-spec : {M : Type 1} → statement M
+front-spec =
+    tie.close
+    (tie.spec
+    shared-slice-read-b
+    is-name-start-requires
+    word-requires
+    returns
+    is-digit-requires
+    digits-requires
+    returns-2
+    minus-requires
+    returns-3
+    directive-requires
+    returns-4
+    mark-or-ending-requires
+    returns-5)

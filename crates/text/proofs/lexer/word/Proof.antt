@@ -1,0 +1,89 @@
+-- `text::lexer::word` meets its contract.
+use mathlib.Core.Path.{_≡_, sym, ap, _∙_}
+use Prim.Native.Nat.{_+_, _-_, _≤_, _<_}
+use native.Mathlib.Omega.{arith}
+use lib.ListN.{length}
+use Rattle.text.specs.Bytes.{namePart}
+use Rattle.text.specs.Contracts.{nameMeant, At}
+use Rattle.text.specs.declared.lexer.Scan.the-variants.{Found}
+use Rattle.text.specs.declared.parser.RegisterName.{RegisterName}
+use Rattle.text.proofs.Fronts.{run-in, nameKind, word-at}
+use borrow.Author.Needs.{needs}
+use Rattle.text.proofs.lexer.word.Statement.{statement}
+use Rattle.text.proofs.lexer.word.Tie as tie
+
+-- what stands at the place, by what the spelling names
+word-is : (c : tie.After-parse-register) (n : RegisterName) → c .parse-register .result ≡ n
+    → let r = c .before .before in let a = r .before .before .args in
+    At (a .text .now) (a .at) (Found (record { kind = nameKind n; start = a .at; length = r .run-end .result - a .at }) (r .run-end .result))
+word-is c n e =
+    let r = c .before .before in
+    let a = r .before .before .args in
+    word-at (a .text .now) (a .at) (r .run-end .result) n (r .before .before .pre .0) (r .before .before .pre .1) (r .run-end .ensures) (ap nameMeant (sym e) ∙ c .parse-register .ensures)
+
+add-run-end : tie.Need-add-run-end
+add-run-end c = search needs
+
+run-end-requires : tie.Need-run-end-requires
+run-end-requires c κs = search needs
+
+sub-parse-register : tie.Need-sub-parse-register
+sub-parse-register c = search needs
+
+part-parse-register-start : tie.Need-part-parse-register-start
+part-parse-register-start c = search needs
+
+part-parse-register-end : tie.Need-part-parse-register-end
+part-parse-register-end c =
+    let a = c .before .before .args in
+    omega (arith, c .run-end .ensures, run-in namePart (a .text .now) (a .at + 1) (omega (arith, c .before .before .pre .0)))
+
+parse-register-requires : tie.Need-parse-register-requires
+parse-register-requires c κs = search needs
+
+enum-known-register : tie.Need-enum-known-register
+enum-known-register c = search needs
+
+found-requires : tie.Need-found-requires
+found-requires c κs = search needs
+
+enum-told : tie.Need-enum-told
+enum-told c = search needs
+
+found-requires-2 : tie.Need-found-requires-2
+found-requires-2 c κs = search needs
+
+enum-told-2 : tie.Need-enum-told-2
+enum-told-2 c = search needs
+
+found-requires-3 : tie.Need-found-requires-3
+found-requires-3 c κs = search needs
+
+returns : tie.Need-returns
+returns c = rw (c .found .ensures) (word-is (c .before .before .before .before) _ (c .before .before .register .given .1))
+
+returns-2 : tie.Need-returns-2
+returns-2 c = rw (c .found2 .ensures) (word-is (c .before .before .before) _ (c .before .enum-told .given .1))
+
+returns-3 : tie.Need-returns-3
+returns-3 c = rw (c .found3 .ensures) (word-is (c .before .before .before) _ (c .before .enum-told2 .given .1))
+
+pub word-spec : {M : Type 1} → statement M
+word-spec =
+    tie.close
+    (tie.spec
+    add-run-end
+    run-end-requires
+    sub-parse-register
+    part-parse-register-start
+    part-parse-register-end
+    parse-register-requires
+    enum-known-register
+    found-requires
+    enum-told
+    found-requires-2
+    enum-told-2
+    found-requires-3
+    returns
+    returns-2
+    returns-3)

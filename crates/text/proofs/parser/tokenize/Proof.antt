@@ -1,0 +1,113 @@
+-- `text::parser::tokenize` meets its contract. The loop's invariant: what is kept of the line is what is kept of the tokens read so far
+-- with those that are left to read.
+use Prim.Native.Nat.{_-_}
+use mathlib.Core.Path.{_≡_}
+use native.Mathlib.Omega.{arith}
+use mathlib.Core.Logic.{⊎-elim}
+use lib.ListN.{length}
+use borrow.Author.Needs.{needs}
+use Rattle.text.specs.Contracts.{Stepped}
+use Rattle.text.specs.declared.lexer.Scan.the-variants.{Found, End}
+use Rattle.text.proofs.Recording.{Reading, reading-begin, reading-store, reading-full, reading-end, reading-bad}
+use Rattle.text.proofs.parser.tokenize.Statement.{statement}
+use Rattle.text.proofs.parser.tokenize.Tie as tie
+
+abbrev Inv-loop : tie.InvT-loop
+Inv-loop text from tokens₀ count₀ at₀ tokens count at = Reading text from tokens count at
+
+abbrev μ-loop : tie.MeasureT-loop
+μ-loop text from tokens₀ count₀ at₀ tokens count at = length text - at
+
+run-end-requires : tie.Need-run-end-requires Inv-loop μ-loop
+run-end-requires c κs = search needs
+
+loop-holds : tie.Need-loop-holds Inv-loop μ-loop
+loop-holds c =
+    let a = c .before .before .args in
+    reading-begin (a .text .now) (a .from) (c .run-end .result) (c .before .before .pre) (c .run-end .ensures)
+
+next-token-requires : tie.Need-next-token-requires Inv-loop μ-loop
+next-token-requires c κs = c .loop .inv .place
+
+enum-known-stop : tie.Need-enum-known-stop Inv-loop μ-loop
+enum-known-stop c = search needs
+
+-- the end of what is to be read
+stopped : (c : tie.After-stop Inv-loop μ-loop) → let b = c .before .before .before in
+    Stepped (b .before .before .before .args .text .now) (b .loop .at) (End (c .stop .given .0 .0))
+stopped c = rw (c .stop .given .1) at (c .before .before .next-token .ensures)
+
+run-end-requires-2 : tie.Need-run-end-requires-2 Inv-loop μ-loop
+run-end-requires-2 c κs = stopped (c .before) .leads .1
+
+returns : tie.Need-returns Inv-loop μ-loop
+returns c =
+    let k = c .before .before in
+    let b = k .before .before .before in
+    let a = b .before .before .before .args in
+    reading-end (a .text .now) (a .from) (b .loop .tokens) (b .loop .count) (b .loop .at) (k .stop .given .0 .0) (c .run-end2 .result) (b .loop .inv) (stopped k) (c .run-end2 .ensures)
+
+enum-told : tie.Need-enum-told Inv-loop μ-loop
+enum-told c = search needs
+
+returns-2 : tie.Need-returns-2 Inv-loop μ-loop
+returns-2 c =
+    let b = c .before .before .before in
+    let a = b .before .before .before .args in
+    reading-bad (a .text .now) (a .from) (b .loop .tokens) (b .loop .count) (b .loop .at) (b .loop .at) (b .loop .inv) (rw (c .enum-told .given .1) at (c .before .before .next-token .ensures))
+
+enum-known-token : tie.Need-enum-known-token Inv-loop μ-loop
+enum-known-token c = search needs
+
+-- the token found, and the place behind it
+step : (c : tie.After-token Inv-loop μ-loop) → let b = c .before .before .before in
+    Stepped (b .before .before .before .args .text .now) (b .loop .at) (Found (c .token .given .0 .0) (c .token .given .0 .1 .0))
+step c = rw (c .token .given .1) at (c .before .before .next-token .ensures)
+
+mul-tokens : tie.Need-mul-tokens Inv-loop μ-loop
+mul-tokens c = search needs
+
+array-set-from-tokens : tie.Need-array-set-from-tokens Inv-loop μ-loop
+array-set-from-tokens c = c .if1 .taken
+
+add-count : tie.Need-add-count Inv-loop μ-loop
+add-count c =
+    let b = c .before .before .before .before .before in
+    let l = step (c .before .before) .leads in
+    omega (arith, l .2, l .3, b .loop .inv .few)
+
+loop-less : tie.Need-loop-less Inv-loop μ-loop
+loop-less c = let l = step (c .before .before) .leads in omega (arith, l .2, l .3)
+
+loop-again : tie.Need-loop-again Inv-loop μ-loop
+loop-again c =
+    let b = c .before .before .before .before .before in
+    let r = b .before .before .before in
+    let k = c .before .before in
+    let t = k .token .given .0 .0 in
+    let next = k .token .given .0 .1 .0 in
+    ⊎-elim
+    (λ w. rw (w .1) (reading-store (r .args .text .now) (r .args .from) (b .loop .tokens) (b .loop .count) (b .loop .at) t next (r .pre) (b .loop .inv) (w .0 .taken) (step k)))
+    (λ w. rw (w .1) (reading-full (r .args .text .now) (r .args .from) (b .loop .tokens) (b .loop .count) (b .loop .at) t next (b .loop .inv) (w .0 .left) (step k)))
+    (c .if1 .came)
+
+pub tokenize-spec : {M : Type 1} → statement M
+tokenize-spec =
+    tie.close
+    (tie.spec
+    Inv-loop
+    μ-loop
+    run-end-requires
+    loop-holds
+    next-token-requires
+    enum-known-stop
+    run-end-requires-2
+    returns
+    enum-told
+    returns-2
+    enum-known-token
+    mul-tokens
+    array-set-from-tokens
+    add-count
+    loop-less
+    loop-again)

@@ -1,0 +1,224 @@
+-- What the code's values mean in terms of the definitions, and what its functions promise.
+use Prim.Native.Nat.{ℕ, suc, _+_, _-_, _*_, _^_, _≤_, _<_}
+use mathlib.Core.Path.{_≡_}
+use mathlib.Core.Bool.{Bool, true, false}
+use mathlib.Core.Option.{Option, none, some}
+use mathlib.Core.List.{List, [], _∷_, map}
+use lib.ListN.{length, take, drop, getD, replicate}
+use lib.Dec.{leb, ltb}
+use lib.IntN.{ℤ, pos}
+use Rattle.text.specs.Bytes.{digit, hexDigit, binaryDigit, nameStart, namePart, blank, run}
+use Rattle.text.specs.Numbers.{minus, residue}
+use Rattle.text.specs.Names.{Name, present}
+use Rattle.text.specs.Tokens.{identifier, register, number, hex, binary, directive, comma, colon, opening, closing, Number as NumberClass, Match, longest, Sized, front, infront, tokens}
+use Rattle.text.specs.Tokens.{Token as Meant}
+use Rattle.text.specs.Lines.{indent, readLine}
+use Rattle.text.specs.Lines.{Line as Record}
+use Rattle.text.specs.Places.{inside, margin, restAt, leftAt, endAt}
+use Rattle.text.specs.declared.bytes.Class.{Class}
+use Rattle.text.specs.declared.bytes.Class.the-variants.{NamePart, Digit, HexDigit, BinaryDigit, Blank, Margin, Inside}
+use Rattle.text.specs.declared.register.Register.{Register}
+use Rattle.text.specs.declared.register.Register.the-variants.{R0, R1, R2, R3, R4, R5, R6, R7, R8, R9, R10, R11, R12, R13, R14, R15}
+use Rattle.text.specs.declared.number.Value.{Value}
+use Rattle.text.specs.declared.number.Value.the-variants.{Fits, TooLarge}
+use Rattle.text.specs.declared.number.Whole.{Whole}
+use Rattle.text.specs.declared.lexer.Kind.{Kind}
+use Rattle.text.specs.declared.lexer.Kind.the-variants.{Identifier, Register as RegisterKind, NoRegister, Number, Negative, Hex, Binary, Directive, Comma, Colon, LParen, RParen}
+use Rattle.text.specs.declared.lexer.Token.{Token}
+use Rattle.text.specs.declared.lexer.Scan.{Scan}
+use Rattle.text.specs.declared.lexer.Scan.the-variants.{Found, Bad, End}
+use Rattle.text.specs.declared.parser.RegisterName.{RegisterName}
+use Rattle.text.specs.declared.parser.RegisterName.the-variants.{Is, NoSuch, Other}
+use Rattle.text.specs.declared.parser.Extracted.{Extracted}
+use Rattle.text.specs.declared.parser.Extracted.the-variants.{Number as Extract, NoNumber}
+use Rattle.text.specs.declared.parser.Line.{Line}
+
+-- ---- classes and runs
+
+abbrev pub isOf : Class → ℕ → Bool
+isOf NamePart = namePart
+isOf Digit = digit
+isOf HexDigit = hexDigit
+isOf BinaryDigit = binaryDigit
+isOf Blank = blank
+isOf Margin = margin
+isOf Inside = inside
+
+-- ---- registers
+
+abbrev pub indexOf : Register → ℕ
+indexOf R0 = 0
+indexOf R1 = 1
+indexOf R2 = 2
+indexOf R3 = 3
+indexOf R4 = 4
+indexOf R5 = 5
+indexOf R6 = 6
+indexOf R7 = 7
+indexOf R8 = 8
+indexOf R9 = 9
+indexOf R10 = 10
+indexOf R11 = 11
+indexOf R12 = 12
+indexOf R13 = 13
+indexOf R14 = 14
+indexOf R15 = 15
+
+-- The number of the register that a name names, if it is a name and names one.
+abbrev pub nameNumber : Option Name → Option (Option ℕ)
+nameNumber none = none
+nameNumber (some n) = some (n .number)
+
+abbrev pub nameMeant : RegisterName → Option (Option ℕ)
+nameMeant (Is r) = some (some (indexOf r))
+nameMeant NoSuch = some none
+nameMeant Other = none
+
+-- The bytes of a spelling as a number, the first lowest, with a 1 behind them.
+unfoldable pub packed : List ℕ → ℕ
+packed [] = 1
+packed (b ∷ s) = b + 256 * packed s
+
+unfoldable pub keyOf : List ℕ → ℕ
+keyOf s = elim (leb (length s) 7) [ true ↦ packed s | false ↦ 0 ]
+
+-- ---- numbers
+
+-- A value, where it fits 64 bits.
+abbrev pub whenFits : Bool → ℕ → Option ℕ
+whenFits true n = some n
+whenFits false n = none
+
+abbrev pub fitting : ℕ → Option ℕ
+fitting n = whenFits (ltb n (2 ^ 64)) n
+
+abbrev pub valueMeant : Value → Option ℕ
+valueMeant (Fits n) = some n
+valueMeant TooLarge = none
+
+-- The cap is the largest number whose product with the radix is below 2^64.
+pub record Capped (radix cap : ℕ) : Type 0 where
+  pub fits : cap * radix < 2 ^ 64
+  pub most : 2 ^ 64 ≤ suc cap * radix
+
+abbrev pub signedMeant : Bool → ℕ → ℤ
+signedMeant true n = minus n
+signedMeant false n = pos n
+
+abbrev pub wholeMeant : Whole → ℤ
+wholeMeant w = signedMeant (w .negative) (w .magnitude)
+
+-- What a whole number leaves modulo a power of two, whichever power it is.
+pub record Reduced (modulus : ℕ) (z : ℤ) (r : ℕ) : Type 0 where
+  pub at-width : (k : ℕ) → modulus ≡ 2 ^ k → r ≡ residue k z
+
+abbrev pub extractMeant : Extracted → Option ℤ
+extractMeant (Extract w) = some (wholeMeant w)
+extractMeant NoNumber = none
+
+-- The number that a kind means.
+abbrev pub numberOf : Kind → Option ℤ
+numberOf (Number n) = some (pos n)
+numberOf (Negative n) = some (minus n)
+numberOf (Hex n) = some (pos n)
+numberOf (Binary n) = some (pos n)
+numberOf Identifier = none
+numberOf (RegisterKind r) = none
+numberOf NoRegister = none
+numberOf Directive = none
+numberOf Comma = none
+numberOf Colon = none
+numberOf LParen = none
+numberOf RParen = none
+
+-- ---- tokens
+
+-- The token that a kind means, with its spelling.
+abbrev pub kindMeant : Kind → List ℕ → Meant
+kindMeant Identifier u = identifier u
+kindMeant (RegisterKind r) u = register (some (indexOf r))
+kindMeant NoRegister u = register none
+kindMeant (Number n) u = number (pos n)
+kindMeant (Negative n) u = number (minus n)
+kindMeant (Hex n) u = hex n
+kindMeant (Binary n) u = binary n
+kindMeant Directive u = directive (drop 1 u)
+kindMeant Comma u = comma
+kindMeant Colon u = colon
+kindMeant LParen u = opening
+kindMeant RParen u = closing
+
+-- The spelling of a token of a text, and the token that it means.
+abbrev pub spelling : List ℕ → Token → List ℕ
+spelling s t = take (t .length) (drop (t .start) s)
+
+abbrev pub meant : List ℕ → Token → Meant
+meant s t = kindMeant (t .kind) (spelling s t)
+
+-- Decimal digits, from a place to another, which no longer match begins.
+pub record IsDecimal (s : List ℕ) (at end : ℕ) : Type 0 where
+  pub some-digits : at < end
+  pub in-text : end ≤ length s
+  pub is-digit : digit (getD s at 0) ≡ true
+  pub is-number : longest present (drop at s) (length (drop at s)) ≡ some (record { size = end - at; class = NumberClass })
+
+-- A byte that begins neither a word nor a number nor a directive.
+pub record NoWord (b : ℕ) : Type 0 where
+  pub no-blank : blank b ≡ false
+  pub no-start : nameStart b ≡ false
+  pub no-digit : digit b ≡ false
+  pub no-minus : b ≡ 45 → ⊥
+  pub no-dot : b ≡ 46 → ⊥
+
+-- A token at a place: the text from there on begins with it. It takes a byte at least, and ends within the text.
+abbrev pub At : List ℕ → ℕ → Scan → Type 0
+At s at (Found t next) = (front present (drop at s) ≡ some (record { token = meant s t; size = t .length })) × (t .start ≡ at) × (next ≡ at + t .length) × (next ≤ length s)
+At s at Bad = front present (drop at s) ≡ none
+At s at (End e) = ⊥
+
+-- ---- the next token of a line
+
+-- What is read of the line from a place on, by what is found next.
+abbrev pub after : List ℕ → Scan → Option (List Meant)
+after s (Found t next) = infront (meant s t) (tokens present (leftAt s next))
+after s Bad = none
+after s (End e) = some []
+
+-- Where it leads: on, within the same line.
+abbrev pub Leads : List ℕ → ℕ → Scan → Type 0
+Leads s from (Found t next) = (t .start ≡ from + run blank (drop from s)) × (t .start + t .length ≡ next) × (from < next) × (next ≤ length s) × (endAt s next ≡ endAt s from)
+Leads s from Bad = Unit {0}
+Leads s from (End e) = (from ≤ e) × (e ≤ length s) × (endAt s e ≡ endAt s from)
+
+pub record Stepped (s : List ℕ) (from : ℕ) (r : Scan) : Type 0 where
+  pub means : tokens present (leftAt s from) ≡ after s r
+  pub leads : Leads s from r
+
+-- ---- the record of a line
+
+-- The tokens that are kept: of nine places the first `count`, so all nine where there are more.
+abbrev pub firsts : List ℕ → List Token → ℕ → List Meant
+firsts s ts count = map (meant s) (take count ts)
+
+abbrev pub unlessBad : Bool → Record → Option Record
+unlessBad true l = none
+unlessBad false l = some l
+
+-- The record that a line's record means; none: a bad token.
+abbrev pub lineMeant : List ℕ → Line → Option Record
+lineMeant s r = unlessBad (r .bad) (record { count = r .count; first = firsts s (r .tokens) (r .count) })
+
+-- What fills the places past the count.
+abbrev pub filler : Token
+filler = record { kind = Comma; start = 0; length = 0 }
+
+pub record LineRead (s : List ℕ) (from : ℕ) (r : Line) : Type 0 where
+  pub means : readLine present (restAt s from) ≡ lineMeant s r
+  -- where the line ends, unless a token is bad
+  pub ends : r .bad ≡ false → r .end ≡ endAt s from
+  -- the first token begins where the line's content does
+  pub begins : 0 < r .count → getD (r .tokens) 0 filler .start ≡ from + indent (restAt s from)
+  pub nine : length (r .tokens) ≡ 9
+  -- each token is a part of the text
+  pub inside-text : (i : ℕ) → getD (r .tokens) i filler .start + getD (r .tokens) i filler .length ≤ length s
+  pub rest : drop (r .count) (r .tokens) ≡ replicate (9 - r .count) filler

@@ -1,0 +1,237 @@
+// Tokens: the one that stands at a place of a line, and the next one past blanks.
+ghost use mathlib.Core.Path.{_≡_};
+ghost use mathlib.Core.Bool.{true, false};
+ghost use mathlib.Core.Option.{some};
+ghost use Prim.Native.Nat.{_+_, _-_, _≤_, _<_};
+ghost use lib.ListN.{length, drop, getD};
+ghost use Rattle.text.specs.Bytes.{nameStart, digit, mark, blank};
+ghost use Rattle.text.specs.Contracts.{At, Stepped, IsDecimal, NoWord};
+use crate::bytes::Class;
+use crate::number::Value;
+use crate::parser::RegisterName;
+use crate::register::Register;
+
+// A number's kinds keep its magnitude; the spelling of a name is the token's part of the text.
+pub enum Kind {
+    Identifier,
+    Register(Register),
+    // a Register that names none
+    NoRegister,
+    Number(u64),
+    Negative(u64),
+    Hex(u64),
+    Binary(u64),
+    Directive,
+    Comma,
+    Colon,
+    LParen,
+    RParen,
+}
+
+pub struct Token {
+    pub kind: Kind,
+    pub start: usize,
+    pub length: usize,
+}
+
+// What stands at a place: a token and the place behind it, no token, or the end of what is to be read of the line.
+pub enum Scan {
+    Found { token: Token, next: usize },
+    Bad,
+    End(usize),
+}
+
+fn found(kind: Kind, at: usize, end: usize) -> Scan
+    requires { ⌜ at ≤ end ⌝ }
+    ensures { λ r. ⌜ r ≡ Scan.Found (record { kind = kind; start = at; length = end - at }) end ⌝ }
+{
+    Scan::Found {
+        token: Token {
+            kind,
+            start: at,
+            length: end - at,
+        },
+        next: end,
+    }
+}
+
+// A word: a Register or an Identifier.
+fn word(text: &[u8], at: usize) -> Scan
+    requires { ⌜ at < length (now text) ⌝ ∗ ⌜ nameStart (getD (now text) at 0) ≡ true ⌝ }
+    ensures { λ r. ⌜ At (now (text .entry)) at r ⌝ }
+{
+    let end = crate::bytes::run_end(text, at + 1, Class::NamePart);
+    match crate::parser::parse_register(&text[at..end]) {
+        RegisterName::Is(register) => found(Kind::Register(register), at, end),
+        RegisterName::NoSuch => found(Kind::NoRegister, at, end),
+        RegisterName::Other => found(Kind::Identifier, at, end),
+    }
+}
+
+// Decimal digits from `at` to `end`.
+fn decimal(text: &[u8], at: usize, end: usize) -> Scan
+    requires { ⌜ IsDecimal (now text) at end ⌝ }
+    ensures { λ r. ⌜ At (now (text .entry)) at r ⌝ }
+{
+    match crate::number::value_of(&text[at..end], 10, 1844674407370955161) {
+        Value::TooLarge => Scan::Bad,
+        Value::Fits(value) => {
+            if value < 9223372036854775808 {
+                found(Kind::Number(value), at, end)
+            } else {
+                Scan::Bad
+            }
+        }
+    }
+}
+
+// `-` at `at`.
+fn minus(text: &[u8], at: usize) -> Scan
+    requires { ⌜ at < length (now text) ⌝ ∗ ⌜ getD (now text) at 0 ≡ 45 ⌝ }
+    ensures { λ r. ⌜ At (now (text .entry)) at r ⌝ }
+{
+    let begin = at + 1;
+    let end = crate::bytes::run_end(text, begin, Class::Digit);
+    if end == begin {
+        return Scan::Bad;
+    }
+    match crate::number::value_of(&text[begin..end], 10, 1844674407370955161) {
+        Value::TooLarge => Scan::Bad,
+        Value::Fits(value) => {
+            if value <= 9223372036854775808 {
+                found(Kind::Negative(value), at, end)
+            } else {
+                Scan::Bad
+            }
+        }
+    }
+}
+
+// `0x` at `at`.
+fn hex(text: &[u8], at: usize) -> Scan
+    requires { ⌜ at + 1 < length (now text) ⌝ ∗ ⌜ getD (now text) at 0 ≡ 48 ⌝ ∗ ⌜ getD (now text) (at + 1) 0 ≡ 120 ⌝ }
+    ensures { λ r. ⌜ At (now (text .entry)) at r ⌝ }
+{
+    let begin = at + 2;
+    let end = crate::bytes::run_end(text, begin, Class::HexDigit);
+    if end == begin {
+        return decimal(text, at, at + 1);
+    }
+    match crate::number::value_of(&text[begin..end], 16, 1152921504606846975) {
+        Value::TooLarge => Scan::Bad,
+        Value::Fits(value) => found(Kind::Hex(value), at, end),
+    }
+}
+
+// `0b` at `at`.
+fn binary(text: &[u8], at: usize) -> Scan
+    requires { ⌜ at + 1 < length (now text) ⌝ ∗ ⌜ getD (now text) at 0 ≡ 48 ⌝ ∗ ⌜ getD (now text) (at + 1) 0 ≡ 98 ⌝ }
+    ensures { λ r. ⌜ At (now (text .entry)) at r ⌝ }
+{
+    let begin = at + 2;
+    let end = crate::bytes::run_end(text, begin, Class::BinaryDigit);
+    if end == begin {
+        return decimal(text, at, at + 1);
+    }
+    match crate::number::value_of(&text[begin..end], 2, 9223372036854775807) {
+        Value::TooLarge => Scan::Bad,
+        Value::Fits(value) => found(Kind::Binary(value), at, end),
+    }
+}
+
+// A digit at `at`.
+fn digits(text: &[u8], at: usize) -> Scan
+    requires { ⌜ at < length (now text) ⌝ ∗ ⌜ digit (getD (now text) at 0) ≡ true ⌝ }
+    ensures { λ r. ⌜ At (now (text .entry)) at r ⌝ }
+{
+    let second = at + 1;
+    if text[at] == b'0' && second < text.len() {
+        if text[second] == b'x' {
+            return hex(text, at);
+        }
+        if text[second] == b'b' {
+            return binary(text, at);
+        }
+    }
+    let end = crate::bytes::run_end(text, second, Class::Digit);
+    decimal(text, at, end)
+}
+
+// `.` at `at`.
+fn directive(text: &[u8], at: usize) -> Scan
+    requires { ⌜ at < length (now text) ⌝ ∗ ⌜ getD (now text) at 0 ≡ 46 ⌝ }
+    ensures { λ r. ⌜ At (now (text .entry)) at r ⌝ }
+{
+    let second = at + 1;
+    if text.len() <= second {
+        return Scan::Bad;
+    }
+    if !crate::bytes::is_name_start(text[second]) {
+        return Scan::Bad;
+    }
+    let end = crate::bytes::run_end(text, second + 1, Class::NamePart);
+    found(Kind::Directive, at, end)
+}
+
+// A byte that begins no token: the line's end, a comment, or margin before one of them; anything else is bad.
+fn ending(text: &[u8], at: usize) -> Scan
+    requires { ⌜ at < length (now text) ⌝ ∗ ⌜ NoWord (getD (now text) at 0) ⌝ ∗ ⌜ mark (getD (now text) at 0) ≡ false ⌝ }
+    ensures { λ r. ⌜ Stepped (now (text .entry)) at r ⌝ }
+{
+    let stop = crate::bytes::run_end(text, at, Class::Margin);
+    if text.len() <= stop {
+        return Scan::End(stop);
+    }
+    match text[stop] {
+        b'\n' | b'#' => Scan::End(stop),
+        _ => Scan::Bad,
+    }
+}
+
+// A mark at `at`, or no token.
+fn mark_or_ending(text: &[u8], at: usize) -> Scan
+    requires { ⌜ at < length (now text) ⌝ ∗ ⌜ NoWord (getD (now text) at 0) ⌝ }
+    ensures { λ r. ⌜ Stepped (now (text .entry)) at r ⌝ }
+{
+    let end = at + 1;
+    match text[at] {
+        b',' => found(Kind::Comma, at, end),
+        b':' => found(Kind::Colon, at, end),
+        b'(' => found(Kind::LParen, at, end),
+        b')' => found(Kind::RParen, at, end),
+        _ => ending(text, at),
+    }
+}
+
+// What stands at `at`.
+fn front(text: &[u8], at: usize) -> Scan
+    requires { ⌜ at < length (now text) ⌝ ∗ ⌜ blank (getD (now text) at 0) ≡ false ⌝ }
+    ensures { λ r. ⌜ Stepped (now (text .entry)) at r ⌝ }
+{
+    let b = text[at];
+    if crate::bytes::is_name_start(b) {
+        return word(text, at);
+    }
+    if crate::bytes::is_digit(b) {
+        return digits(text, at);
+    }
+    if b == b'-' {
+        return minus(text, at);
+    }
+    if b == b'.' {
+        return directive(text, at);
+    }
+    mark_or_ending(text, at)
+}
+
+// The next token of the line from `from` on.
+pub fn next_token(text: &[u8], from: usize) -> Scan
+    requires { ⌜ from ≤ length (now text) ⌝ }
+    ensures { λ r. ⌜ Stepped (now (text .entry)) from r ⌝ }
+{
+    let at = crate::bytes::run_end(text, from, Class::Blank);
+    if at < text.len() {
+        return front(text, at);
+    }
+    Scan::End(at)
+}
