@@ -1,13 +1,12 @@
 -- Demand 3 holds of the definitions, whichever name sets the sources are read by.
 use mathlib.Core.Path.{_≡_, refl, sym, ap, ap₂, _∙_}
-use Prim.Native.Nat.{ℕ, _+_, _*_, _≤_}
+use Prim.Native.Nat.{ℕ, _≤_}
 use native.Mathlib.Omega.{arith}
-use mathlib.Core.Logic.{_↔_}
 use mathlib.Core.Bool.{Bool, true, false, not, _||_, true≢false}
 use mathlib.Core.Option.{Option, none, some}
 use mathlib.Core.List.{List, [], _∷_, map}
 use lib.ListN.{length, length-map}
-use lib.Dec.{leb, ltb, eqb}
+use lib.Dec.{leb, eqb}
 use lib.IntN.{ℤ}
 use borrow.Author.Tests.{leb-true, le-leb, eqb-true, not-true}
 use Rattle.text.specs.Bytes.{bytes, letter, digit, between, nameStart, namePart, every, same, isSome, each}
@@ -21,21 +20,20 @@ use Rattle.instruction.specs.Words.{modulo, wordOf}
 use Rattle.instruction.proofs.Fit.{InTable, placesOf, numberField, hasNumber, widthOf, numberWidth, Fits}
 use Rattle.instruction.proofs.Rows.{carried, same-row}
 use Rattle.instruction.proofs.Decoding.{word-tells, same-word}
-use Rattle.image.specs.Settings.{Settings, settingsFault, limb-bits-key, data-limbs-key, addr-limbs-key}
-use Rattle.image.specs.Program.{image, imageLength, header-size, headerOf, codeOf}
-use Rattle.image.specs.Assembling.{State, Assembled, accepted, rejected, reading, fitted, assembling}
-use Rattle.image.specs.Listing.{wordsOf, textOf, Listing, written, rejected as unlisted, Refusal, refusal, listingFault, listing}
+use Rattle.image.specs.Settings.{Settings, limb-bits-key, data-limbs-key, addr-limbs-key}
+use Rattle.image.specs.Program.{image, imageLength, headerOf, codeOf}
+use Rattle.image.specs.Assembling.{State, Assembled, accepted, fitted, assembling}
+use Rattle.image.specs.Listing.{wordsOf, textOf, written, rejected as unlisted, Refusal, refusal, listingFault, listing}
 use Rattle.image.specs.Meaning.{instructionsOf, settingsOf, imageOf, isAccepted, Accepted, isWritten, Listed}
 use Rattle.image.proofs.Settings.{good}
-use Rattle.image.proofs.Program.{byte, Words, image-length}
-use Rattle.image.proofs.Listing.{AllDecoded, words-of-image, settings-of-image, image-listed, Usual, listed-usual}
-use Rattle.image.proofs.Walking.{Means, MeansIf, reading-means, Assembles, accepted-assembles}
+use Rattle.image.proofs.Program.{byte, image-length}
+use Rattle.image.proofs.Listing.{words-of-image, settings-of-image, image-listed, listed-usual}
+use Rattle.image.proofs.Walking.{reading-means, accepted-assembles}
 use Rattle.image.proofs.Config.{Key, settings-pass}
 use Rattle.image.proofs.Round.{Keys, AllRead, instructionsIn, text-reading}
 use Rattle.image.proofs.Fitting.{AllFit, source-fits, fit-words, fit-decoded, words-read, words-again}
 use Rattle.guarantees.specs.NameSets.{keys, NameSet}
 use Rattle.guarantees.specs.Promises.{bitsFor, Same, Agree, AreBytes, Demand3}
-use Rattle.guarantees.specs.Promises.{Assembles as Source}
 
 -- ---- instructions agree exactly if their words are equal
 

@@ -4,11 +4,11 @@ use Prim.Native.Nat.{ℕ, zero, suc, _<_}
 use native.Mathlib.Omega.{arith}
 use mathlib.Core.Bool.{Bool, true, false, true≢false}
 use mathlib.Core.Option.{Option, none, some}
-use mathlib.Core.List.{List, _∷_}
+use mathlib.Core.List.{_∷_}
 use lib.Dec.{eqb}
 use borrow.Author.Tests.{eqb-true}
 use Rattle.text.specs.Numbers.{decimal}
-use Rattle.text.specs.Names.{Name, present}
+use Rattle.text.specs.Names.{present}
 use Rattle.text.specs.Tokens.{Token, identifier, register, number, hex, binary, directive, comma, colon, opening, closing, Register, tokenOf}
 use Rattle.text.specs.NameSets.{Naming}
 use Rattle.text.proofs.Tests.{both, split}

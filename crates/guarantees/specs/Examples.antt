@@ -1,11 +1,10 @@
 -- The starred examples of document 01, as one table.
 use Prim.Native.Nat.{ℕ}
 use Prim.Native.String.{String}
-use mathlib.Core.Bool.{Bool, true, false}
-use mathlib.Core.Option.{Option, none, some}
+use mathlib.Core.Bool.{Bool, false}
 use mathlib.Core.List.{List, [], _∷_, map}
 use lib.ListN.{length}
-use Rattle.text.specs.Bytes.{bytes, same, isSome, each}
+use Rattle.text.specs.Bytes.{bytes, same}
 use Rattle.text.specs.Names.{present}
 use Rattle.instruction.specs.Words.{wordOf}
 use Rattle.image.specs.Settings.{Settings}

@@ -1,6 +1,6 @@
 -- Settings that lines lead to pass their checks, and a listed `.config` line sets its field again.
 use mathlib.Core.Path.{_≡_, refl, sym, ap, _∙_}
-use Prim.Native.Nat.{ℕ, _<_, _≤_, _^_}
+use Prim.Native.Nat.{ℕ, _<_, _≤_}
 use native.Mathlib.Omega.{arith}
 use mathlib.Core.Bool.{Bool, true, false}
 use mathlib.Core.Option.{Option, none, some}
@@ -8,19 +8,18 @@ use mathlib.Core.List.{List, [], _∷_, _++_, append-nil}
 use lib.ListN.{length, drop, length-append}
 use lib.Dec.{eqb}
 use lib.IntN.{ℤ, pos}
-use Rattle.text.specs.Bytes.{Result, value, refused, bytes, between, letter, digit, edge, nameStart, namePart, every, same, each}
+use Rattle.text.specs.Bytes.{Result, value, refused, bytes, between, letter, digit, nameStart, namePart, every, same, each}
 use Rattle.text.specs.Numbers.{residue, decimal, signedDecimal}
 use Rattle.text.specs.Names.{Name}
 use Rattle.text.specs.Tokens.{Token, identifier, number, directive, isIdentifier, isRegister, infront, tokens}
 use Rattle.text.specs.Lines.{Line, lines, kept, lineOf, readLine}
-use Rattle.text.proofs.Strings.{every-append, every-cons, ends}
+use Rattle.text.proofs.Strings.{every-append, ends}
 use Rattle.text.proofs.Numbers.{residue-small, decimal-length}
 use Rattle.text.proofs.Tokens.{tokens-nil, Within64, reads-directive, reads-space, reads-identifier, reads-decimal}
-use Rattle.text.proofs.Lines.{visible, Closed, closed-append, Trimmed, decimal-visible, decimal-closed, high-plain, read-visible}
+use Rattle.text.proofs.Lines.{visible, closed-append, Trimmed, decimal-visible, decimal-closed, high-plain, read-visible}
 use Rattle.instruction.specs.Operands.{readIdentifier, readNumber}
 use Rattle.image.specs.Settings.{Settings, begin, settingsFault, set, checked, configuredBy, configuredWith, configured}
-use Rattle.image.specs.Assembling.{State, Kind, empty, labelled, config, ignored, plain, kindOf, Step, next, withSettings, stepOn, step}
-use Rattle.image.specs.Listing.{lineText, settingText}
+use Rattle.image.specs.Assembling.{State, Kind, empty, labelled, config, ignored, plain, kindOf, next, withSettings, stepOn, step}
 use Rattle.image.specs.Meaning.{changedBy, settingsOn, settingsFrom, settingsOf}
 use Rattle.image.proofs.Settings.{no-fault, begin-good}
 

@@ -1,9 +1,8 @@
 -- The instructions of a source fit their forms, so their words decode again; and the text of a word that decodes reads as its
 -- instruction.
-use mathlib.Core.Path.{_≡_, refl, sym, ap, _∙_}
+use mathlib.Core.Path.{_≡_, refl, ap, _∙_}
 use Prim.Native.Nat.{ℕ}
-use native.Mathlib.Omega.{arith}
-use mathlib.Core.Bool.{Bool, true, false, not, true≢false}
+use mathlib.Core.Bool.{true, not}
 use mathlib.Core.Option.{Option, none, some}
 use mathlib.Core.List.{List, [], _∷_, _++_, map, flatMap}
 use lib.Dec.{eqb}
@@ -14,11 +13,10 @@ use Rattle.text.specs.Tokens.{Token, identifier, isRegister}
 use Rattle.text.specs.Lines.{Line, lines, lineOf, readLine}
 use Rattle.text.specs.NameSets.{Naming}
 use Rattle.text.proofs.Tests.{both}
-use Rattle.instruction.specs.Table.{Row, table}
+use Rattle.instruction.specs.Table.{table}
 use Rattle.instruction.specs.Operands.{Instruction, readInstruction, behind, markByte}
-use Rattle.instruction.specs.Words.{wordOf, instructionOf}
-use Rattle.instruction.specs.Text.{instructionText}
-use Rattle.instruction.proofs.Fit.{Fits, InTable}
+use Rattle.instruction.specs.Words.{wordOf}
+use Rattle.instruction.proofs.Fit.{Fits}
 use Rattle.instruction.proofs.Rows.{carried}
 use Rattle.instruction.proofs.Decoding.{reducedTo, decode-encode, word-bound, decoded-fits, decoded-reduced, encode-decode}
 use Rattle.instruction.proofs.Reading.{numberedToken, read-fits, line-numbered, behind-numbered}

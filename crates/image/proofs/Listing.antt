@@ -1,13 +1,13 @@
 -- Which images have a text: those of good settings and at most 32,768 words that are instructions' words, and no others.
 use mathlib.Core.Path.{_≡_, refl, sym, ap, ap₂, _∙_}
-use Prim.Native.Nat.{ℕ, suc, _+_, _*_, _%_, _≤_, _<_}
+use Prim.Native.Nat.{ℕ, suc, _+_, _*_, _%_, _≤_}
 use native.Mathlib.Omega.{arith}
-use mathlib.Core.Bool.{Bool, true, false, _&&_, and-eq-true-iff}
+use mathlib.Core.Bool.{true, and-eq-true-iff}
 use mathlib.Core.Option.{Option, none, some}
 use mathlib.Core.List.{List, [], _∷_, _++_, flatMap, append-nil}
 use lib.ListN.{length, take, drop, length-drop}
 use lib.Seq.{take-all}
-use lib.Dec.{leb, ltb, eqb}
+use lib.Dec.{ltb, eqb}
 use borrow.Author.Tests.{eqb-true, eq-eqb, leb-true, le-leb, ltb-false, le-ltb}
 use Rattle.text.specs.Bytes.{Result, value, refused, every}
 use Rattle.text.specs.Numbers.{little}
@@ -18,9 +18,9 @@ use Rattle.image.specs.Settings.{Settings, settingsFault}
 use Rattle.image.specs.Program.{Header, headerBytes, header-size, headerFor, image, imageLength, headerOf, codeOf, magic, version, entry, stack-size}
 use Rattle.image.specs.Opening.{openingFault}
 use Rattle.image.specs.Assembling.{most-words}
-use Rattle.image.specs.Listing.{wordsOf, wordText, settingsText, textOf, Refusal, refusal, isUsual, wordsFault, listingFault}
+use Rattle.image.specs.Listing.{wordsOf, Refusal, refusal, isUsual, wordsFault, listingFault}
 use Rattle.image.proofs.Faults.{passed, passed-not, passed-on}
-use Rattle.image.proofs.Program.{byte, Words, words-back, code-back, code-length, words-length, image-length, image-header, image-code, header-front}
+use Rattle.image.proofs.Program.{byte, Words, words-back, code-back, words-length, image-length, image-header, image-code, header-front}
 
 -- ---- words that are instructions' words
 

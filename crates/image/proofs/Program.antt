@@ -1,8 +1,8 @@
 -- The header and the words of an image, written and read back.
 use mathlib.Core.Path.{_≡_, refl, sym, ap, ap₂, _∙_, subst}
-use Prim.Native.Nat.{ℕ, zero, suc, _+_, _-_, _*_, _/_, _%_, _^_, _≤_, _<_}
+use Prim.Native.Nat.{ℕ, _+_, _*_, _/_, _%_, _^_, _≤_, _<_}
 use native.Mathlib.Omega.{arith}
-use mathlib.Core.Bool.{Bool, true, false}
+use mathlib.Core.Bool.{Bool, true}
 use mathlib.Core.List.{List, [], _∷_, _++_, flatMap, append-nil, append-assoc}
 use lib.ListN.{length, take, drop, length-append, length-drop, take-append-drop}
 use lib.Seq.{take-all, length-take-le, drop-drop}
@@ -12,7 +12,7 @@ use Rattle.text.specs.Bytes.{every}
 use Rattle.text.specs.Numbers.{little, unlittle}
 use Rattle.text.proofs.Strings.{every-head, every-tail, every-split, every-take, every-drop}
 use Rattle.image.specs.Settings.{Settings, settings}
-use Rattle.image.specs.Program.{Header, headerBytes, header-size, headerFor, image, imageLength, numberAt, headerOf, codeOf, dataOf, magic, version, entry, stack-size}
+use Rattle.image.specs.Program.{Header, headerBytes, header-size, headerFor, image, imageLength, numberAt, headerOf, codeOf, magic, version, entry, stack-size}
 use Rattle.image.specs.Listing.{wordsOf}
 
 -- ---- little-endian numbers of four bytes

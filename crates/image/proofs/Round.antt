@@ -2,26 +2,25 @@
 use mathlib.Core.Path.{_≡_, refl, sym, ap, _∙_}
 use Prim.Native.Nat.{ℕ, suc, _+_, _*_, _<_, _≤_}
 use native.Mathlib.Omega.{arith}
-use mathlib.Core.Bool.{Bool, true, false}
-use mathlib.Core.Option.{Option, none, some}
+use mathlib.Core.Bool.{true}
+use mathlib.Core.Option.{some}
 use mathlib.Core.List.{List, [], _∷_, _++_, flatMap, append-nil, append-assoc}
 use lib.ListN.{length, length-append}
-use lib.Dec.{leb, ltb}
 use borrow.Author.Tests.{le-leb, lt-ltb}
-use Rattle.text.specs.Bytes.{Result, value, refused, bytes, ascii, between, every, same, before, after, edge, each}
+use Rattle.text.specs.Bytes.{value, bytes, ascii, between, every, same, before, after, each}
 use Rattle.text.specs.Names.{Name}
 use Rattle.text.specs.Tokens.{isIdentifier, tokens, tokensPast}
 use Rattle.text.specs.Lines.{Line, lines, indent, content, trim, trimEnd, cut, kept, lineOf, recordOf, readLine}
-use Rattle.text.proofs.Strings.{every-append, every-cons, every-mono}
+use Rattle.text.proofs.Strings.{every-append, every-mono}
 use Rattle.text.specs.Places.{inside}
 use Rattle.text.proofs.Lines.{lines-cons, visible, visible-inside, visible-ascii}
 use Rattle.instruction.specs.Operands.{Instruction, readInstruction}
 use Rattle.instruction.specs.Words.{instructionOf}
 use Rattle.instruction.specs.Text.{instructionText}
-use Rattle.image.specs.Settings.{Settings, settings, begin, settingsFault, limb-bits-key, data-limbs-key, addr-limbs-key, set}
-use Rattle.image.specs.Assembling.{Label, State, start, Step, next, Kind, plain, kindOf, most-words, withInstruction, stepOn, step, Walk, finished, walk, Assembled, accepted, readTo, most-bytes, reading}
+use Rattle.image.specs.Settings.{Settings, settings, begin, limb-bits-key, data-limbs-key, addr-limbs-key, set}
+use Rattle.image.specs.Assembling.{State, start, next, plain, kindOf, most-words, withInstruction, stepOn, step, finished, walk, accepted, readTo, most-bytes, reading}
 use Rattle.image.specs.Listing.{lineText, settingText, settingsText, wordText}
-use Rattle.image.proofs.Settings.{Good, good, no-fault, begin-good, small-bits, small-data, small-addr}
+use Rattle.image.proofs.Settings.{Good, no-fault, small-bits, small-data, small-addr}
 use Rattle.image.proofs.Config.{Key, configText, config-visible, config-short, config-step}
 
 -- ---- one line more

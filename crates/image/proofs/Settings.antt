@@ -1,9 +1,9 @@
 -- Settings that pass their checks.
 use mathlib.Core.Path.{_≡_, refl}
-use Prim.Native.Nat.{ℕ, _%_, _≤_, _<_}
+use Prim.Native.Nat.{_%_, _<_}
 use native.Mathlib.Omega.{arith}
-use mathlib.Core.Bool.{Bool, true, false}
-use mathlib.Core.Option.{Option, none, some}
+use mathlib.Core.Bool.{true}
+use mathlib.Core.Option.{none}
 use lib.Dec.{eqb}
 use Rattle.text.specs.Bytes.{between}
 use Rattle.text.proofs.Tests.{between-true}

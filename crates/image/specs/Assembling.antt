@@ -9,7 +9,7 @@ use Rattle.text.specs.Bytes.{Result, value, refused, bytes, ascii, every, same,
 use Rattle.text.specs.Names.{Name}
 use Rattle.text.specs.Tokens.{Token, identifier, register, number, hex, binary, directive, comma, colon, opening, closing}
 use Rattle.text.specs.Lines.{Line, lines, indent, readLine}
-use Rattle.instruction.specs.Operands.{Instruction, readIdentifier, markByte, readInstruction, behind}
+use Rattle.instruction.specs.Operands.{Instruction, markByte, readInstruction, behind}
 use Rattle.image.specs.Settings.{Settings, begin, configured}
 use Rattle.image.specs.Program.{entry, imageLength}
 

@@ -1,11 +1,11 @@
 -- What a call answers, and what it leaves in the slices that are lent to it. Quotations are document 01's.
 use Prim.Native.Nat.{ℕ}
-use mathlib.Core.Option.{Option, none, some}
+use mathlib.Core.Option.{Option}
 use mathlib.Core.List.{List, _++_, map}
 use lib.ListN.{length, drop}
 use Rattle.text.specs.Names.{Name}
 use Rattle.image.specs.Settings.{Settings}
-use Rattle.image.specs.Assembling.{Label, State, Refusal, Assembled, accepted, rejected}
+use Rattle.image.specs.Assembling.{Label, Assembled, accepted, rejected}
 use Rattle.image.specs.Listing.{Listing, written, rejected as refusedText}
 use Rattle.image.specs.Meaning.{imageOf}
 

@@ -4,7 +4,7 @@ use Prim.Native.Nat.{ℕ}
 use mathlib.Core.Path.{_≡_}
 use mathlib.Core.Bool.{Bool, true, false}
 use mathlib.Core.Option.{Option, none, some}
-use mathlib.Core.List.{List, [], _∷_, _++_, map, flatMap}
+use mathlib.Core.List.{List, [], _∷_, map, flatMap}
 use Rattle.text.specs.Bytes.{Result, value, refused}
 use Rattle.text.specs.Names.{Name}
 use Rattle.text.specs.Lines.{Line, lines, readLine}

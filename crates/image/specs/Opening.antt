@@ -1,7 +1,7 @@
 -- Opening: "takes image bytes and answers the settings, the other header fields and the code and data parts". Quotations are
 -- document 01's.
 use Prim.Native.Nat.{ℕ, _+_, _%_}
-use mathlib.Core.Bool.{Bool, true, false}
+use mathlib.Core.Bool.{true, false}
 use mathlib.Core.Option.{Option, none, some}
 use mathlib.Core.List.{List}
 use lib.ListN.{length}

@@ -1,6 +1,6 @@
 -- The header and the image of a program. Quotations are document 01's.
 use Prim.Native.Nat.{ℕ, _+_, _*_, _^_}
-use mathlib.Core.List.{List, [], _∷_, _++_, flatMap}
+use mathlib.Core.List.{List, _∷_, _++_, flatMap}
 use lib.ListN.{length, take, drop}
 use Rattle.text.specs.Numbers.{little, unlittle}
 use Rattle.image.specs.Settings.{Settings, settings}

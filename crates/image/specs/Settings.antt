@@ -1,11 +1,10 @@
 -- The three settings, their checks, and the `.config` line. Quotations are document 01's.
 use Prim.Native.Nat.{ℕ, _%_}
-use mathlib.Core.Bool.{Bool, true, false}
+use mathlib.Core.Bool.{true, false}
 use mathlib.Core.Option.{Option, none, some}
 use mathlib.Core.List.{List, [], _∷_}
 use lib.ListN.{drop}
 use lib.Dec.{eqb}
-use lib.IntN.{ℤ}
 use Rattle.text.specs.Bytes.{Result, value, refused, bytes, between, same}
 use Rattle.text.specs.Numbers.{residue}
 use Rattle.text.specs.Tokens.{Token}

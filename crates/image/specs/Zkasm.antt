@@ -1,7 +1,7 @@
 -- The program: "reads standard input (at most 16,384 bytes, otherwise 1; table of 1,024) and prints the listing, or
 -- `refused N line L` with the true line and a newline". Quotations are document 01's.
 use Prim.Native.Nat.{ℕ}
-use mathlib.Core.Bool.{Bool, true, false}
+use mathlib.Core.Bool.{true, false}
 use mathlib.Core.List.{List, [], _∷_, _++_}
 use lib.ListN.{length}
 use lib.Dec.{leb}

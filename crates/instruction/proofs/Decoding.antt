@@ -11,7 +11,6 @@ use lib.IntN.{ℤ}
 use lib.Pow.{pow-mono}
 use borrow.Author.Tests.{ltb-true, lt-ltb}
 use Rattle.text.specs.Bytes.{value, isSome}
-use Rattle.text.specs.Numbers.{residue}
 use Rattle.text.proofs.Numbers.{residue-lt, residue-meant}
 use Rattle.instruction.specs.Table.{Row, rowCoded}
 use Rattle.instruction.specs.Operands.{Instruction}

@@ -2,7 +2,7 @@
 use mathlib.Core.Path.{_≡_, refl, sym, ap, _∙_}
 use Prim.Native.Nat.{ℕ, _≤_, _<_}
 use native.Mathlib.Omega.{arith}
-use mathlib.Core.Bool.{Bool, true, false, not, _&&_, _||_, true≢false, and-eq-true-iff}
+use mathlib.Core.Bool.{Bool, true, false, not, _&&_, true≢false, and-eq-true-iff}
 use mathlib.Core.Option.{Option, some}
 use mathlib.Core.List.{List, [], _∷_, map}
 use lib.ListN.{length}
@@ -10,7 +10,7 @@ use lib.Dec.{leb, ltb, eqb}
 use borrow.Author.Tests.{leb-true, le-leb, lt-leb, ltb-true, eqb-true, eq-eqb, not-true}
 use Rattle.text.specs.Bytes.{bytes, between, letter, digit, nameStart, namePart, lower, every, same, find, isSome, each}
 use Rattle.text.specs.Tokens.{isIdentifier}
-use Rattle.text.proofs.Tests.{both, or-elim, no-both, between-true}
+use Rattle.text.proofs.Tests.{both, between-true}
 use Rattle.text.proofs.Strings.{every-head, every-tail, same-eq, eq-same, found}
 use Rattle.instruction.specs.Table.{Place, reg, num, comma-place, opening-place, closing-place, places, Row, row, table, rowNamed, rowCoded}
 use Rattle.instruction.proofs.Fit.{InTable, placesOf, numberField, widthOf, numberWidth}

@@ -1,6 +1,6 @@
 -- The word of an instruction, and the instruction of a word. Quotations are document 01's.
 use Prim.Native.Nat.{ℕ, _+_, _*_, _/_, _%_, _^_, max}
-use mathlib.Core.Bool.{Bool, true, false}
+use mathlib.Core.Bool.{true, false}
 use mathlib.Core.Option.{Option, none, some}
 use mathlib.Core.List.{List, [], _∷_}
 use lib.Dec.{ltb}

@@ -1,25 +1,25 @@
 -- The token at a place of a text, in the code's terms: the text, the place, and where the scanner stopped.
 use mathlib.Core.Path.{_≡_, refl, sym, ap, _∙_}
-use Prim.Native.Nat.{ℕ, zero, suc, _+_, _-_, _^_, _≤_, _<_}
+use Prim.Native.Nat.{ℕ, suc, _+_, _-_, _^_, _≤_, _<_}
 use native.Mathlib.Omega.{arith}
 use native.Mathlib.Numerals.{add-one}
-use mathlib.Core.Bool.{Bool, true, false, _||_}
+use mathlib.Core.Bool.{Bool, true, false}
 use mathlib.Core.Logic.{_⊎_, inl, inr}
 use mathlib.Core.List.{List, [], _∷_}
 use mathlib.Core.Option.{Option, none, some}
 use lib.ListN.{length, take, drop, getD, length-drop, drop-of-length-le}
 use lib.Seq.{drop-cons}
-use lib.Dec.{leb, ltb, eqb}
-use lib.IntN.{ℤ, pos}
+use lib.Dec.{eqb}
+use lib.IntN.{pos}
 use borrow.Author.Tests.{eqb-true, ne-eqb, lt-ltb, le-ltb, le-leb, lt-leb}
 use Rattle.text.specs.Bytes.{bytes, between, letter, digit, hexDigit, binaryDigit, mark, nameStart, namePart, every, before, run, isSome, each}
 use Rattle.text.specs.Numbers.{valueOf, minus}
 use Rattle.text.specs.Names.{Name, name, named, numbered, conventional, present}
-use Rattle.text.specs.Tokens.{isIdentifier, isRegister, Class, Register, Identifier, Number, Hex, Binary, Directive, Mark, longest, Token, identifier, register, number, hex, binary, directive, comma, colon, opening, closing, within, numberToken, patternToken, registerToken, markToken, tokenOf, Sized, sized, matched, front}
-use Rattle.text.specs.Contracts.{kindMeant, meant, nameMeant, nameNumber, At}
+use Rattle.text.specs.Tokens.{isIdentifier, isRegister, Class, Number, Hex, Binary, Directive, Mark, longest, Token, identifier, register, number, hex, binary, directive, within, numberToken, patternToken, registerToken, markToken, tokenOf, sized, matched, front}
+use Rattle.text.specs.Contracts.{kindMeant, nameMeant, nameNumber, At}
 use Rattle.text.specs.declared.lexer.Kind.{Kind}
 use Rattle.text.specs.declared.lexer.Kind.the-variants.{Identifier as IdentifierKind, Register as RegisterKind, NoRegister}
-use Rattle.text.specs.declared.lexer.Scan.the-variants.{Found, Bad, End}
+use Rattle.text.specs.declared.lexer.Scan.the-variants.{Found}
 use Rattle.text.specs.declared.parser.RegisterName.{RegisterName}
 use Rattle.text.specs.declared.parser.RegisterName.the-variants.{Is, NoSuch, Other}
 use Rattle.text.proofs.Tests.{split, by-test}

@@ -2,21 +2,20 @@
 use mathlib.Core.Path.{_≡_, refl, sym, ap, ap₂, _∙_}
 use Prim.Native.Nat.{ℕ, zero, suc, _+_, _-_, _≤_, _<_}
 use native.Mathlib.Omega.{arith}
-use native.Mathlib.Nat.{add-suc, add-zero}
-use mathlib.Core.Bool.{Bool, true, false, not, _&&_, _||_, true≢false, and-eq-true-iff}
+use mathlib.Core.Bool.{Bool, true, false, not, _||_, true≢false, and-eq-true-iff}
 use mathlib.Core.Logic.{_⊎_, inl, inr}
 use mathlib.Core.Option.{Option, none, some}
-use mathlib.Core.List.{List, [], _∷_, _++_, append-assoc}
+use mathlib.Core.List.{List, [], _∷_, _++_}
 use lib.ListN.{length, take, drop, getD, length-drop, take-append-drop, drop-of-length-le}
 use lib.Seq.{take-take, drop-cons, drop-drop, getD-drop}
 use lib.Dec.{eqb}
 use borrow.Author.Tests.{eqb-true, ne-eqb, le-leb, lt-leb}
 use Rattle.text.specs.Bytes.{between, letter, digit, hexDigit, binaryDigit, blank, edge, mark, nameStart, namePart, every, oneOrMore, before, after, find, each, run}
 use Rattle.text.specs.Names.{Name}
-use Rattle.text.specs.Tokens.{isIdentifier, isRegister, isNumber, isPrefixed, isDirective, isMark, Class, Register, Identifier, Number, Hex, Binary, Directive, Mark, isIn, classes, classOf, Match, longest, Token, Sized, sized, matched, front, infront, tokens, tokenOf}
+use Rattle.text.specs.Tokens.{isIdentifier, isNumber, isPrefixed, isDirective, isMark, Class, Register, Identifier, Number, Hex, Binary, Directive, Mark, isIn, classes, classOf, Match, longest, Token, Sized, sized, matched, front, infront, tokens, tokenOf}
 use Rattle.text.specs.Lines.{keptByte, trimEnd, trim, cut, content, indent}
 use Rattle.text.specs.Places.{inside, restAt, leftAt, endAt, margin}
-use Rattle.text.proofs.Tests.{by-test, not-true, no-both, or-left, or-right, or-elim, both, and-both, between-true, split}
+use Rattle.text.proofs.Tests.{by-test, not-true, no-both, or-elim, both, between-true, split}
 use Rattle.text.proofs.Strings.{every-head, every-tail, every-cons, every-mono, every-take, every-run, take-run, run-le, past-run, run-stop, run-past}
 use Rattle.text.proofs.Scanning.{longest-down, register-identifier}
 use Rattle.text.proofs.Tokens.{tokens-nil, tokens-blank, tokens-front, tokens-bad}

@@ -3,11 +3,11 @@ use mathlib.Core.Path.{_≡_, refl, sym, ap, _∙_}
 use Prim.Native.Nat.{ℕ, _≤_}
 use native.Mathlib.Omega.{arith}
 use mathlib.Core.Bool.{Bool, true, false, not}
-use mathlib.Core.Option.{Option, none, some}
+use mathlib.Core.Option.{some}
 use mathlib.Core.List.{List, [], _∷_, _++_, append-assoc}
-use lib.Dec.{leb, eqb}
+use lib.Dec.{eqb}
 use borrow.Author.Tests.{not-true, ne-eqb, le-leb, lt-leb}
-use Rattle.text.specs.Bytes.{between, digit, ascii, edge, before, after, every}
+use Rattle.text.specs.Bytes.{between, digit, ascii, edge, after, every}
 use Rattle.text.specs.Numbers.{decimal}
 use Rattle.text.specs.Names.{Name}
 use Rattle.text.specs.Tokens.{Token, tokens}
@@ -15,7 +15,7 @@ use Rattle.text.specs.Lines.{extended, lines, keptByte, trimEnd, trim, c
 use Rattle.text.specs.Places.{inside}
 use Rattle.text.proofs.Tests.{both, between-true, true-between}
 use Rattle.text.proofs.Strings.{every-head, every-tail, every-mono, before-all}
-use Rattle.text.proofs.Numbers.{Digits, decimal-digits}
+use Rattle.text.proofs.Numbers.{decimal-digits}
 
 -- A byte that begins no comment.
 unfoldable pub uncommented : ℕ → Bool

@@ -2,25 +2,22 @@
 use mathlib.Core.Path.{_≡_, refl, sym, ap, _∙_}
 use Prim.Native.Nat.{ℕ, _+_, _-_, _≤_, _<_}
 use native.Mathlib.Omega.{arith}
-use mathlib.Core.Bool.{Bool, true, false, not, _||_}
+use mathlib.Core.Bool.{true, false}
 use mathlib.Core.Logic.{_⊎_}
 use mathlib.Core.List.{List, [], _∷_}
-use mathlib.Core.Option.{Option, none, some}
+use mathlib.Core.Option.{none, some}
 use lib.ListN.{length, take, drop, getD, length-drop}
 use lib.Seq.{getD-drop}
-use lib.Dec.{eqb}
-use borrow.Author.Tests.{ne-eqb}
-use Rattle.text.specs.Bytes.{digit, blank, edge, mark, nameStart, before, run, every}
+use Rattle.text.specs.Bytes.{blank, mark, before, run, every}
 use Rattle.text.specs.Names.{present}
 use Rattle.text.specs.Tokens.{Token, markToken, front, infront, tokens, sized}
 use Rattle.text.specs.Places.{inside, leftAt, endAt, margin}
-use Rattle.text.specs.Contracts.{kindMeant, meant, NoWord, At, after, Leads, Stepped}
+use Rattle.text.specs.Contracts.{kindMeant, meant, NoWord, At, Leads, Stepped}
 use Rattle.text.specs.declared.lexer.Kind.{Kind}
 use Rattle.text.specs.declared.lexer.Scan.{Scan}
 use Rattle.text.specs.declared.lexer.Scan.the-variants.{Found, Bad, End}
-use Rattle.text.proofs.Tests.{or-elim, no-both, not-true}
 use Rattle.text.proofs.Strings.{run-le, run-no, run-stop, take-run, every-run, every-mono}
-use Rattle.text.proofs.Left.{solid, start-solid, digit-solid, mark-solid, high-solid, solid-plain, margin-inside, blank-inside, blanks-at, found-at, found-solid, solid-bad, end-at, bad-at, end-on}
+use Rattle.text.proofs.Left.{solid, mark-solid, solid-plain, margin-inside, blank-inside, blanks-at, found-at, found-solid, solid-bad, end-at, bad-at, end-on}
 use Rattle.text.proofs.Fronts.{names-ok, mark-front, mark-none}
 
 -- No blank stands at the place.

@@ -1,12 +1,11 @@
 -- Tests on numbers and bytes, and what follows from their answers.
 use mathlib.Core.Path.{_≡_, refl, sym, _∙_}
 use Prim.Native.Nat.{ℕ, _≤_, _<_}
-use native.Mathlib.Omega.{arith}
 use native.Mathlib.Nat.{lt-of-not-le}
 use native.Mathlib.Decide.{decLe}
-use mathlib.Core.Bool.{Bool, true, false, _&&_, _||_, true≢false, and-eq-true-iff}
-use lib.Dec.{leb, eqb}
-use borrow.Author.Tests.{leb-true, le-leb, eqb-true}
+use mathlib.Core.Bool.{Bool, true, false, _||_, true≢false, and-eq-true-iff}
+use lib.Dec.{leb}
+use borrow.Author.Tests.{leb-true, le-leb}
 use Rattle.text.specs.Bytes.{between}
 
 -- One order or the other.

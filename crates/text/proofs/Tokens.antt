@@ -1,20 +1,20 @@
 -- How the tokens of a text are read on from its front, and which texts read as which token.
 use mathlib.Core.Path.{_≡_, refl, sym, ap, _∙_}
-use Prim.Native.Nat.{ℕ, zero, suc, _+_, _≤_, _<_, _^_}
+use Prim.Native.Nat.{ℕ, zero, suc, _≤_, _<_, _^_}
 use native.Mathlib.Omega.{arith}
 use mathlib.Core.Bool.{Bool, true, false, true≢false}
 use mathlib.Core.Option.{Option, none, some}
 use mathlib.Core.List.{List, [], _∷_, _++_}
-use lib.ListN.{length, take, drop}
+use lib.ListN.{length, drop}
 use lib.Seq.{take-append-seam, drop-append-seam}
-use lib.Dec.{leb, ltb, eqb}
+use lib.Dec.{eqb}
 use lib.IntN.{ℤ, pos, negsuc}
-use borrow.Author.Tests.{eqb-true, ne-eqb, le-leb, lt-ltb}
-use Rattle.text.specs.Bytes.{letter, digit, between, blank, mark, nameStart, namePart, every, before, isSome, each, run}
+use borrow.Author.Tests.{ne-eqb, le-leb, lt-ltb}
+use Rattle.text.specs.Bytes.{letter, digit, between, blank, mark, nameStart, namePart, every, isSome, each, run}
 use Rattle.text.specs.Numbers.{valueOf, minus, decimal, signedDecimal}
 use Rattle.text.specs.Names.{Name, named}
-use Rattle.text.specs.Tokens.{isIdentifier, isRegister, Class, Register, Identifier, Number, Directive, Mark, Match, longest, Token, identifier, register, number, directive, comma, colon, opening, closing, within, numberToken, registerToken, markToken, tokenOf, Sized, sized, matched, front, infront, tokensPast, tokens}
-use Rattle.text.proofs.Tests.{by-test, both, or-left, or-right, between-true, no-both, not-true}
+use Rattle.text.specs.Tokens.{isIdentifier, isRegister, Class, Register, Identifier, Number, Directive, Mark, Token, identifier, register, number, directive, comma, opening, closing, within, numberToken, registerToken, markToken, tokenOf, sized, matched, front, infront, tokensPast, tokens}
+use Rattle.text.proofs.Tests.{by-test, both, or-right, between-true, no-both, not-true}
 use Rattle.text.proofs.Strings.{every-head, every-tail, ends, ends-head, before-append, run-append}
 use Rattle.text.proofs.Numbers.{Digits, decimal-digits, decimal-value}
 use Rattle.text.proofs.Scanning.{matching, wordClass, digitScan, dotScan, atLeastOne, scan, longest-scan, register-identifier, start-from, digit-from, digit-not-start}

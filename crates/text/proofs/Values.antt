@@ -1,17 +1,16 @@
 -- Laws of the value of digits: a digit more, none left, and where it passes 64 bits.
-use mathlib.Core.Path.{_≡_, refl, sym, ap, _∙_}
-use Prim.Native.Nat.{ℕ, zero, suc, _+_, _-_, _*_, _^_, _≤_, _<_}
+use mathlib.Core.Path.{_≡_, _∙_}
+use Prim.Native.Nat.{ℕ, zero, suc, _+_, _*_, _^_, _≤_, _<_}
 use native.Mathlib.Nat.{le-trans, mul-le-mul-right, mul-le-mul-left, mul-one, mul-zero, lt-of-le-of-lt}
 use native.Mathlib.Omega.{arith}
-use mathlib.Core.Bool.{Bool, true, false}
-use mathlib.Core.Option.{Option, none, some}
+use mathlib.Core.Option.{none, some}
 use mathlib.Core.List.{List, [], _∷_}
 use lib.ListN.{length, drop, getD, drop-of-length-le}
 use lib.Seq.{drop-cons}
 use lib.Dec.{ltb}
 use borrow.Author.Tests.{lt-ltb, le-ltb, ltb-true, ltb-false}
-use Rattle.text.specs.Numbers.{digitValue, valueFrom, valueOf}
-use Rattle.text.specs.Contracts.{whenFits, fitting, Capped}
+use Rattle.text.specs.Numbers.{digitValue, valueFrom}
+use Rattle.text.specs.Contracts.{fitting, Capped}
 use Rattle.text.proofs.Tests.{by-test}
 
 pub fitting-some : (n : ℕ) → n < 2 ^ 64 → fitting n ≡ some n

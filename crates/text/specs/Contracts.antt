@@ -10,7 +10,7 @@ use lib.IntN.{ℤ, pos}
 use Rattle.text.specs.Bytes.{digit, hexDigit, binaryDigit, nameStart, namePart, blank, run}
 use Rattle.text.specs.Numbers.{minus, residue}
 use Rattle.text.specs.Names.{Name, present}
-use Rattle.text.specs.Tokens.{identifier, register, number, hex, binary, directive, comma, colon, opening, closing, Number as NumberClass, Match, longest, Sized, front, infront, tokens}
+use Rattle.text.specs.Tokens.{identifier, register, number, hex, binary, directive, comma, colon, opening, closing, Number as NumberClass, longest, front, infront, tokens}
 use Rattle.text.specs.Tokens.{Token as Meant}
 use Rattle.text.specs.Lines.{indent, readLine}
 use Rattle.text.specs.Lines.{Line as Record}

@@ -1,7 +1,7 @@
 -- What is asked of a set of register names, so that what is proved over a set serves every set. Quotations are document 01's.
 use Prim.Native.Nat.{ℕ, _<_}
 use mathlib.Core.Path.{_≡_}
-use mathlib.Core.Bool.{Bool, true, false}
+use mathlib.Core.Bool.{Bool, true}
 use mathlib.Core.Option.{Option, none, some}
 use mathlib.Core.List.{List, _∷_}
 use lib.Dec.{ltb}

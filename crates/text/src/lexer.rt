@@ -1,9 +1,8 @@
 // Tokens: the one that stands at a place of a line, and the next one past blanks.
 ghost use mathlib.Core.Path.{_≡_};
 ghost use mathlib.Core.Bool.{true, false};
-ghost use mathlib.Core.Option.{some};
 ghost use Prim.Native.Nat.{_+_, _-_, _≤_, _<_};
-ghost use lib.ListN.{length, drop, getD};
+ghost use lib.ListN.{length, getD};
 ghost use Rattle.text.specs.Bytes.{nameStart, digit, mark, blank};
 ghost use Rattle.text.specs.Contracts.{At, Stepped, IsDecimal, NoWord};
 use crate::bytes::Class;

@@ -1,7 +1,5 @@
 -- `text::bytes::is_blank` meets its contract.
-use borrow.Author.Needs.{needs}
 use borrow.Author.Tests.{eq-eqb, ne-eqb}
-use mathlib.Core.Path.{refl}
 use Rattle.text.specs.Bytes.{blank}
 use Rattle.text.proofs.bytes.is_blank.Statement.{statement}
 use Rattle.text.proofs.bytes.is_blank.Tie as tie

@@ -1,7 +1,5 @@
 -- `text::bytes::is_name_start` meets its contract.
 use borrow.Author.Needs.{needs}
-use borrow.Author.Tests.{eq-eqb, ne-eqb}
-use mathlib.Core.Path.{refl}
 use Rattle.text.specs.Bytes.{nameStart}
 use Rattle.text.proofs.bytes.is_name_start.Statement.{statement}
 use Rattle.text.proofs.bytes.is_name_start.Tie as tie

@@ -1,8 +1,8 @@
 -- `text::lexer::decimal` meets its contract.
-use mathlib.Core.Path.{_≡_, sym, ap, _∙_}
-use Prim.Native.Nat.{_+_, _-_, _≤_, _<_}
+use mathlib.Core.Path.{sym, ap, _∙_}
+use Prim.Native.Nat.{_-_}
 use native.Mathlib.Omega.{arith}
-use lib.ListN.{length, take, drop}
+use lib.ListN.{take, drop}
 use Rattle.text.specs.Numbers.{valueOf}
 use Rattle.text.specs.Tokens.{Number}
 use Rattle.text.specs.Contracts.{valueMeant}

@@ -1,8 +1,8 @@
 -- `text::lexer::digits` meets its contract.
-use mathlib.Core.Path.{_≡_, sym, ap, _∙_}
-use Prim.Native.Nat.{_+_, _-_, _≤_, _<_}
+use mathlib.Core.Path.{_≡_}
+use Prim.Native.Nat.{_+_, _-_, _<_}
 use native.Mathlib.Omega.{arith}
-use lib.ListN.{length, take, drop, getD}
+use lib.ListN.{length, drop, getD}
 use mathlib.Core.Logic.{⊎-elim}
 use borrow.Author.Tests.{ltb-false}
 use Rattle.text.specs.Bytes.{digit}

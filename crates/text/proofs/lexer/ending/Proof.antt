@@ -1,8 +1,5 @@
 -- `text::lexer::ending` meets its contract.
-use mathlib.Core.Path.{_≡_, sym, ap, _∙_}
-use Prim.Native.Nat.{_+_, _-_, _≤_, _<_}
 use native.Mathlib.Omega.{arith}
-use lib.ListN.{length, take, drop, getD}
 use mathlib.Core.Logic.{inl, inr}
 use Rattle.text.proofs.Stepping.{end-step, bad-step}
 use borrow.Author.Needs.{needs}

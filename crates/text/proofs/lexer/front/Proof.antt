@@ -1,8 +1,6 @@
 -- `text::lexer::front` meets its contract.
-use mathlib.Core.Path.{_≡_, sym, ap, _∙_}
-use Prim.Native.Nat.{_+_, _-_, _≤_, _<_}
+use mathlib.Core.Path.{sym, _∙_}
 use native.Mathlib.Omega.{arith}
-use lib.ListN.{length, take, drop, getD}
 use Rattle.text.proofs.Left.{start-solid, digit-solid, high-solid}
 use Rattle.text.proofs.Stepping.{solid-step}
 use borrow.Author.Needs.{needs}

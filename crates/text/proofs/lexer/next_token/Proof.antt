@@ -1,8 +1,4 @@
 -- `text::lexer::next_token` meets its contract.
-use mathlib.Core.Path.{_≡_, sym, ap, _∙_}
-use Prim.Native.Nat.{_+_, _-_, _≤_, _<_}
-use native.Mathlib.Omega.{arith}
-use lib.ListN.{length, take, drop, getD}
 use Rattle.text.proofs.Stepping.{past-blank, blank-step, blank-end}
 use borrow.Author.Needs.{needs}
 use Rattle.text.proofs.lexer.next_token.Statement.{statement}

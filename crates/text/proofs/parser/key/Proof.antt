@@ -1,10 +1,10 @@
 -- `text::parser::key` meets its contract. The loop's invariant: the number is the bytes from i on, packed.
-use mathlib.Core.Path.{_≡_, refl, sym, _∙_}
-use Prim.Native.Nat.{ℕ, suc, _≤_, _<_, _+_, _-_, _*_, _^_}
+use mathlib.Core.Path.{_≡_, sym, _∙_}
+use Prim.Native.Nat.{_≤_, _-_}
 use native.Mathlib.Omega.{arith}
-use lib.ListN.{length, drop, getD}
+use lib.ListN.{length, drop}
 use borrow.Author.Needs.{needs}
-use Rattle.text.specs.Contracts.{packed, keyOf}
+use Rattle.text.specs.Contracts.{packed}
 use Rattle.text.proofs.Keys.{packed-step, packed-room, packed-none, key-long, key-short}
 use Rattle.text.proofs.parser.key.Statement.{statement}
 use Rattle.text.proofs.parser.key.Tie as tie

@@ -1,5 +1,5 @@
 -- `text::parser::parse_register` meets its contract: in each arm the key is that of a name, and in the last that of none.
-use mathlib.Core.Path.{_≡_, sym}
+use mathlib.Core.Path.{_≡_}
 use mathlib.Core.Logic.{⊎-elim, inl, inr}
 use Prim.Native.Nat.{ℕ}
 use native.Mathlib.Omega.{arith}

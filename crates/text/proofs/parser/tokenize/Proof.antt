@@ -1,7 +1,6 @@
 -- `text::parser::tokenize` meets its contract. The loop's invariant: what is kept of the line is what is kept of the tokens read so far
 -- with those that are left to read.
 use Prim.Native.Nat.{_-_}
-use mathlib.Core.Path.{_≡_}
 use native.Mathlib.Omega.{arith}
 use mathlib.Core.Logic.{⊎-elim}
 use lib.ListN.{length}
