@@ -1,3 +1,4 @@
+-- `text::bytes::is_hex_digit` meets its contract.
 use borrow.Author.Needs.{needs}
 use Rattle.text.specs.Bytes.{hexDigit}
 use Rattle.text.proofs.bytes.is_hex_digit.Statement.{statement}
