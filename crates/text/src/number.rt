@@ -34,7 +34,8 @@ pub fn digit_value(b: u8) -> u8
     b - 87
 }
 
-fn wide(x: u8) -> u64
+// A byte as a number of 64 bits.
+pub fn wide(x: u8) -> u64
     ensures { λ r. ⌜ r ≡ x ⌝ }
 {
     x as u64

@@ -19,12 +19,6 @@ pub enum RegisterName {
     Other,
 }
 
-fn wide(x: u8) -> u64
-    ensures { λ r. ⌜ r ≡ x ⌝ }
-{
-    x as u64
-}
-
 // The key of a spelling: its bytes, the first lowest, with a 1 behind them; 0 where there are more than seven.
 pub fn key(spelling: &[u8]) -> u64
     ensures { λ r. ⌜ r ≡ keyOf (now (spelling .entry)) ⌝ }
@@ -36,7 +30,7 @@ pub fn key(spelling: &[u8]) -> u64
     let mut i = spelling.len();
     while 0 < i {
         i -= 1;
-        key = key * 256 + wide(spelling[i]);
+        key = key * 256 + crate::number::wide(spelling[i]);
     }
     key
 }
