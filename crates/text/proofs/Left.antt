@@ -440,19 +440,29 @@ solid-bad names ok s at l h f =
     ap (tokens names) (left-is s at) ∙ rw e (left-bad names ok (getD s at 0) (drop (suc at) s) (left (drop (suc at) s)) (left-solid (getD s at 0) (drop (suc at) s) h) (solid-plain (getD s at 0) h) (rw e at f))
 
 -- Margin up to the text's end, the line's end or a comment: nothing is left.
-pub end-at : (names : List Name) (s : List ℕ) (at : ℕ) → at ≤ length s
+pub nothing-left : (s : List ℕ) (at : ℕ) → at ≤ length s
     → (at + run margin (drop at s) < length s → (getD s (at + run margin (drop at s)) 0 ≡ 10) ⊎ (getD s (at + run margin (drop at s)) 0 ≡ 35))
-    → tokens names (leftAt s at) ≡ some []
-end-at names s at l h =
+    → leftAt s at ≡ []
+nothing-left s at l h =
     let t = drop at s in
     let k = run margin t in
-    ap (tokens names) (left-is s at ∙ ap left (sym (margin-split t)) ∙ left-ended (before margin t) (drop k t) (every-run margin t) (ends-behind)) ∙ tokens-nil names
+    left-is s at ∙ ap left (sym (margin-split t)) ∙ left-ended (before margin t) (drop k t) (every-run margin t) (ends-behind)
   where
     ends-behind : Ends (drop (run margin (drop at s)) (drop at s))
     ends-behind =
         split (at + run margin (drop at s)) (length s)
         (λ m. rw (drop-drop (run margin (drop at s)) at s, drop-cons s (at + run margin (drop at s)) 0 m) (h m))
         (λ m. rw (drop-drop (run margin (drop at s)) at s, drop-of-length-le s m) tt)
+
+-- Then no token is read, and what is read of a bad line is something.
+pub none-read : (names : List Name) (s : List ℕ) (at : ℕ) → leftAt s at ≡ [] → tokens names (leftAt s at) ≡ some []
+none-read names s at e = ap (tokens names) e ∙ tokens-nil names
+
+pub bad-left : (names : List Name) (s : List ℕ) (at : ℕ) → tokens names (leftAt s at) ≡ none → leftAt s at ≡ [] → ⊥
+bad-left names s at h e =
+    let k : _≡_ {A = Option (List Token)} none (some []) = sym h ∙ none-read names s at e in
+    let z : _≡_ {A = ℕ} 0 1 = cc in
+    absurd (omega arith)
 
 -- A byte that is no margin, and neither ends the line nor begins a comment.
 other-solid : (b : ℕ) → margin b ≡ false → (b ≡ 10 → ⊥) → (b ≡ 35 → ⊥) → solid b ≡ true

@@ -1,20 +1,22 @@
 -- Laws of lines: a text of whole lines is taken apart again, and a line that is all content is its own content.
 use mathlib.Core.Path.{_≡_, refl, sym, ap, _∙_}
-use Prim.Native.Nat.{ℕ, _≤_}
+use Prim.Native.Nat.{ℕ, suc, _+_, _≤_, _<_}
 use native.Mathlib.Omega.{arith}
 use mathlib.Core.Bool.{Bool, true, false, not}
 use mathlib.Core.Option.{some}
 use mathlib.Core.List.{List, [], _∷_, _++_, append-assoc}
+use lib.ListN.{length, drop, getD, length-drop}
+use lib.Seq.{drop-drop, getD-drop}
 use lib.Dec.{eqb}
-use borrow.Author.Tests.{not-true, ne-eqb, le-leb, lt-leb}
-use Rattle.text.specs.Bytes.{between, digit, ascii, edge, after, every}
+use borrow.Author.Tests.{not-true, not-false, eqb-true, ne-eqb, le-leb, lt-leb}
+use Rattle.text.specs.Bytes.{between, digit, ascii, edge, before, after, every, run}
 use Rattle.text.specs.Numbers.{decimal}
 use Rattle.text.specs.Names.{Name}
 use Rattle.text.specs.Tokens.{Token, tokens}
 use Rattle.text.specs.Lines.{extended, lines, keptByte, trimEnd, trim, cut, content, lineOf, recordOf, readLine}
-use Rattle.text.specs.Places.{inside}
-use Rattle.text.proofs.Tests.{both, between-true, true-between}
-use Rattle.text.proofs.Strings.{every-head, every-tail, every-mono, before-all}
+use Rattle.text.specs.Places.{inside, restAt, endAt}
+use Rattle.text.proofs.Tests.{by-test, both, between-true, true-between}
+use Rattle.text.proofs.Strings.{every-head, every-tail, every-mono, before-all, run-stop}
 use Rattle.text.proofs.Numbers.{decimal-digits}
 
 -- A byte that begins no comment.
@@ -25,6 +27,43 @@ pub lines-cons : (t s : List ℕ) → every inside t ≡ true → lines (t ++ 10
 unfolding lines every inside extended
 lines-cons [] s h = refl
 lines-cons (b ∷ t) s h = rw (lines, not-true (eqb b 10) (every-head inside b t h), lines-cons t s (every-tail inside b t h))
+
+-- ---- the line at a place
+
+first-line : (t : List ℕ) → run inside t < length t → lines t ≡ before inside t ∷ lines (drop (suc (run inside t)) t)
+unfolding lines inside before run extended
+first-line [] h = absurd (omega arith)
+first-line (b ∷ t) h =
+    by-test (eqb b 10)
+    (λ e. rw (lines, inside, before, e))
+    (λ e. let k : suc (run inside t) < suc (length t) = rw (before, inside, e) at h in rw (lines, inside, before, e, first-line t (omega arith)))
+
+only-line : (t : List ℕ) → length t ≤ run inside t → lines t ≡ before inside t ∷ []
+unfolding lines inside before run extended
+only-line [] h = refl
+only-line (b ∷ t) h =
+    by-test (eqb b 10)
+    (λ e. let k : suc (length t) ≤ 0 = rw (before, inside, e) at h in absurd (omega arith))
+    (λ e. let k : suc (length t) ≤ suc (run inside t) = rw (before, inside, e) at h in rw (lines, inside, before, e, only-line t (omega arith)))
+
+-- A line that ends before the text does has others behind it; byte 10 stands at its end.
+pub line-at : (s : List ℕ) (at : ℕ) → at ≤ length s → endAt s at < length s → lines (drop at s) ≡ restAt s at ∷ lines (drop (suc (endAt s at)) s)
+unfolding endAt restAt run
+line-at s at l h =
+    let e : at + suc (run inside (drop at s)) ≡ suc (endAt s at) = omega arith in
+    first-line (drop at s) (omega (arith, length-drop at s)) ∙ ap (λ (x : List ℕ). restAt s at ∷ lines x) (drop-drop (suc (run inside (drop at s))) at s ∙ ap (λ (n : ℕ). drop n s) e)
+
+pub line-end : (s : List ℕ) (at : ℕ) → at ≤ length s → endAt s at < length s → getD s (endAt s at) 0 ≡ 10
+unfolding endAt restAt run inside
+line-end s at l h =
+    let g : getD (drop at s) (run inside (drop at s)) 0 ≡ getD s (at + run inside (drop at s)) 0 = getD-drop at s (run inside (drop at s)) 0 in
+    let e : not (eqb (getD s (endAt s at) 0) 10) ≡ false = rw (← g) (run-stop inside (drop at s) (omega (arith, length-drop at s))) in
+    eqb-true (getD s (endAt s at) 0) 10 (not-false (eqb (getD s (endAt s at) 0) 10) e)
+
+-- One that does not is the last.
+pub last-line : (s : List ℕ) (at : ℕ) → at ≤ length s → length s ≤ endAt s at → lines (drop at s) ≡ restAt s at ∷ []
+unfolding endAt restAt run
+last-line s at l h = only-line (drop at s) (omega (arith, length-drop at s))
 
 -- The last byte of a string is no edge.
 pub record Closed (s : List ℕ) : Type 0 where

@@ -12,6 +12,7 @@ use lib.Pow.{pow-pos}
 use borrow.Author.Tests.{lt-ltb, le-ltb, le-leb}
 use Rattle.text.specs.Bytes.{digit, every}
 use Rattle.text.specs.Numbers.{digitValue, valueFrom, valueOf, minus, residue, meantBy, decimalIn, decimal}
+use Rattle.text.specs.Contracts.{remainder, Reduced}
 use Rattle.text.proofs.Tests.{split, true-between}
 use Rattle.text.proofs.Strings.{every-append, every-cons}
 
@@ -105,10 +106,20 @@ residue-meant true k v h =
     (λ l. rw (meantBy, le-ltb (v + v) (2 ^ k) l, mod-eq-of-lt {n = 2 ^ k - suc v} {m = 2 ^ k} (omega (arith, pow-pos k))) (omega arith))
 
 -- The residue of -m, as the code reduces it.
-pub residue-minus : (k m : ℕ) → 0 < m → residue k (minus m) ≡ 2 ^ k - suc ((m - 1) % 2 ^ k)
-unfolding minus residue
-residue-minus k zero h = absurd (omega arith)
-residue-minus k (suc n) h = let e : suc n - 1 ≡ n = omega arith in rw e
+pub remainder-minus : (m n : ℕ) → 0 < n → remainder m (minus n) ≡ m - suc ((n - 1) % m)
+unfolding minus
+remainder-minus m zero h = absurd (omega arith)
+remainder-minus m (suc n) h = let e : suc n - 1 ≡ n = omega arith in rw e
+
+-- A remainder modulo a power of two is the residue of that width.
+remainder-residue : (k : ℕ) (z : ℤ) → remainder (2 ^ k) z ≡ residue k z
+unfolding residue
+remainder-residue k (pos n) = refl
+remainder-residue k (negsuc n) = refl
+
+pub reduced : (m r : ℕ) (z : ℤ) → r ≡ remainder m z → Reduced m z r
+reduced m r z e =
+    record { exact = e; at-width = λ k q. e ∙ ap (λ (x : ℕ). remainder x z) q ∙ remainder-residue k z }
 
 -- ---- two numbers leave the same if and only if 2^k divides their difference
 

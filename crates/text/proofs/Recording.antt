@@ -17,7 +17,7 @@ use Rattle.text.specs.Tokens.{Token as Meant}
 use Rattle.text.specs.Lines.{indent, kept, lineOf, recordOf, readLine}
 use Rattle.text.specs.Lines.{Line as Record}
 use Rattle.text.specs.Places.{inside, restAt, leftAt, endAt, margin}
-use Rattle.text.specs.Contracts.{meant, Stepped, firsts, filler, LineRead}
+use Rattle.text.specs.Contracts.{meant, Stepped, firsts, filler, placeOf, IsNext, spoiled, LineRead}
 use Rattle.text.specs.declared.lexer.Token.{Token}
 use Rattle.text.specs.declared.lexer.Scan.the-variants.{Found, Bad, End}
 use Rattle.text.proofs.Tests.{split, not-true, no-both}
@@ -84,6 +84,30 @@ drop-next ts n h e =
     let q : 9 - n ≡ suc (9 - (n + 1)) = omega arith in
     sym (drop-drop 1 n ts) ∙ ap (drop 1) e ∙ rw q
 
+-- ---- each token kept is the next one
+
+AllNext : List ℕ → ℕ → List Token → ℕ → Type 0
+AllNext s begin ts n = (i : ℕ) → i < 9 → i < n → IsNext s begin ts i
+
+-- A token stored behind them changes no place before it.
+place-set : (ts : List Token) (n : ℕ) (t : Token) (begin i : ℕ) → i ≤ n → placeOf (set ts n t) begin i ≡ placeOf ts begin i
+place-set ts n t begin zero h = refl
+place-set ts n t begin (suc i) h = rw (getD-set-other ts n i t filler (λ k. omega arith))
+
+next-stored : (s : List ℕ) (begin : ℕ) (ts : List Token) (n at next : ℕ) (t : Token) → n < length ts → at ≡ placeOf ts begin n → t .start + t .length ≡ next
+    → Stepped s at (Found t next) → IsNext s begin (set ts n t) n
+next-stored s begin ts n at next t h q e p =
+    let a : placeOf (set ts n t) begin n ≡ at = place-set ts n t begin n (omega arith) ∙ sym q in
+    rw (a, getD-set-same ts n t filler h, e) (p .finds)
+
+next-set : (s : List ℕ) (begin : ℕ) (ts : List Token) (n at next : ℕ) (t : Token) → n < length ts → at ≡ placeOf ts begin n → t .start + t .length ≡ next
+    → Stepped s at (Found t next) → AllNext s begin ts n → AllNext s begin (set ts n t) (n + 1)
+unfolding AllNext
+next-set s begin ts n at next t h q e p f i l m = elim (ℕ-discrete i n) [
+  | yes k ↦ rw k (next-stored s begin ts n at next t h q e p)
+  | no k ↦ rw (place-set ts n t begin i (omega arith), getD-set-other ts n i t filler k) (f i l (omega arith))
+]
+
 -- ---- the loop
 
 -- Where the first token begins: known once it is read, and before that where the reading stands.
@@ -99,11 +123,13 @@ pub record Reading (s : List ℕ) (from : ℕ) (ts : List Token) (count at : ℕ
   same : readLine present (restAt s from) ≡ keptAfter (firsts s ts count) count (tokens present (leftAt s at))
   ends : endAt s at ≡ endAt s from
   begins : Begins s from ts count at
+  is-next : AllNext s (from + run margin (drop from s)) ts count
+  stands : count ≤ 9 → at ≡ placeOf ts (from + run margin (drop from s)) count
   rest : drop count ts ≡ replicate (9 - count) filler
   within : Inside s ts
 
 pub reading-begin : (s : List ℕ) (from at : ℕ) → from ≤ length s → at ≡ from + run margin (drop from s) → Reading s from (replicate 9 filler) 0 at
-unfolding readLine Begins Inside
+unfolding readLine Begins Inside AllNext
 reading-begin s from at h q =
     let (a, b, c) = margin-on s from at h q in
     record {
@@ -113,6 +139,8 @@ reading-begin s from at h q =
       same = ap (λ (x : List ℕ). recordOf (tokens present x)) (content-at s from ∙ ap (leftAt s) (sym q)) ∙ kept-begin (tokens present (leftAt s at));
       ends = c;
       begins = q;
+      is-next = λ i l m. absurd (omega arith);
+      stands = λ h. q;
       rest = refl;
       within = λ i. fillers 9 i s;
     }
@@ -155,12 +183,15 @@ reading-store s from ts n at t next fl r h p =
       same = r .same ∙ ap (keptAfter (firsts s ts n) n) (p .means) ∙ kept-more (firsts s ts n) n (meant s t) (tokens present (leftAt s next)) ∙ rw g;
       ends = e ∙ r .ends;
       begins = first-begins s from ts n at next t fl i (r .begins) st;
+      is-next = next-set s (from + run margin (drop from s)) ts n at next t i (r .stands (omega arith)) sz p (r .is-next);
+      stands = λ k. rw (add-one n, getD-set-same ts n t filler i) (sym sz);
       rest = drop-set-lt (n + 1) ts n t (omega arith) ∙ drop-next ts n h (r .rest);
       within = inside-set s ts n t i (omega arith) (r .within);
     }
 
 pub reading-full : (s : List ℕ) (from : ℕ) (ts : List Token) (n at : ℕ) (t : Token) (next : ℕ)
     → Reading s from ts n at → 9 ≤ n → Stepped s at (Found t next) → Reading s from ts (n + 1) next
+unfolding AllNext
 reading-full s from ts n at t next r h p =
     let (st, sz, f, l, e) = p .leads in
     let g : firsts s ts n ≡ firsts s ts (n + 1) = firsts-all s ts n (omega (arith, r .nine)) ∙ sym (firsts-all s ts (n + 1) (omega (arith, r .nine))) in
@@ -172,6 +203,8 @@ reading-full s from ts n at t next r h p =
       same = r .same ∙ ap (keptAfter (firsts s ts n) n) (p .means) ∙ kept-full (firsts s ts n) n (meant s t) (tokens present (leftAt s next)) (omega arith) ∙ rw g;
       ends = e ∙ r .ends;
       begins = later-begins s from ts n at next (omega arith) (r .begins);
+      is-next = λ i l m. r .is-next i l (omega arith);
+      stands = λ k. absurd (omega arith);
       rest = let z : 9 - (n + 1) ≡ 0 = omega arith in rw z (drop-of-length-le ts {i = n + 1} (omega (arith, r .nine)));
       within = r .within;
     }
@@ -185,10 +218,12 @@ begins-is s from ts (suc n) at b h = b ∙ ap (λ (x : ℕ). from + x) (sym (ind
 
 pub reading-end : (s : List ℕ) (from : ℕ) (ts : List Token) (n at stop end : ℕ) → Reading s from ts n at → Stepped s at (End stop)
     → end ≡ stop + run inside (drop stop s) → LineRead s from (record { tokens = ts; count = n; bad = false; end = end })
-unfolding endAt restAt run Inside
+unfolding endAt restAt run Inside AllNext
 reading-end s from ts n at stop end r p q =
     record {
       means = r .same ∙ ap (keptAfter (firsts s ts n) n) (p .means) ∙ kept-end (firsts s ts n) n (omega (arith, length-firsts s ts n, r .nine));
+      is-spoiled = λ h. absurd (true≢false (sym h));
+      is-next = r .is-next;
       ends = λ h. q ∙ p .leads .2 ∙ r .ends;
       begins = begins-is s from ts n at (r .begins);
       nine = r .nine;
@@ -196,15 +231,16 @@ reading-end s from ts n at stop end r p q =
       rest = r .rest;
     }
 
-pub reading-bad : (s : List ℕ) (from : ℕ) (ts : List Token) (n at end : ℕ) → Reading s from ts n at → Stepped s at Bad
-    → LineRead s from (record { tokens = ts; count = n; bad = true; end = end })
+pub reading-bad : (s : List ℕ) (from : ℕ) (ts : List Token) (n at : ℕ) → Reading s from ts n at → Stepped s at Bad → LineRead s from (spoiled from)
 unfolding keptAfter Inside
-reading-bad s from ts n at end r p =
+reading-bad s from ts n at r p =
     record {
       means = r .same ∙ ap (keptAfter (firsts s ts n) n) (p .means);
+      is-spoiled = λ h. refl;
+      is-next = λ i l m. absurd (omega arith);
       ends = λ h. absurd (true≢false h);
-      begins = begins-is s from ts n at (r .begins);
-      nine = r .nine;
-      inside-text = r .within;
-      rest = r .rest;
+      begins = λ h. absurd (omega arith);
+      nine = refl;
+      inside-text = λ i. fillers 9 i s;
+      rest = refl;
     }

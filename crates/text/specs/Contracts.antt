@@ -1,12 +1,12 @@
 -- What the code's values mean in terms of the definitions, and what its functions promise.
-use Prim.Native.Nat.{ℕ, suc, _+_, _-_, _*_, _^_, _≤_, _<_}
+use Prim.Native.Nat.{ℕ, zero, suc, _+_, _-_, _*_, _%_, _^_, _≤_, _<_}
 use mathlib.Core.Path.{_≡_}
 use mathlib.Core.Bool.{Bool, true, false}
 use mathlib.Core.Option.{Option, none, some}
 use mathlib.Core.List.{List, [], _∷_, map}
 use lib.ListN.{length, take, drop, getD, replicate}
 use lib.Dec.{leb, ltb}
-use lib.IntN.{ℤ, pos}
+use lib.IntN.{ℤ, pos, negsuc}
 use Rattle.text.specs.Bytes.{digit, hexDigit, binaryDigit, nameStart, namePart, blank, run}
 use Rattle.text.specs.Numbers.{minus, residue}
 use Rattle.text.specs.Names.{Name, present}
@@ -108,8 +108,14 @@ signedMeant false n = pos n
 abbrev pub wholeMeant : Whole → ℤ
 wholeMeant w = signedMeant (w .negative) (w .magnitude)
 
--- What a whole number leaves modulo a power of two, whichever power it is.
+-- What a whole number leaves modulo another, from 0 on.
+abbrev pub remainder : ℕ → ℤ → ℕ
+remainder m (pos n) = n % m
+remainder m (negsuc n) = m - suc (n % m)
+
+-- Of a power of two, whichever power it is, that is the residue of that width.
 pub record Reduced (modulus : ℕ) (z : ℤ) (r : ℕ) : Type 0 where
+  pub exact : r ≡ remainder modulus z
   pub at-width : (k : ℕ) → modulus ≡ 2 ^ k → r ≡ residue k z
 
 abbrev pub extractMeant : Extracted → Option ℤ
@@ -190,7 +196,19 @@ Leads s from (Found t next) = (t .start ≡ from + run blank (drop from s)) × (
 Leads s from Bad = Unit {0}
 Leads s from (End e) = (from ≤ e) × (e ≤ length s) × (endAt s e ≡ endAt s from)
 
+-- The place past the blanks from a place on.
+abbrev pub past : List ℕ → ℕ → ℕ
+past s from = from + run blank (drop from s)
+
+-- What stands there: a token; something that is none, though something is left; or nothing that is left, where the answer is the
+-- place behind the margin. Just one of them holds, of one answer.
+abbrev pub Finds : List ℕ → ℕ → Scan → Type 0
+Finds s at (Found t next) = (front present (drop at s) ≡ some (record { token = meant s t; size = t .length })) × (t .start ≡ at) × (next ≡ at + t .length)
+Finds s at Bad = (front present (drop at s) ≡ none) × (leftAt s at ≡ [] → ⊥)
+Finds s at (End e) = (leftAt s at ≡ []) × (e ≡ at + run margin (drop at s))
+
 pub record Stepped (s : List ℕ) (from : ℕ) (r : Scan) : Type 0 where
+  pub finds : Finds s (past s from) r
   pub means : tokens present (leftAt s from) ≡ after s r
   pub leads : Leads s from r
 
@@ -212,8 +230,24 @@ lineMeant s r = unlessBad (r .bad) (record { count = r .count; first = firsts s 
 abbrev pub filler : Token
 filler = record { kind = Comma; start = 0; length = 0 }
 
+-- Where the reading goes on behind so many tokens: at first where it begins.
+abbrev pub placeOf : List Token → ℕ → ℕ → ℕ
+placeOf ts begin zero = begin
+placeOf ts begin (suc i) = getD ts i filler .start + getD ts i filler .length
+
+-- A token of them is the next one behind those before it.
+abbrev pub IsNext : List ℕ → ℕ → List Token → ℕ → Type 0
+IsNext s begin ts i = Finds s (past s (placeOf ts begin i)) (Found (getD ts i filler) (placeOf ts begin (suc i)))
+
+-- The record of a line with a bad token.
+abbrev pub spoiled : ℕ → Line
+spoiled from = record { tokens = replicate 9 filler; count = 0; bad = true; end = from }
+
 pub record LineRead (s : List ℕ) (from : ℕ) (r : Line) : Type 0 where
   pub means : readLine present (restAt s from) ≡ lineMeant s r
+  pub is-spoiled : r .bad ≡ true → r ≡ spoiled from
+  -- each token that is kept is the next one behind those before it, and the first the next behind the line's margin
+  pub is-next : (i : ℕ) → i < 9 → i < r .count → IsNext s (from + run margin (drop from s)) (r .tokens) i
   -- where the line ends, unless a token is bad
   pub ends : r .bad ≡ false → r .end ≡ endAt s from
   -- the first token begins where the line's content does

@@ -4,6 +4,7 @@ ghost use Prim.Native.Nat.{_≤_};
 ghost use lib.ListN.{length};
 ghost use Rattle.text.specs.Names.{named, present};
 ghost use Rattle.text.specs.Contracts.{keyOf, nameMeant, nameNumber, LineRead, extractMeant, numberOf};
+ghost use Rattle.text.specs.Contracts.{filler as fillerToken, spoiled as spoiledLine};
 use crate::bytes::Class;
 use crate::lexer::Kind;
 use crate::lexer::Scan;
@@ -102,7 +103,7 @@ pub fn extract_number(kind: Kind) -> Extracted
     }
 }
 
-// The record of a line: its first nine tokens, the count of all, whether one is bad, and where the line ends.
+// The record of a line: its first nine tokens, the count of all, and where the line ends; of a line with a bad token, only that.
 pub struct Line {
     pub tokens: [Token; 9],
     pub count: usize,
@@ -110,16 +111,36 @@ pub struct Line {
     pub end: usize,
 }
 
+// What fills the places that no token takes.
+fn filler() -> Token
+    ensures { λ r. ⌜ r ≡ fillerToken ⌝ }
+{
+    Token {
+        kind: Kind::Comma,
+        start: 0,
+        length: 0,
+    }
+}
+
+// The record of a line with a bad token.
+fn spoiled(from: usize) -> Line
+    ensures { λ r. ⌜ r ≡ spoiledLine from ⌝ }
+{
+    let none = filler();
+    Line {
+        tokens: [none; 9],
+        count: 0,
+        bad: true,
+        end: from,
+    }
+}
+
 // The record of the line that begins at `from`.
 pub fn tokenize(text: &[u8], from: usize) -> Line
     requires { ⌜ from ≤ length (now text) ⌝ }
     ensures { λ r. ⌜ LineRead (now (text .entry)) from r ⌝ }
 {
-    let none = Token {
-        kind: Kind::Comma,
-        start: 0,
-        length: 0,
-    };
+    let none = filler();
     let mut tokens = [none; 9];
     let mut count: usize = 0;
     let mut at = crate::bytes::run_end(text, from, Class::Margin);
@@ -134,14 +155,7 @@ pub fn tokenize(text: &[u8], from: usize) -> Line
                     end,
                 };
             }
-            Scan::Bad => {
-                return Line {
-                    tokens,
-                    count,
-                    bad: true,
-                    end: at,
-                };
-            }
+            Scan::Bad => return spoiled(from),
             Scan::Found { token, next } => {
                 if count < 9 {
                     tokens[count] = token;

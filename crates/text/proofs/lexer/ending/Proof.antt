@@ -13,7 +13,7 @@ returns : tie.Need-returns
 returns c =
     let r = c .before in
     let a = r .before .before .args in
-    end-step (a .text .now) (a .at) (r .run-end .result) (omega (arith, r .before .before .pre .0)) (r .run-end .ensures) (λ m. absurd (omega (arith, c .if1 .taken)))
+    end-step (a .text .now) (a .at) (r .run-end .result) (r .before .before .pre .0) (r .before .before .pre .1 .0 .no-blank) (r .run-end .ensures) (λ m. absurd (omega (arith, c .if1 .taken)))
 
 shared-slice-read-match : tie.Need-shared-slice-read-match
 shared-slice-read-match c = search needs
@@ -22,7 +22,7 @@ returns-2 : tie.Need-returns-2
 returns-2 c =
     let r = c .before .before .before in
     let a = r .before .before .args in
-    end-step (a .text .now) (a .at) (r .run-end .result) (omega (arith, r .before .before .pre .0)) (r .run-end .ensures) (λ m. c .match .keys1)
+    end-step (a .text .now) (a .at) (r .run-end .result) (r .before .before .pre .0) (r .before .before .pre .1 .0 .no-blank) (r .run-end .ensures) (λ m. c .match .keys1)
 
 returns-3 : tie.Need-returns-3
 returns-3 c =

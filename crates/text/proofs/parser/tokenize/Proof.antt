@@ -17,13 +17,16 @@ Inv-loop text from tokens₀ count₀ at₀ tokens count at = Reading text from 
 abbrev μ-loop : tie.MeasureT-loop
 μ-loop text from tokens₀ count₀ at₀ tokens count at = length text - at
 
+filler-requires : tie.Need-filler-requires Inv-loop μ-loop
+filler-requires c κs = search needs
+
 run-end-requires : tie.Need-run-end-requires Inv-loop μ-loop
 run-end-requires c κs = search needs
 
 loop-holds : tie.Need-loop-holds Inv-loop μ-loop
 loop-holds c =
-    let a = c .before .before .args in
-    reading-begin (a .text .now) (a .from) (c .run-end .result) (c .before .before .pre) (c .run-end .ensures)
+    let b = c .before .before .before in
+    rw (c .before .filler .ensures) (reading-begin (b .args .text .now) (b .args .from) (c .run-end .result) (b .pre) (c .run-end .ensures))
 
 next-token-requires : tie.Need-next-token-requires Inv-loop μ-loop
 next-token-requires c κs = c .loop .inv .place
@@ -33,7 +36,7 @@ enum-known-stop c = search needs
 
 -- the end of what is to be read
 stopped : (c : tie.After-stop Inv-loop μ-loop) → let b = c .before .before .before in
-    Stepped (b .before .before .before .args .text .now) (b .loop .at) (End (c .stop .given .0 .0))
+    Stepped (b .before .before .before .before .args .text .now) (b .loop .at) (End (c .stop .given .0 .0))
 stopped c = rw (c .stop .given .1) at (c .before .before .next-token .ensures)
 
 run-end-requires-2 : tie.Need-run-end-requires-2 Inv-loop μ-loop
@@ -43,24 +46,29 @@ returns : tie.Need-returns Inv-loop μ-loop
 returns c =
     let k = c .before .before in
     let b = k .before .before .before in
-    let a = b .before .before .before .args in
+    let a = b .before .before .before .before .args in
     reading-end (a .text .now) (a .from) (b .loop .tokens) (b .loop .count) (b .loop .at) (k .stop .given .0 .0) (c .run-end2 .result) (b .loop .inv) (stopped k) (c .run-end2 .ensures)
 
 enum-told : tie.Need-enum-told Inv-loop μ-loop
 enum-told c = search needs
 
+spoiled-requires : tie.Need-spoiled-requires Inv-loop μ-loop
+spoiled-requires c κs = search needs
+
 returns-2 : tie.Need-returns-2 Inv-loop μ-loop
 returns-2 c =
-    let b = c .before .before .before in
-    let a = b .before .before .before .args in
-    reading-bad (a .text .now) (a .from) (b .loop .tokens) (b .loop .count) (b .loop .at) (b .loop .at) (b .loop .inv) (rw (c .enum-told .given .1) at (c .before .before .next-token .ensures))
+    let k = c .before in
+    let b = k .before .before .before in
+    let a = b .before .before .before .before .args in
+    rw (c .spoiled .ensures)
+    (reading-bad (a .text .now) (a .from) (b .loop .tokens) (b .loop .count) (b .loop .at) (b .loop .inv) (rw (k .enum-told .given .1) at (k .before .before .next-token .ensures)))
 
 enum-known-token : tie.Need-enum-known-token Inv-loop μ-loop
 enum-known-token c = search needs
 
 -- the token found, and the place behind it
 step : (c : tie.After-token Inv-loop μ-loop) → let b = c .before .before .before in
-    Stepped (b .before .before .before .args .text .now) (b .loop .at) (Found (c .token .given .0 .0) (c .token .given .0 .1 .0))
+    Stepped (b .before .before .before .before .args .text .now) (b .loop .at) (Found (c .token .given .0 .0) (c .token .given .0 .1 .0))
 step c = rw (c .token .given .1) at (c .before .before .next-token .ensures)
 
 mul-tokens : tie.Need-mul-tokens Inv-loop μ-loop
@@ -81,7 +89,7 @@ loop-less c = let l = step (c .before .before) .leads in omega (arith, l .2, l .
 loop-again : tie.Need-loop-again Inv-loop μ-loop
 loop-again c =
     let b = c .before .before .before .before .before in
-    let r = b .before .before .before in
+    let r = b .before .before .before .before in
     let k = c .before .before in
     let t = k .token .given .0 .0 in
     let next = k .token .given .0 .1 .0 in
@@ -96,6 +104,7 @@ tokenize-spec =
     (tie.spec
     Inv-loop
     μ-loop
+    filler-requires
     run-end-requires
     loop-holds
     next-token-requires
@@ -103,6 +112,7 @@ tokenize-spec =
     run-end-requires-2
     returns
     enum-told
+    spoiled-requires
     returns-2
     enum-known-token
     mul-tokens

@@ -5,8 +5,8 @@ use mathlib.Core.Logic.{⊎-elim}
 use native.Mathlib.Nat.{mod-lt}
 use native.Mathlib.Omega.{arith}
 use borrow.Author.Needs.{needs}
-use Rattle.text.specs.Numbers.{minus, residue}
-use Rattle.text.proofs.Numbers.{residue-minus}
+use Rattle.text.specs.Numbers.{minus}
+use Rattle.text.proofs.Numbers.{remainder-minus, reduced}
 use Rattle.text.proofs.number.Whole.residue.Statement.{statement}
 use Rattle.text.proofs.number.Whole.residue.Tie as tie
 
@@ -25,18 +25,17 @@ sub-result-3 c = omega (arith, mod-lt (c .before .before .args .self .magnitude 
 returns : tie.Need-returns
 returns c =
     let a = c .before .before .args in
-    record { at-width = λ k e. rw (c .before .if1 .taken, e, residue-minus k (a .self .magnitude) (c .if2 .taken)) (omega arith) }
+    reduced (a .modulus) _ _ (rw (c .before .if1 .taken, remainder-minus (a .modulus) (a .self .magnitude) (c .if2 .taken)) (omega arith))
 
 rem-result-2 : tie.Need-rem-result-2
 rem-result-2 c = search needs
 
 returns-2 : tie.Need-returns-2
-unfolding minus residue
+unfolding minus
 returns-2 c =
-    record {
-      at-width = λ k e.
-          ⊎-elim (λ w. let z : c .before .args .self .magnitude ≡ 0 = omega (arith, w .1 .left) in rw (w .0 .taken, z, e)) (λ w. rw (w .left, e)) (c .if1 .came);
-    }
+    let a = c .before .args in
+    reduced (a .modulus) _ _
+    (⊎-elim (λ w. let z : a .self .magnitude ≡ 0 = omega (arith, w .1 .left) in rw (w .0 .taken, z)) (λ w. rw (w .left)) (c .if1 .came))
 
 pub residue-spec : {M : Type 1} → statement M
 residue-spec =
