@@ -3,10 +3,6 @@ use borrow.Author.Needs.{needs}
 use Rattle.text.specs.Bytes.{hexDigit}
 use Rattle.text.proofs.bytes.is_hex_digit.Statement.{statement}
 use Rattle.text.proofs.bytes.is_hex_digit.Tie as tie
-use Rattle.text.proofs.bytes.is_hex_digit.Reads as reads
-use Rattle.text.proofs.bytes.is_hex_digit.Lts as lts
-use Rattle.text.proofs.bytes.is_digit.Reads as is-digit-reads
-use Rattle.text.proofs.bytes.within.Reads as within-reads
 
 is-digit-requires : tie.Need-is-digit-requires
 is-digit-requires c κs = search needs

@@ -5,8 +5,6 @@ use native.Mathlib.Omega.{arith}
 use Rattle.text.specs.Numbers.{digitValue}
 use Rattle.text.proofs.number.digit_value.Statement.{statement}
 use Rattle.text.proofs.number.digit_value.Tie as tie
-use Rattle.text.proofs.number.digit_value.Reads as reads
-use Rattle.text.proofs.number.digit_value.Lts as lts
 
 returns : tie.Need-returns
 unfolding digitValue

@@ -9,10 +9,6 @@ use Rattle.text.specs.Numbers.{digitValue, valueFrom, valueOf}
 use Rattle.text.proofs.Values.{value-step, value-done, over, over-mul, fits-mul, fitting-some, fitting-none}
 use Rattle.text.proofs.number.value_of.Statement.{statement}
 use Rattle.text.proofs.number.value_of.Tie as tie
-use Rattle.text.proofs.number.value_of.Reads as reads
-use Rattle.text.proofs.number.value_of.Lts as lts
-use Rattle.text.proofs.number.digit_value.Reads as digit-value-reads
-use Rattle.text.proofs.number.wide.Reads as wide-reads
 
 abbrev Inv-loop : tie.InvT-loop
 Inv-loop digits radix cap value₀ i₀ value i =

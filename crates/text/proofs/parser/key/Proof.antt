@@ -8,9 +8,6 @@ use Rattle.text.specs.Contracts.{packed}
 use Rattle.text.proofs.Keys.{packed-step, packed-room, packed-none, key-long, key-short}
 use Rattle.text.proofs.parser.key.Statement.{statement}
 use Rattle.text.proofs.parser.key.Tie as tie
-use Rattle.text.proofs.parser.key.Reads as reads
-use Rattle.text.proofs.parser.key.Lts as lts
-use Rattle.text.proofs.number.wide.Reads as wide-reads
 
 abbrev Inv-loop : tie.InvT-loop
 Inv-loop spelling key₀ i₀ key i = (i ≤ length spelling) × (key ≡ packed (drop i spelling))
