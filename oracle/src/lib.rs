@@ -1,5 +1,5 @@
-//! The oracle: what the Rust reference answers for a source, sources to ask it, and the lists of
-//! such answers that stand in `lists/`.
+//! The oracle: what the Rust reference answers for a source or reads of a line, sources and lines
+//! to ask it, and the lists of such answers.
 
 mod answer;
 pub mod gen;
@@ -9,8 +9,10 @@ mod limits;
 pub mod list;
 pub mod model;
 mod sources;
+mod tokens;
 
 pub use answer::{answer, Answer, Label, Settings};
 pub use images::image_list;
 pub use limits::answer_within;
 pub use sources::source_list;
+pub use tokens::token_list;

@@ -87,7 +87,7 @@ pub fn answer_lines(answer: &Answer) -> Vec<String> {
 }
 
 /// Bytes 32 to 126 but `\` stand for themselves, all others are `\` and two hex digits.
-fn escape(out: &mut String, bytes: &[u8]) {
+pub fn escape(out: &mut String, bytes: &[u8]) {
     for byte in bytes {
         match byte {
             b' '..=b'~' if *byte != b'\\' => out.push(char::from(*byte)),
@@ -108,7 +108,7 @@ fn unescape(text: &str) -> Vec<u8> {
     bytes
 }
 
-/// The records of a list of sources.
+/// The records of a list of sources or of lines.
 pub fn read(list: &str) -> Vec<Record> {
     let body = list
         .lines()
@@ -125,14 +125,14 @@ pub fn read(list: &str) -> Vec<Record> {
 
 fn add_line(record: &mut Record, line: &str) {
     let number = |text: &str| text.parse().expect("a number");
-    match line.split_at(2) {
-        ("s ", piece) => record.source.extend(unescape(piece)),
-        ("x ", repeated) => {
+    match line.split_once(' ') {
+        Some(("s", piece)) => record.source.extend(unescape(piece)),
+        Some(("x", repeated)) => {
             let (count, piece) = repeated.split_once(' ').expect("a count and a piece");
             record.source.extend(unescape(piece).repeat(number(count)));
         }
-        ("t ", length) => record.table = Some(number(length)),
-        ("b ", length) => record.room = Some(number(length)),
+        Some(("t", length)) => record.table = Some(number(length)),
+        Some(("b", length)) => record.room = Some(number(length)),
         _ => record.answer.push(line.to_string()),
     }
 }

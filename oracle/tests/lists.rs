@@ -1,14 +1,15 @@
-//! The lists in `lists/`: made again, replayed, and looked through for what they must cover.
+//! The lists: made again, replayed, and looked through for what they must cover.
 
 use std::collections::{BTreeMap, BTreeSet};
 
 use oracle::isa::ROWS;
 use oracle::list::{answer_lines, read, Record, USUAL_TABLE};
-use oracle::{answer_within, image_list, model, source_list};
+use oracle::{answer, answer_within, image_list, model, source_list, token_list};
 
 const RUST: &str = include_str!("../lists/rust.txt");
 const BY_HAND: &str = include_str!("../lists/by_hand.txt");
 const IMAGES: &str = include_str!("../lists/images.txt");
+const TOKENS: &str = include_str!("../../crates/tokens/stdin");
 
 #[test]
 fn the_made_lists_are_made_again() {
@@ -20,6 +21,10 @@ fn the_made_lists_are_made_again() {
     assert!(
         image_list() == IMAGES,
         "lists/images.txt is not what make-list writes"
+    );
+    assert!(
+        token_list() == TOKENS,
+        "crates/tokens/stdin is not what make-list writes"
     );
 }
 
@@ -135,7 +140,7 @@ fn listings_assemble_to_their_images() {
         let Ok(text) = model::list(&image, usize::MAX) else {
             continue;
         };
-        let lines = answer_lines(&oracle::answer(text.as_bytes()));
+        let lines = answer_lines(&answer(text.as_bytes()));
         assert!(lines[1..]
             .iter()
             .cloned()
@@ -143,4 +148,58 @@ fn listings_assemble_to_their_images() {
         listed += 1;
     }
     assert!(listed > 100, "only {listed} images are listed");
+}
+
+#[test]
+fn the_list_of_lines_covers_every_kind() {
+    let records = read(TOKENS);
+    assert!(records.len() >= 1500, "only {} lines", records.len());
+    // What the program `tokens` has room for.
+    assert!(TOKENS.len() < 131_072, "{} bytes", TOKENS.len());
+    let mut lines = BTreeSet::new();
+    for record in &records {
+        assert!(record.source.len() < 509 && !record.source.contains(&b'\n'));
+        assert!(lines.insert(&record.source), "a line stands twice");
+    }
+    let kinds: BTreeSet<_> = tokens(&records).map(|(_, kind, ..)| kind).collect();
+    assert!(kinds.into_iter().eq("(),:bdhimnr".bytes()));
+}
+
+/// A line as a source is refused by 3 exactly where the list says that it is bad.
+#[test]
+fn bad_lines_are_those_that_the_reference_refuses() {
+    for record in read(TOKENS) {
+        let lines = answer_lines(&answer(&record.source));
+        assert_eq!(record.answer == ["b"], lines[0].starts_with("r 3 "));
+    }
+}
+
+/// The places count from the line's first byte, and the spelling there is of the token's kind.
+#[test]
+fn tokens_stand_where_the_list_says() {
+    for (line, kind, start, length) in tokens(&read(TOKENS)) {
+        let spelling = &line[start..start + length];
+        assert!(match kind {
+            b'i' | b'r' => spelling[0].is_ascii_alphabetic() || spelling[0] == b'_',
+            b'n' => spelling.iter().all(u8::is_ascii_digit),
+            b'm' => spelling[0] == b'-',
+            b'h' => spelling.starts_with(b"0x"),
+            b'b' => spelling.starts_with(b"0b"),
+            b'd' => spelling[0] == b'.',
+            mark => spelling == [mark],
+        });
+    }
+}
+
+/// The tokens of a list of lines: the line, and the token's kind, start and length.
+fn tokens(records: &[Record]) -> impl Iterator<Item = (&[u8], u8, usize, usize)> {
+    records.iter().flat_map(|record| {
+        let lines = record.answer.iter();
+        lines.filter_map(|line| {
+            let mut words = line.strip_prefix("k ")?.split(' ');
+            let kind = words.next()?.as_bytes()[0];
+            let mut number = || words.next()?.parse().ok();
+            Some((&record.source[..], kind, number()?, number()?))
+        })
+    })
 }

@@ -16,7 +16,7 @@ pub struct Whole {
 }
 
 // A digit's value.
-pub fn digit_value(b: u8) -> u8
+pub(crate) fn digit_value(b: u8) -> u8
     ensures { λ r. ⌜ r ≡ digitValue b ⌝ }
 {
     if b <= b'9' {
@@ -42,7 +42,7 @@ pub fn wide(x: u8) -> u64
 }
 
 // The value of digits, the highest first; `cap` is the largest number whose product with the radix fits.
-pub fn value_of(digits: &[u8], radix: u64, cap: u64) -> Value
+pub(crate) fn value_of(digits: &[u8], radix: u64, cap: u64) -> Value
     requires { ⌜ Capped radix cap ⌝ }
     ensures { λ r. ⌜ valueMeant r ≡ fitting (valueOf radix (now (digits .entry))) ⌝ }
 {

@@ -1,14 +1,10 @@
-//! Writes the lists that are made: `rust.txt` and `images.txt`, into the folder given, or into
-//! `lists`.
+//! Writes the lists that are made to their places below the repository given, or `..`.
 
 use std::path::PathBuf;
 
 fn main() -> std::io::Result<()> {
-    let folder = PathBuf::from(
-        std::env::args()
-            .nth(1)
-            .unwrap_or_else(|| "lists".to_string()),
-    );
-    std::fs::write(folder.join("rust.txt"), oracle::source_list())?;
-    std::fs::write(folder.join("images.txt"), oracle::image_list())
+    let root = PathBuf::from(std::env::args().nth(1).unwrap_or_else(|| "..".to_string()));
+    std::fs::write(root.join("oracle/lists/rust.txt"), oracle::source_list())?;
+    std::fs::write(root.join("oracle/lists/images.txt"), oracle::image_list())?;
+    std::fs::write(root.join("crates/tokens/stdin"), oracle::token_list())
 }

@@ -1,0 +1,116 @@
+// How much was compared: lines, those that differ, and tokens by kind.
+use std::num::wrapping_add_u64;
+use text::lexer::Kind;
+use text::parser::Line;
+
+pub struct Tally {
+    pub lines: u64,
+    pub differences: u64,
+    pub bad: u64,
+    pub identifiers: u64,
+    pub registers: u64,
+    pub numbers: u64,
+    pub negatives: u64,
+    pub hexes: u64,
+    pub binaries: u64,
+    pub directives: u64,
+    pub commas: u64,
+    pub colons: u64,
+    pub openings: u64,
+    pub closings: u64,
+}
+
+// No run counts to 2^64.
+fn more(n: u64) -> u64 {
+    wrapping_add_u64(n, 1)
+}
+
+fn write_count(n: u64, what: &[u8]) {
+    io::print_decimal(1, n);
+    io::write_all(1, what);
+}
+
+impl Tally {
+    pub(crate) fn new() -> Tally {
+        Tally {
+            lines: 0,
+            differences: 0,
+            bad: 0,
+            identifiers: 0,
+            registers: 0,
+            numbers: 0,
+            negatives: 0,
+            hexes: 0,
+            binaries: 0,
+            directives: 0,
+            commas: 0,
+            colons: 0,
+            openings: 0,
+            closings: 0,
+        }
+    }
+
+    fn with_token(mut self, kind: Kind) -> Tally {
+        match kind {
+            Kind::Identifier => self.identifiers = more(self.identifiers),
+            Kind::Register(_) | Kind::NoRegister => self.registers = more(self.registers),
+            Kind::Number(_) => self.numbers = more(self.numbers),
+            Kind::Negative(_) => self.negatives = more(self.negatives),
+            Kind::Hex(_) => self.hexes = more(self.hexes),
+            Kind::Binary(_) => self.binaries = more(self.binaries),
+            Kind::Directive => self.directives = more(self.directives),
+            Kind::Comma => self.commas = more(self.commas),
+            Kind::Colon => self.colons = more(self.colons),
+            Kind::LParen => self.openings = more(self.openings),
+            Kind::RParen => self.closings = more(self.closings),
+        }
+        self
+    }
+
+    // The tokens that a line keeps.
+    fn with_tokens(self, line: Line) -> Tally {
+        let tokens = line.tokens;
+        let mut tally = self;
+        let mut i: usize = 0;
+        while i < 9 {
+            if i < line.count {
+                let token = tokens[i];
+                let kind = token.kind;
+                tally = tally.with_token(kind);
+            }
+            i += 1;
+        }
+        tally
+    }
+
+    // One line more. Where it differs, the number of its record is written.
+    pub(crate) fn with_line(mut self, line: Line, agrees: bool) -> Tally {
+        self.lines = more(self.lines);
+        if !agrees {
+            self.differences = more(self.differences);
+            io::write_all(1, b"differs: record ");
+            write_count(self.lines, b"\n");
+        }
+        if line.bad {
+            self.bad = more(self.bad);
+        }
+        self.with_tokens(line)
+    }
+
+    pub(crate) fn write(self) {
+        write_count(self.lines, b" lines, ");
+        write_count(self.differences, b" differences\n");
+        write_count(self.bad, b" bad lines\n");
+        write_count(self.identifiers, b" identifiers\n");
+        write_count(self.registers, b" registers\n");
+        write_count(self.numbers, b" numbers\n");
+        write_count(self.negatives, b" negative numbers\n");
+        write_count(self.hexes, b" hex numbers\n");
+        write_count(self.binaries, b" binary numbers\n");
+        write_count(self.directives, b" directives\n");
+        write_count(self.commas, b" commas\n");
+        write_count(self.colons, b" colons\n");
+        write_count(self.openings, b" opening parentheses\n");
+        write_count(self.closings, b" closing parentheses\n");
+    }
+}
