@@ -28,7 +28,7 @@ unfolding rowNamed
 carried q k r h = found (λ s. same (s .mnemonic) (r .mnemonic)) q table r h k .1
 
 -- No two entries are alike.
-unique : {A : Type 0} → (A → A → Bool) → List A → Bool
+unfoldable pub unique : {A : Type 0} → (A → A → Bool) → List A → Bool
 unique like [] = true
 unique like (a ∷ l) = elim (each (λ b. not (like a b)) l) [ true ↦ unique like l | false ↦ false ]
 

@@ -1,1 +1,6 @@
-// The instruction layer: the table of mnemonics, operands, words, and the text of an instruction.
+// The instruction layer: the table of mnemonics, instructions, operands, words, and the text of an instruction.
+pub mod assembler;
+pub mod display;
+pub mod encoder;
+pub mod instruction;
+pub mod opcode;

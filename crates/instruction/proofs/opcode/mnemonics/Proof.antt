@@ -1,0 +1,15 @@
+-- `instruction::opcode::mnemonics` meets its contract: the constant is computed from the table.
+use mathlib.Core.Path.{refl}
+use Rattle.text.specs.Bytes.{bytes}
+use Rattle.text.specs.Contracts.{packed, keyOf}
+use Rattle.instruction.specs.Table.{row, table}
+use Rattle.instruction.specs.Contracts.{mnemonicKeys}
+use Rattle.instruction.proofs.opcode.mnemonics.Statement.{statement}
+use Rattle.instruction.proofs.opcode.mnemonics.Tie as tie
+
+returns : tie.Need-returns
+unfolding mnemonicKeys keyOf packed table row bytes
+returns c = refl
+
+pub mnemonics-spec : {M : Type 1} → statement M
+mnemonics-spec = tie.close (tie.spec returns)

@@ -1,0 +1,15 @@
+-- `instruction::opcode::slots` meets its contract: the constant is computed from the table.
+use mathlib.Core.Path.{refl}
+use Rattle.text.specs.Bytes.{bytes}
+use Rattle.text.specs.Contracts.{packed, keyOf}
+use Rattle.instruction.specs.Table.{row, table}
+use Rattle.instruction.specs.Contracts.{mnemonicKeys, slotRow, slotRowsFrom, slotRows}
+use Rattle.instruction.proofs.opcode.slots.Statement.{statement}
+use Rattle.instruction.proofs.opcode.slots.Tie as tie
+
+returns : tie.Need-returns
+unfolding slotRows slotRowsFrom slotRow mnemonicKeys keyOf packed table row bytes
+returns c = refl
+
+pub slots-spec : {M : Type 1} → statement M
+slots-spec = tie.close (tie.spec returns)
