@@ -1,82 +1,20 @@
 -- The code's words: an instruction's from its parts, and a word's instruction from its row and its operands.
-use mathlib.Core.Path.{_≡_, refl, ap, _∙_}
-use Prim.Native.Nat.{ℕ, zero, suc, _+_, _%_, _^_, _<_}
-use native.Mathlib.Omega.{arith}
-use mathlib.Core.Bool.{Bool, true, false}
+use mathlib.Core.Path.{_≡_, ap, _∙_}
+use Prim.Native.Nat.{ℕ, _+_, _%_, _^_, _<_}
+use mathlib.Core.Bool.{true, false}
 use mathlib.Core.Option.{none, some}
-use mathlib.Core.List.{List, [], _∷_, map}
-use lib.ListN.{length, getD, List·getD-map}
+use mathlib.Core.List.{List}
+use lib.ListN.{getD}
 use lib.Dec.{ltb}
-use borrow.Author.Tests.{ltb-true}
-use Rattle.text.specs.Bytes.{value, refused, each}
-use Rattle.text.proofs.Tests.{both}
-use Rattle.instruction.specs.Table.{Form, R, I, Shift, Load, Store, Branch, Jump, System, places, Row, row, table, rowCoded}
+use Rattle.text.specs.Bytes.{value, refused}
+use Rattle.instruction.specs.Table.{places, row, rowCoded}
 use Rattle.instruction.specs.Operands.{Instruction as Meant}
 use Rattle.instruction.specs.Words.{fields, wordOf, registersIn, numberIn, unusedFrom, taken, instructionOf}
-use Rattle.instruction.specs.Contracts.{rowAt, formAt, formNumber, formNumbers, opcodeNumbers, operandsMeant, partsOf, partsMeant, instructionMeant}
+use Rattle.instruction.specs.Contracts.{rowAt, formAt, formNumbers, opcodeNumbers, operandsMeant, partsOf, partsMeant, instructionMeant}
 use Rattle.instruction.specs.declared.instruction.Instruction.{Instruction}
 use Rattle.instruction.specs.declared.instruction.Operands.{Operands}
 use Rattle.instruction.specs.declared.instruction.Parts.{Parts}
-use Rattle.instruction.proofs.Rows.{fifty}
-
--- ---- the table's columns
-
--- The opcode of a row.
-pub opcode-at : (i : ℕ) → getD opcodeNumbers i 0 ≡ rowAt i .opcode
-unfolding opcodeNumbers
-opcode-at i = List·getD-map (λ r. r .opcode) table i (record { mnemonic = []; opcode = 0; form = System })
-
-opcodes-small : each (λ o. ltb o 128) opcodeNumbers ≡ true
-unfolding each opcodeNumbers table row
-opcodes-small = refl
-
-each-at : (p : ℕ → Bool) (l : List ℕ) → each p l ≡ true → p 0 ≡ true → (i : ℕ) → p (getD l i 0) ≡ true
-unfolding each
-each-at p [] h z i = z
-each-at p (a ∷ l) h z zero = both (p a) (each p l) h .0
-each-at p (a ∷ l) h z (suc i) = each-at p l (both (p a) (each p l) h .1) z i
-
--- It has seven bits.
-pub opcode-small : (i : ℕ) → getD opcodeNumbers i 0 < 128
-opcode-small i = ltb-true (getD opcodeNumbers i 0) 128 (each-at (λ o. ltb o 128) opcodeNumbers opcodes-small refl i)
-
-form-numbered : (f : Form) → formAt (formNumber f) ≡ f
-unfolding formNumber
-form-numbered R = refl
-form-numbered I = refl
-form-numbered Shift = refl
-form-numbered Load = refl
-form-numbered Store = refl
-form-numbered Branch = refl
-form-numbered Jump = refl
-form-numbered System = refl
-
-form-small : (f : Form) → formNumber f < 8
-unfolding formNumber
-form-small R = omega arith
-form-small I = omega arith
-form-small Shift = omega arith
-form-small Load = omega arith
-form-small Store = omega arith
-form-small Branch = omega arith
-form-small Jump = omega arith
-form-small System = omega arith
-
-form-number-at : (d : Row) (l : List Row) (i : ℕ) → i < length l → getD (map (λ r. formNumber (r .form)) l) i 0 ≡ formNumber (getD l i d .form)
-form-number-at d [] i h = absurd (omega arith)
-form-number-at d (r ∷ l) zero h = refl
-form-number-at d (r ∷ l) (suc i) h = form-number-at d l i (omega arith)
-
--- The form of a row, by its number.
-form-column : (i : ℕ) → i < 50 → getD formNumbers i 0 ≡ formNumber (rowAt i .form)
-unfolding formNumbers
-form-column i h = form-number-at (record { mnemonic = []; opcode = 0; form = System }) table i (rw fifty h)
-
-pub form-at : (i : ℕ) → i < 50 → formAt (getD formNumbers i 0) ≡ rowAt i .form
-form-at i h = rw (form-column i h) (form-numbered (rowAt i .form))
-
-pub form-below : (i : ℕ) → i < 50 → getD formNumbers i 0 < 8
-form-below i h = rw (form-column i h) (form-small (rowAt i .form))
+use Rattle.instruction.proofs.Columns.{opcode-at, form-at}
 
 -- ---- an instruction's word
 

@@ -1,11 +1,11 @@
 -- The rows of the table by their places: what the columns hold of them, and a key taken apart byte by byte.
-use mathlib.Core.Path.{_≡_, refl, ap, _∙_}
+use mathlib.Core.Path.{_≡_, refl, _∙_}
 use mathlib.Core.Bool.{Bool, true}
 use mathlib.Core.List.{List, [], _∷_, map}
 use Prim.Native.Nat.{ℕ, zero, suc, _+_, _*_, _/_, _%_, _≤_, _<_}
 use native.Mathlib.Numerals.{add-one}
 use native.Mathlib.Omega.{arith}
-use lib.ListN.{length, take, drop, getD, set, drop-of-length-le}
+use lib.ListN.{length, List·getD-map, take, drop, getD, set, drop-of-length-le}
 use lib.Seq.{length-take-le, take-suc, take-all, drop-cons}
 use lib.Dec.{leb, ltb}
 use borrow.Author.Tests.{leb-true, ltb-true}
@@ -15,7 +15,7 @@ use Rattle.text.proofs.Tests.{split, both}
 use Rattle.text.proofs.Strings.{every-head, every-tail}
 use Rattle.text.proofs.Keys.{isKeyed, key-short}
 use Rattle.instruction.specs.Table.{Form, R, I, Shift, Load, Store, Branch, Jump, System, row, table}
-use Rattle.instruction.specs.Contracts.{rowAt, formAt, formNumber, mnemonicKeys, formNumbers, Written}
+use Rattle.instruction.specs.Contracts.{rowAt, formAt, formNumber, mnemonicKeys, formNumbers, opcodeNumbers, Written}
 use Rattle.instruction.proofs.Writing.{written-none, written-byte, written-append, written-length}
 
 -- ---- columns
@@ -60,21 +60,56 @@ pub mnemonic-packed : (i : ℕ) → i < 50 → getD mnemonicKeys i 0 ≡ packed 
 unfolding mnemonicKeys table
 mnemonic-packed i h = column-at (λ r. keyOf (r .mnemonic)) table i _ h ∙ key-short (rowAt i .mnemonic) (mnemonic-short i h .few)
 
-form-again : (f : Form) → formAt (formNumber f) ≡ f
-unfolding formNumber
-form-again R = refl
-form-again I = refl
-form-again Shift = refl
-form-again Load = refl
-form-again Store = refl
-form-again Branch = refl
-form-again Jump = refl
-form-again System = refl
+-- The column of opcodes has numbers of seven bits.
+pub opcode-at : (i : ℕ) → getD opcodeNumbers i 0 ≡ rowAt i .opcode
+unfolding opcodeNumbers
+opcode-at i = List·getD-map (λ r. r .opcode) table i (record { mnemonic = []; opcode = 0; form = System })
+
+opcodes-small : each (λ o. ltb o 128) opcodeNumbers ≡ true
+unfolding each opcodeNumbers table row
+opcodes-small = refl
+
+each-or : (p : ℕ → Bool) (l : List ℕ) → each p l ≡ true → p 0 ≡ true → (i : ℕ) → p (getD l i 0) ≡ true
+unfolding each
+each-or p [] h z i = z
+each-or p (a ∷ l) h z zero = both (p a) (each p l) h .0
+each-or p (a ∷ l) h z (suc i) = each-or p l (both (p a) (each p l) h .1) z i
+
+pub opcode-small : (i : ℕ) → getD opcodeNumbers i 0 < 128
+opcode-small i = ltb-true (getD opcodeNumbers i 0) 128 (each-or (λ o. ltb o 128) opcodeNumbers opcodes-small refl i)
 
 -- The column of forms has a row's form by its number.
-pub form-numbered : (i : ℕ) → i < 50 → formAt (getD formNumbers i 0) ≡ rowAt i .form
+form-numbered : (f : Form) → formAt (formNumber f) ≡ f
+unfolding formNumber
+form-numbered R = refl
+form-numbered I = refl
+form-numbered Shift = refl
+form-numbered Load = refl
+form-numbered Store = refl
+form-numbered Branch = refl
+form-numbered Jump = refl
+form-numbered System = refl
+
+form-small : (f : Form) → formNumber f < 8
+unfolding formNumber
+form-small R = omega arith
+form-small I = omega arith
+form-small Shift = omega arith
+form-small Load = omega arith
+form-small Store = omega arith
+form-small Branch = omega arith
+form-small Jump = omega arith
+form-small System = omega arith
+
+pub form-column : (i : ℕ) → i < 50 → getD formNumbers i 0 ≡ formNumber (rowAt i .form)
 unfolding formNumbers table
-form-numbered i h = ap formAt (column-at (λ r. formNumber (r .form)) table i _ h) ∙ form-again (rowAt i .form)
+form-column i h = column-at (λ r. formNumber (r .form)) table i _ h
+
+pub form-at : (i : ℕ) → i < 50 → formAt (getD formNumbers i 0) ≡ rowAt i .form
+form-at i h = rw (form-column i h) (form-numbered (rowAt i .form))
+
+pub form-below : (i : ℕ) → i < 50 → getD formNumbers i 0 < 8
+form-below i h = rw (form-column i h) (form-small (rowAt i .form))
 
 -- ---- a key, byte by byte
 

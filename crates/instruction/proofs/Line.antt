@@ -25,7 +25,6 @@ use Rattle.instruction.specs.declared.assembler.Six.{Six}
 use Rattle.instruction.specs.declared.assembler.Operand.{Operand}
 use Rattle.instruction.specs.declared.assembler.Operand.the-variants.{Are, Refused}
 use Rattle.instruction.specs.declared.instruction.Operands.{Operands}
-use Rattle.instruction.proofs.Rows.{fifty}
 use Rattle.instruction.proofs.Lookup.{row-by-key}
 use Rattle.instruction.proofs.Parsing.{lowered-below}
 
@@ -200,12 +199,6 @@ pub mnemonic-known : {k : Kind} {x y : Result Instruction} (u : List ℕ) (count
     → y ≡ readRow r count ts → readMnemonic (kindMeant k u) count ts ≡ x → y ≡ x
 unfolding readMnemonic readIdentifier
 mnemonic-known u count ts r g e h i = h ∙ (rw (g, readMnemonic, e) at i)
-
--- What a column of the table has at a row's place.
-pub column : (f : Row → ℕ) (i : ℕ) → i < 50 → getD (map f table) i 0 ≡ f (rowAt i)
-column f i h =
-    let d : Row = record { mnemonic = []; opcode = 0; form = System } in
-    getD-any (map f table) i 0 (f d) (rw (length-map table f, fifty) h) ∙ List·getD-map f table i d
 
 -- ---- a line without a label
 

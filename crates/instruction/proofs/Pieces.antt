@@ -12,7 +12,7 @@ use Rattle.instruction.specs.Text.{registerText, numberText, placesText,
 use Rattle.instruction.specs.Contracts.{rowAt, formAt, formNumbers, registersFor, numberFor, partsMeant, firstText, pairText, baseText, formText}
 use Rattle.instruction.specs.declared.instruction.Operands.{Operands}
 use Rattle.instruction.specs.declared.instruction.Parts.{Parts}
-use Rattle.instruction.proofs.Columns.{form-numbered}
+use Rattle.instruction.proofs.Columns.{form-at}
 
 module _ (o : Operands) where
   abbrev number : List ℕ
@@ -88,4 +88,4 @@ module _ (o : Operands) where
 pub parts-text : (p : Parts) (forms : List ℕ) → p .row < 50 → forms ≡ formNumbers
     → instructionText (partsMeant p) ≡ rowAt (p .row) .mnemonic ++ formText (formAt (getD forms (p .row) 0)) (p .operands)
 unfolding instructionText formText
-parts-text p forms l f = rw (f, form-numbered (p .row) l)
+parts-text p forms l f = rw (f, form-at (p .row) l)

@@ -251,12 +251,6 @@ fn six_behind(tokens: [Token; 9], at: usize) -> Six
     }
 }
 
-fn wide(x: u8) -> u64
-    ensures { λ r. ⌜ r ≡ x ⌝ }
-{
-    x as u64
-}
-
 // The key of a spelling in lower case.
 fn lower_key(spelling: &[u8]) -> u64
     ensures { λ r. ⌜ r ≡ keyOf (map lower (now (spelling .entry))) ⌝ }
@@ -268,7 +262,7 @@ fn lower_key(spelling: &[u8]) -> u64
     let mut i = spelling.len();
     while 0 < i {
         i -= 1;
-        key = key * 256 + wide(text::bytes::to_lower(spelling[i]));
+        key = key * 256 + text::number::wide(text::bytes::to_lower(spelling[i]));
     }
     key
 }

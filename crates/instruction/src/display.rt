@@ -237,7 +237,7 @@ fn write_operands(out: &mut [u8], at: usize, form: u8, operands: Operands) -> us
 // A row's mnemonic, and the operands of its form.
 fn parts_length(parts: Parts, mnemonics: &[u64; 50], forms: &[u8; 50]) -> usize
     requires { ⌜ parts .row < 50 ⌝ ∗ ⌜ now mnemonics ≡ mnemonicKeys ⌝ ∗ ⌜ now forms ≡ formNumbers ⌝ }
-    ensures { λ r. ⌜ r ≡ length (instructionText (partsMeant parts)) ⌝ }
+    ensures { λ r. ⌜ r ≡ length (instructionText (partsMeant parts)) ⌝ ∗ ⌜ r ≤ 75 ⌝ }
 {
     let row = parts.row;
     let operands = parts.operands;
@@ -267,7 +267,7 @@ pub fn instruction_length(
     forms: &[u8; 50],
 ) -> usize
     requires { ⌜ now mnemonics ≡ mnemonicKeys ⌝ ∗ ⌜ now forms ≡ formNumbers ⌝ }
-    ensures { λ r. ⌜ r ≡ length (instructionText (instructionMeant instruction)) ⌝ }
+    ensures { λ r. ⌜ r ≡ length (instructionText (instructionMeant instruction)) ⌝ ∗ ⌜ r ≤ 75 ⌝ }
 {
     let parts = instruction.to_parts();
     parts_length(parts, mnemonics, forms)

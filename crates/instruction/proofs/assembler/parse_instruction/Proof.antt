@@ -17,8 +17,9 @@ use Rattle.text.specs.declared.lexer.Token.{Token}
 use Rattle.text.proofs.lexer.Kind as kind
 use Rattle.instruction.specs.Table.{rowNamed}
 use Rattle.instruction.specs.Operands.{readIdentifier, readMnemonic, readInstruction, behind}
-use Rattle.instruction.specs.Contracts.{rowAt, formNumber, formNumbers, IsRow}
-use Rattle.instruction.proofs.Line.{getD-any, first-none, first-some, below-part, named-by-key, mnemonic-unknown, mnemonic-known, column}
+use Rattle.instruction.specs.Contracts.{rowAt, formNumbers, IsRow}
+use Rattle.instruction.proofs.Line.{getD-any, first-none, first-some, below-part, named-by-key, mnemonic-unknown, mnemonic-known}
+use Rattle.instruction.proofs.Columns.{form-column}
 use Rattle.instruction.proofs.assembler.parse_instruction.Statement.{statement}
 use Rattle.instruction.proofs.assembler.parse_instruction.Tie as tie
 
@@ -127,7 +128,7 @@ parse-row-requires c κs =
     let e = r .before .before .before .before .before .before .before .before .before in
     let b = e .before .before .before in
     let f = found-row r .0 in
-    (f, (rw (b .pre .1 .1 .1 .0) (column (λ q. formNumber (q .form)) (r .row .given .0 .0) f), (e .if1 .left, (b .pre .1 .0, b .pre .0 .nine))))
+    (f, (rw (b .pre .1 .1 .1 .0) (form-column (r .row .given .0 .0) f), (e .if1 .left, (b .pre .1 .0, b .pre .0 .nine))))
 
 -- the mnemonic's token is the first of the line behind `at`
 first : (c : tie.After-enum-told) → let a = c .before .before .before .before .before .before .args in

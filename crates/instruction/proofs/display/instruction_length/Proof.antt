@@ -10,7 +10,7 @@ parts-length-requires : tie.Need-parts-length-requires
 parts-length-requires c κs = (c .to-parts .ensures .1, c .before .pre)
 
 returns : tie.Need-returns
-returns c = rw (c .before .to-parts .ensures .0) at (c .parts-length .ensures)
+returns c = (rw (c .before .to-parts .ensures .0) at (c .parts-length .ensures .0), c .parts-length .ensures .1)
 
 pub instruction-length-spec : {M : Type 1} → statement M
 instruction-length-spec =

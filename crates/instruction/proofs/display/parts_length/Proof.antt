@@ -23,7 +23,9 @@ returns : tie.Need-returns
 returns c =
     let s = c .before .before .before .before in
     let e = parts-text (s .args .parts) (s .args .forms .now) (s .pre .0) (s .pre .1 .1) in
-    omega (arith, simp length-append at (ap length e), c .before .before .mnemonic-length .ensures .0, c .operands-length .ensures .0)
+    let m = c .before .before .mnemonic-length .ensures in
+    let o = c .operands-length .ensures in
+    (omega (arith, simp length-append at (ap length e), m .0, o .0), omega (arith, m .1, o .1))
 
 pub parts-length-spec : {M : Type 1} → statement M
 parts-length-spec =

@@ -5,7 +5,8 @@ use borrow.Author.Needs.{needs}
 use Rattle.instruction.specs.Table.{rowCoded}
 use Rattle.instruction.specs.Contracts.{IsRow, instructionMeant}
 use Rattle.instruction.specs.declared.opcode.Row.the-variants.{At}
-use Rattle.instruction.proofs.Coding.{form-below, word-unknown, word-unused, word-taken}
+use Rattle.instruction.proofs.Columns.{form-below}
+use Rattle.instruction.proofs.Coding.{word-unknown, word-unused, word-taken}
 use Rattle.instruction.proofs.encoder.decode.Statement.{statement}
 use Rattle.instruction.proofs.encoder.decode.Tie as tie
 

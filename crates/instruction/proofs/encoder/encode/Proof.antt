@@ -2,7 +2,8 @@
 use Prim.Native.Nat.{_<_}
 use native.Mathlib.Omega.{arith}
 use borrow.Author.Needs.{needs}
-use Rattle.instruction.proofs.Coding.{opcode-small, word-of-parts}
+use Rattle.instruction.proofs.Columns.{opcode-small}
+use Rattle.instruction.proofs.Coding.{word-of-parts}
 use Rattle.instruction.proofs.encoder.encode.Statement.{statement}
 use Rattle.instruction.proofs.encoder.encode.Tie as tie
 
