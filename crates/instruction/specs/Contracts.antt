@@ -39,7 +39,7 @@ use Rattle.instruction.specs.declared.assembler.Six.{Six}
 
 -- ---- the table
 
--- The rows of the table by their places in it, and how many there are.
+-- A row of the table by its place in it.
 abbrev pub rowAt : ℕ → Row
 rowAt i = getD table i (record { mnemonic = []; opcode = 0; form = System })
 

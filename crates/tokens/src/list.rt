@@ -65,12 +65,16 @@ pub(crate) fn next_record(list: &[u8], from: usize) -> usize
     at
 }
 
+pub(crate) fn wide(x: u8) -> u64 {
+    x as u64
+}
+
 // Ten times a number and a digit; the list's numbers are below 2^64.
 fn extended(value: u64, digit: u8) -> u64 {
     if 1844674407370955161 < value {
         return 0;
     }
-    wrapping_add_u64(value * 10, text::number::wide(digit))
+    wrapping_add_u64(value * 10, wide(digit))
 }
 
 pub(crate) fn number_at(list: &[u8], from: usize) -> Number {

@@ -19,7 +19,7 @@ struct Spelling(u8, u64);
 fn spelled(kind: Kind) -> Spelling {
     match kind {
         Kind::Identifier => Spelling(b'i', 0),
-        Kind::Register(register) => Spelling(b'r', text::number::wide(register.index())),
+        Kind::Register(register) => Spelling(b'r', list::wide(register.index())),
         Kind::NoRegister => Spelling(b'r', 16),
         Kind::Number(value) => Spelling(b'n', value),
         Kind::Negative(value) => Spelling(b'm', value),
