@@ -1,6 +1,6 @@
 // Words: an instruction's word, and a word's instruction.
 ghost use mathlib.Core.Path.{_≡_};
-ghost use Prim.Native.Nat.{_+_, _*_, _/_, _%_, _^_, _≤_, _<_};
+ghost use Prim.Native.Nat.{suc, _+_, _*_, _/_, _%_, _^_, _≤_, _<_};
 ghost use lib.Dec.{ltb};
 ghost use Rattle.text.specs.Contracts.{indexOf, wholeMeant, Reduced};
 ghost use Rattle.instruction.specs.Table.{places};
@@ -18,12 +18,12 @@ fn wide(x: u8) -> u32
     x as u32
 }
 
-// The low bits of a number, as many as `modulus` says.
-fn reduced(number: Whole, modulus: u64) -> u32
-    requires { ⌜ Power modulus ⌝ }
-    ensures { λ r. ⌜ Reduced modulus (wholeMeant number) r ⌝ ∗ ⌜ r < modulus ⌝ }
+// The low bits of a number, as many as `most` has ones.
+fn reduced(number: Whole, most: u64) -> u32
+    requires { ⌜ Power (suc most) ⌝ }
+    ensures { λ r. ⌜ Reduced (suc most) (wholeMeant number) r ⌝ ∗ ⌜ r ≤ most ⌝ }
 {
-    number.residue(modulus) as u32
+    number.residue(most) as u32
 }
 
 // A register's number, with room above it.
@@ -53,11 +53,11 @@ fn fields(form: u8, operands: Operands) -> u32
     let high = number_of(second);
     match form {
         0 => spread(low, high, number_of(third)),
-        1 | 3 | 5 => spread(low, high, reduced(number, 0x20000)),
-        2 => spread(low, high, reduced(number, 0x100)),
+        1 | 3 | 5 => spread(low, high, reduced(number, 0x1FFFF)),
+        2 => spread(low, high, reduced(number, 0xFF)),
         // a store's registers stand the other way round
-        4 => spread(high, low, reduced(number, 0x20000)),
-        6 => low * 0x80 + reduced(number, 0x200000) * 0x800,
+        4 => spread(high, low, reduced(number, 0x1FFFF)),
+        6 => low * 0x80 + reduced(number, 0x1FFFFF) * 0x800,
         _ => 0,
     }
 }

@@ -105,11 +105,11 @@ residue-meant true k v h =
     split (v + v) (2 ^ k) (λ l. rw (meantBy, lt-ltb (v + v) (2 ^ k) l) (mod-eq-of-lt h))
     (λ l. rw (meantBy, le-ltb (v + v) (2 ^ k) l, mod-eq-of-lt {n = 2 ^ k - suc v} {m = 2 ^ k} (omega (arith, pow-pos k))) (omega arith))
 
--- The residue of -m, as the code reduces it.
-pub remainder-minus : (m n : ℕ) → 0 < n → remainder m (minus n) ≡ m - suc ((n - 1) % m)
+-- What -n leaves, as the code finds it.
+pub remainder-minus : (most n : ℕ) → 0 < n → remainder (suc most) (minus n) ≡ most - (n - 1) % suc most
 unfolding minus
-remainder-minus m zero h = absurd (omega arith)
-remainder-minus m (suc n) h = let e : suc n - 1 ≡ n = omega arith in rw e
+remainder-minus most zero h = absurd (omega arith)
+remainder-minus most (suc n) h = let e : suc n - 1 ≡ n = omega arith in rw e (omega arith)
 
 -- A remainder modulo a power of two is the residue of that width.
 remainder-residue : (k : ℕ) (z : ℤ) → remainder (2 ^ k) z ≡ residue k z

@@ -1,6 +1,6 @@
 // Numbers: the value of digits where it fits 64 bits, whole numbers, and their residues.
 ghost use mathlib.Core.Path.{_≡_};
-ghost use Prim.Native.Nat.{_<_};
+ghost use Prim.Native.Nat.{suc, _%_};
 ghost use Rattle.text.specs.Numbers.{digitValue, valueOf};
 ghost use Rattle.text.specs.Contracts.{valueMeant, fitting, Capped, wholeMeant, Reduced};
 
@@ -63,18 +63,27 @@ pub(crate) fn value_of(digits: &[u8], radix: u64, cap: u64) -> Value
     Value::Fits(value)
 }
 
+// What a number leaves modulo `most` + 1, which may be 2^64.
+fn wrapped(n: u64, most: u64) -> u64
+    ensures { λ r. ⌜ r ≡ n % suc most ⌝ }
+{
+    if n <= most {
+        return n;
+    }
+    n % (most + 1)
+}
+
 impl Whole {
-    // What the number leaves modulo 2^k, where 2^k is `modulus`.
-    pub fn residue(self, modulus: u64) -> u64
-        requires { ⌜ 0 < modulus ⌝ }
-        ensures { λ r. ⌜ Reduced modulus (wholeMeant self) r ⌝ }
+    // What the number leaves modulo `most` + 1: its low bits, where `most` is so many ones.
+    pub fn residue(self, most: u64) -> u64
+        ensures { λ r. ⌜ Reduced (suc most) (wholeMeant self) r ⌝ }
     {
         let magnitude = self.magnitude;
         if self.negative {
             if 0 < magnitude {
-                return modulus - 1 - (magnitude - 1) % modulus;
+                return most - wrapped(magnitude - 1, most);
             }
         }
-        magnitude % modulus
+        wrapped(magnitude, most)
     }
 }

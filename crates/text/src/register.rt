@@ -1,6 +1,6 @@
 // The sixteen registers.
 ghost use mathlib.Core.Path.{_≡_};
-ghost use Prim.Native.Nat.{_<_};
+ghost use Prim.Native.Nat.{min};
 ghost use Rattle.text.specs.Contracts.{indexOf};
 
 pub enum Register {
@@ -47,10 +47,9 @@ impl Register {
         }
     }
 
-    // The register with a number.
+    // The register with a number; there is none above R15.
     pub fn from_index(index: u8) -> Register
-        requires { ⌜ index < 16 ⌝ }
-        ensures { λ r. ⌜ indexOf r ≡ index ⌝ }
+        ensures { λ r. ⌜ indexOf r ≡ min index 15 ⌝ }
     {
         match index {
             0 => Register::R0,

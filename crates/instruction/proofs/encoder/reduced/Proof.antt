@@ -1,7 +1,9 @@
 -- `instruction::encoder::reduced` meets its contract.
 use Prim.Native.Nat.{_^_, _≤_, _<_}
 use native.Mathlib.Omega.{arith}
-use lib.Pow.{pow-pos, pow-mono}
+use native.Mathlib.Nat.{le-of-suc-le-suc}
+use lib.Pow.{pow-mono}
+use borrow.Author.Needs.{needs}
 use Rattle.text.specs.Numbers.{residue}
 use Rattle.text.specs.Contracts.{wholeMeant}
 use Rattle.text.proofs.Numbers.{residue-lt}
@@ -9,7 +11,7 @@ use Rattle.instruction.proofs.encoder.reduced.Statement.{statement}
 use Rattle.instruction.proofs.encoder.reduced.Tie as tie
 
 residue-requires : tie.Need-residue-requires
-residue-requires c κs = rw (c .pre .is-power) (pow-pos (c .pre .width))
+residue-requires c κs = search needs
 
 -- what is left is below the modulus
 bound : (c : tie.After-residue) → c .residue .result < 2 ^ (c .before .pre .width)
@@ -23,7 +25,7 @@ cast-result c =
     omega (arith, bound c)
 
 returns : tie.Need-returns
-returns c = (c .residue .ensures, rw (c .before .pre .is-power) (bound c))
+returns c = (c .residue .ensures, le-of-suc-le-suc (rw (c .before .pre .is-power) (bound c)))
 
 pub reduced-spec : {M : Type 1} → statement M
 reduced-spec = tie.close (tie.spec residue-requires cast-result returns)

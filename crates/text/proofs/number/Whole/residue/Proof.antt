@@ -1,6 +1,6 @@
 -- `text::number::Whole::residue` meets its contract.
-use Prim.Native.Nat.{_-_}
-use mathlib.Core.Path.{_≡_}
+use Prim.Native.Nat.{suc, _-_}
+use mathlib.Core.Path.{_≡_, sym, _∙_}
 use mathlib.Core.Logic.{⊎-elim}
 use native.Mathlib.Nat.{mod-lt}
 use native.Mathlib.Omega.{arith}
@@ -10,34 +10,34 @@ use Rattle.text.proofs.Numbers.{remainder-minus, reduced}
 use Rattle.text.proofs.number.Whole.residue.Statement.{statement}
 use Rattle.text.proofs.number.Whole.residue.Tie as tie
 
+sub-wrapped : tie.Need-sub-wrapped
+sub-wrapped c = search needs
+
+wrapped-requires : tie.Need-wrapped-requires
+wrapped-requires c κs = search needs
+
 sub-result : tie.Need-sub-result
-sub-result c = search needs
-
-sub-result-2 : tie.Need-sub-result-2
-sub-result-2 c = search needs
-
-rem-result : tie.Need-rem-result
-rem-result c = search needs
-
-sub-result-3 : tie.Need-sub-result-3
-sub-result-3 c = omega (arith, mod-lt (c .before .before .args .self .magnitude - 1) (c .before .before .pre))
+sub-result c =
+    let a = c .before .before .before .args in
+    omega (arith, c .wrapped .ensures, mod-lt (a .self .magnitude - 1) {m = suc (a .most)} (omega arith))
 
 returns : tie.Need-returns
 returns c =
-    let a = c .before .before .args in
-    reduced (a .modulus) _ _ (rw (c .before .if1 .taken, remainder-minus (a .modulus) (a .self .magnitude) (c .if2 .taken)) (omega arith))
+    let a = c .before .before .before .args in
+    reduced (suc (a .most)) _ _
+    (rw (c .before .before .if1 .taken, c .wrapped .ensures) (sym (remainder-minus (a .most) (a .self .magnitude) (c .before .if2 .taken))))
 
-rem-result-2 : tie.Need-rem-result-2
-rem-result-2 c = search needs
+wrapped-requires-2 : tie.Need-wrapped-requires-2
+wrapped-requires-2 c κs = search needs
 
 returns-2 : tie.Need-returns-2
 unfolding minus
 returns-2 c =
-    let a = c .before .args in
-    reduced (a .modulus) _ _
-    (⊎-elim (λ w. let z : a .self .magnitude ≡ 0 = omega (arith, w .1 .left) in rw (w .0 .taken, z)) (λ w. rw (w .left)) (c .if1 .came))
+    let a = c .before .before .args in
+    reduced (suc (a .most)) _ _
+    (c .wrapped2 .ensures ∙ ⊎-elim (λ w. let z : a .self .magnitude ≡ 0 = omega (arith, w .1 .left) in rw (w .0 .taken, z)) (λ w. rw (w .left)) (c .before .if1 .came))
 
 pub residue-spec : {M : Type 1} → statement M
 residue-spec =
     tie.close
-    (tie.spec sub-result sub-result-2 rem-result sub-result-3 returns rem-result-2 returns-2)
+    (tie.spec sub-wrapped wrapped-requires sub-result returns wrapped-requires-2 returns-2)

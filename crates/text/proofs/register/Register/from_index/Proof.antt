@@ -1,7 +1,6 @@
 -- `text::register::Register::from_index` meets its contract.
 use Prim.Native.Nat.{ℕ, zero, suc, _≤_}
 use mathlib.Core.Path.{_≡_}
-use native.Mathlib.Nat.{le-antisymm, le-of-suc-le-suc}
 use native.Mathlib.Omega.{arith}
 use borrow.Author.Needs.{needs}
 use Rattle.text.proofs.register.Register.from_index.Statement.{statement}
@@ -62,7 +61,7 @@ from-on zero x h = omega arith
 from-on (suc n) x h = let l = from-on n x (h .0) in omega (arith, h .1)
 
 returns-16 : tie.Need-returns-16
-returns-16 c = le-antisymm (from-on 15 (c .before .args .index) (c .match .rest)) (le-of-suc-le-suc (c .before .pre))
+returns-16 c = let l = from-on 15 (c .before .args .index) (c .match .rest) in omega arith
 
 pub from-index-spec : {M : Type 1} → statement M
 from-index-spec =
