@@ -2,36 +2,29 @@
 
 use crate::answer::{answer, Answer};
 use crate::gen::{self, Kind, Rng};
-use crate::isa::ROWS;
+use crate::isa::{Row, ROWS};
 use crate::list::{image_lines, write_pieces};
 use crate::model::{list, open, unused_bits};
+use crate::sources::PROGRAM;
 
 /// The seeds of the programs whose images are listed whole, and of those that are damaged.
-const WHOLE: std::ops::Range<u64> = 2000..2040;
-const DAMAGED: std::ops::Range<u64> = 3000..3120;
+pub(crate) const WHOLE: std::ops::Range<u64> = 2000..2040;
+pub(crate) const DAMAGED: std::ops::Range<u64> = 3000..3120;
 
-/// A text buffer that holds every text of this list.
+/// A text buffer that holds every text of this list but those of the longest images, and one that
+/// holds the text of every image.
 const AMPLE: usize = 2048;
+const LARGEST: usize = 721_000;
 
 /// An image, and the length of the text buffer lent.
 type Case = (Vec<u8>, usize);
 
-/// The text of `lists/images.txt`.
-pub fn image_list() -> String {
-    let mut out = format!(
-        "# Images and what Opening and Listing answer. The format is described in README.md.\n\
-         # Made by `make-list` with `model`, which follows document 01 alone: chosen images,\n\
-         # images of programs with seeds {} to {}, damaged ones with seeds {} to {}.\n",
-        WHOLE.start,
-        WHOLE.end - 1,
-        DAMAGED.start,
-        DAMAGED.end - 1
-    );
+/// Writes the records of all images.
+pub(crate) fn write_images(out: &mut String) {
     for (image, room) in cases() {
         out.push('\n');
-        write_record(&mut out, &image, room);
+        write_record(out, &image, room);
     }
-    out
 }
 
 fn write_record(out: &mut String, image: &[u8], room: usize) {
@@ -71,6 +64,7 @@ fn write_record(out: &mut String, image: &[u8], room: usize) {
 fn cases() -> Vec<Case> {
     let ample = |images: Vec<Vec<u8>>| images.into_iter().map(|image| (image, AMPLE));
     let mut cases = Vec::new();
+    cases.push((image_of_source(PROGRAM), AMPLE));
     cases.extend(ample(every_mnemonic()));
     cases.extend(ample(WHOLE.map(program_image).collect()));
     cases.extend(text_buffers());
@@ -82,6 +76,7 @@ fn cases() -> Vec<Case> {
     cases.extend(ample(every_unused_bit()));
     cases.extend(ample(faulty_words()));
     cases.extend(ample(DAMAGED.map(damaged_image).collect()));
+    cases.extend(long_images());
     let mut seen = std::collections::HashSet::new();
     cases.retain(|case| seen.insert(case.clone()));
     cases
@@ -125,33 +120,40 @@ fn sized(code: u32, data: u32, behind: usize) -> Vec<u8> {
 
 /// The image of a made program.
 fn program_image(seed: u64) -> Vec<u8> {
-    match answer(&gen::source(Kind::Program, seed)) {
+    image_of_source(&gen::source(Kind::Program, seed))
+}
+
+/// The image of an accepted source.
+fn image_of_source(source: &[u8]) -> Vec<u8> {
+    match answer(source) {
         Answer::Accepted { image, .. } => image,
-        refused => panic!("a made program is refused: {refused:?}"),
+        refused => panic!("a source with an image is refused: {refused:?}"),
     }
 }
 
 /// For each mnemonic an image of words with its fields at their ends and in between.
 fn every_mnemonic() -> Vec<Vec<u8>> {
-    let words = |opcode: u32, fields: u32| {
-        let registers = (1 << 7) | (2 << 11) | (3 << 15);
-        let highest = 1 << (31 - fields.leading_zeros().min(31));
-        [
-            0,
-            fields,
-            registers,
-            0x5555_5555,
-            0xAAAA_AAAA,
-            highest,
-            !highest,
-            0x0000_0780,
-            0x0000_7800,
-            0x0007_8000,
-        ]
-        .map(|bits: u32| opcode | bits & fields)
-    };
-    ROWS.map(|row| image_of(&words(row.opcode, !unused_bits(row.form) & !0x7F)))
-        .to_vec()
+    ROWS.map(|row| image_of(&field_words(&row))).to_vec()
+}
+
+/// Words of a mnemonic with its fields at their ends and in between.
+pub(crate) fn field_words(row: &Row) -> [u32; 10] {
+    let fields = !unused_bits(row.form) & !0x7F;
+    let registers = (1 << 7) | (2 << 11) | (3 << 15);
+    let highest = 1 << (31 - fields.leading_zeros().min(31));
+    [
+        0,
+        fields,
+        registers,
+        0x5555_5555,
+        0xAAAA_AAAA,
+        highest,
+        !highest,
+        0x0000_0780,
+        0x0000_7800,
+        0x0007_8000,
+    ]
+    .map(|bits: u32| row.opcode | bits & fields)
 }
 
 /// Text buffers from none to one more than needed.
@@ -356,6 +358,27 @@ fn faulty_words() -> Vec<Vec<u8>> {
         &[GOOD, 0xFFFF_FF80],
     ]
     .map(image_of)
+    .to_vec()
+}
+
+/// As many words as there can be, and one more; 29 comes before a faulty word, which is found at the
+/// very end too.
+fn long_images() -> Vec<Case> {
+    const MOST: usize = 32_768;
+    const ECALL: u32 = 0x50;
+    // No line is longer than `bltu r15, r15, -65536`.
+    const LONGEST: u32 = 0x8000_7FC4;
+    const UNKNOWN: u32 = 0x7F;
+    const UNUSED: u32 = 0x8000_0050;
+    let last = |word: u32| [vec![ECALL; MOST - 1], vec![word]].concat();
+    [
+        vec![LONGEST; MOST],
+        vec![ECALL; MOST + 1],
+        vec![UNKNOWN; MOST + 1],
+        last(UNKNOWN),
+        last(UNUSED),
+    ]
+    .map(|words| (image_of(&words), LARGEST))
     .to_vec()
 }
 

@@ -10,9 +10,11 @@ pub mod list;
 pub mod model;
 mod sources;
 mod tokens;
+mod vectors;
+mod words;
 
 pub use answer::{answer, Answer, Label, Settings};
-pub use images::image_list;
 pub use limits::answer_within;
-pub use sources::source_list;
 pub use tokens::token_list;
+pub use vectors::vector_list;
+pub use words::word_list;

@@ -13,6 +13,9 @@ const PIECE: usize = 200;
 /// At most this many bytes of an image stand in one line.
 const IMAGE_LINE: usize = 256;
 
+/// This many equal lines or words in a row, and more, stand in one line with their count.
+const RUN: usize = 64;
+
 /// A record: what is asked, and the lines that answer it.
 #[derive(Debug, Default)]
 pub struct Record {
@@ -31,29 +34,77 @@ pub fn write_record(out: &mut String, source: &[u8], answer: &Answer) {
     }
 }
 
-/// A text in `s` lines: a new piece after each byte 10, and none longer than `PIECE` bytes.
+/// A text in `s` lines: a new piece after each byte 10, and none longer than `PIECE` bytes; and in
+/// an `x` line where lines repeat.
 pub fn write_pieces(out: &mut String, text: &[u8]) {
     if text.is_empty() {
         out.push_str("s \n");
     }
-    for line in text.split_inclusive(|byte| *byte == b'\n') {
-        for piece in line.chunks(PIECE) {
-            out.push_str("s ");
-            escape(out, piece);
-            out.push('\n');
+    let lines: Vec<&[u8]> = text.split_inclusive(|byte| *byte == b'\n').collect();
+    for equal in lines.chunk_by(|left, right| left == right) {
+        let line = equal[0];
+        if equal.len() >= RUN && line.len() <= PIECE {
+            write_piece(out, &format!("x {}", equal.len()), line);
+            continue;
+        }
+        for piece in equal.iter().flat_map(|line| line.chunks(PIECE)) {
+            write_piece(out, "s", piece);
         }
     }
 }
 
-/// An image in `i` lines.
-pub fn image_lines(image: &[u8]) -> impl Iterator<Item = String> + '_ {
-    image.chunks(IMAGE_LINE).map(|bytes| {
-        let mut line = String::from("i ");
-        for byte in bytes {
-            write!(line, "{byte:02x}").expect("a String takes all");
+fn write_piece(out: &mut String, tag: &str, piece: &[u8]) {
+    *out += &format!("{tag} ");
+    escape(out, piece);
+    out.push('\n');
+}
+
+/// An image in `i` lines, and in a `j` line where words repeat.
+pub fn image_lines(image: &[u8]) -> Vec<String> {
+    let (header, code) = image.split_at(image.len().min(32));
+    let words: Vec<&[u8]> = code.chunks(4).collect();
+    let mut lines = Vec::new();
+    let mut bytes = header.to_vec();
+    for equal in words.chunk_by(|left, right| left == right) {
+        if equal.len() < RUN {
+            bytes.extend(equal.concat());
+            continue;
         }
-        line
-    })
+        lines.extend(bytes.chunks(IMAGE_LINE).map(image_line));
+        bytes.clear();
+        lines.push(format!("j {} {}", equal.len(), hex(equal[0])));
+    }
+    lines.extend(bytes.chunks(IMAGE_LINE).map(image_line));
+    lines
+}
+
+fn image_line(bytes: &[u8]) -> String {
+    format!("i {}", hex(bytes))
+}
+
+fn hex(bytes: &[u8]) -> String {
+    bytes.iter().map(|byte| format!("{byte:02x}")).collect()
+}
+
+/// The image of a record's lines.
+pub fn read_image<'a>(lines: impl Iterator<Item = &'a str>) -> Vec<u8> {
+    let mut image = Vec::new();
+    for line in lines {
+        match line.split_once(' ') {
+            Some(("i", bytes)) => image.extend(unhex(bytes)),
+            Some(("j", repeated)) => {
+                let (count, bytes) = repeated.split_once(' ').expect("a count and bytes");
+                image.extend(unhex(bytes).repeat(count.parse().expect("a number")));
+            }
+            _ => {}
+        }
+    }
+    image
+}
+
+fn unhex(text: &str) -> Vec<u8> {
+    let byte = |at| u8::from_str_radix(&text[at..at + 2], 16).expect("two hex digits");
+    (0..text.len()).step_by(2).map(byte).collect()
 }
 
 /// The lines of an answer: `a` or `r`, the labels, the image.

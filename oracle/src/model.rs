@@ -126,7 +126,7 @@ pub fn list(image: &[u8], room: usize) -> Result<String, NotListed> {
 }
 
 /// The listing's line for a word, or 30 or 31.
-fn line_of(word: u32) -> Result<String, u32> {
+pub(crate) fn line_of(word: u32) -> Result<String, u32> {
     let opcode = word & 0x7F;
     let Row { mnemonic, form, .. } = ROWS.iter().find(|row| row.opcode == opcode).ok_or(30u32)?;
     if word & unused_bits(*form) != 0 {

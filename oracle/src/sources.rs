@@ -9,27 +9,20 @@ use crate::isa::{Form, Place, Row, KEYS, REGISTERS, ROWS};
 use crate::list::{write_record, USUAL_TABLE};
 
 /// The seeds of the made sources, for each kind.
-const SEEDS: std::ops::Range<u64> = 1000..1120;
+pub(crate) const SEEDS: std::ops::Range<u64> = 1000..1120;
 
-/// The text of `lists/rust.txt`.
-pub fn source_list() -> String {
-    let mut out = format!(
-        "# Sources and what the Rust reference answers. The format is described in README.md.\n\
-         # Made by `make-list`: chosen sources, then each kind of `gen` with seeds {} to {}.\n",
-        SEEDS.start,
-        SEEDS.end - 1
-    );
+/// Writes the records of all sources.
+pub(crate) fn write_sources(out: &mut String) {
     for source in sources() {
         let answer = answer(&source);
         assert!(answer.labels().len() <= USUAL_TABLE, "too many labels");
         out.push('\n');
-        write_record(&mut out, &source, &answer);
+        write_record(out, &source, &answer);
     }
-    out
 }
 
 /// All sources of the list, each once.
-fn sources() -> Vec<Vec<u8>> {
+pub(crate) fn sources() -> Vec<Vec<u8>> {
     let mut all = Vec::new();
     all.extend(WORKED_EXAMPLES.iter().map(|source| source.to_vec()));
     all.extend(every_mnemonic());
@@ -65,8 +58,12 @@ const WORKED_EXAMPLES: [&[u8]; 16] = [
     b"0xg",
     b"addi r1, r2, -9223372036854775808",
     b"addi r1, r2, 9223372036854775808",
-    b"start: ADDI a0, zero, -1 # one\n.config limb_bits 24\nsw a0, 8(sp)\njal ra, 2097150\necall\n",
+    PROGRAM,
 ];
+
+/// The program's input of document 01's examples.
+pub(crate) const PROGRAM: &[u8] = b"start: ADDI a0, zero, -1 # one\n.config limb_bits 24\n\
+    sw a0, 8(sp)\njal ra, 2097150\necall\n";
 
 /// Each mnemonic with distinct registers in its places, in several spellings.
 fn every_mnemonic() -> Vec<Vec<u8>> {
@@ -94,7 +91,7 @@ fn every_mnemonic() -> Vec<Vec<u8>> {
 }
 
 /// An instruction in plain spelling; registers by place, from the left.
-fn plain(row: &Row, registers: [&str; 3], number: &str) -> String {
+pub(crate) fn plain(row: &Row, registers: [&str; 3], number: &str) -> String {
     let operands = operands(row.form, registers, number);
     format!("{} {}", row.mnemonic, operands.join(" "))
         .trim_end()
@@ -194,7 +191,21 @@ fn replaced<'a>(tokens: &[&'a str], places: &[usize], by: &'a str) -> Vec<&'a st
 fn every_setting() -> Vec<Vec<u8>> {
     let mut sources = Vec::new();
     for key in KEYS {
-        for value in (0..=35).chain([255, 256, 257, 258, 260, 272, 276, 286, 288, 512 + 18]) {
+        for value in (0..=35).chain([
+            129,
+            130,
+            148,
+            255,
+            256,
+            257,
+            258,
+            260,
+            272,
+            276,
+            286,
+            288,
+            512 + 18,
+        ]) {
             sources.push(format!(".config {key} {value}"));
             sources.push(format!(".config {key} -{value}"));
         }

@@ -49,9 +49,7 @@ fn answer(line: &str) -> String {
 
 /// The tokens of a line as they are written to the list, unless one is bad.
 fn tokens(line: &str) -> Option<Vec<String>> {
-    // As `first_pass` does: the line is trimmed, cut at `#` and trimmed again.
-    let trimmed = line.trim();
-    let content = trimmed[..trimmed.find('#').unwrap_or(trimmed.len())].trim();
+    let content = content(line);
     let indent = line.len() - line.trim_start().len();
     let mut lexer = Token::lexer(content);
     let mut tokens = Vec::new();
@@ -62,6 +60,12 @@ fn tokens(line: &str) -> Option<Vec<String>> {
         tokens.push(format!("{kind} {start} {} {value}", span.len()));
     }
     Some(tokens)
+}
+
+/// What is read of a line. As `first_pass` does: it is trimmed, cut at `#` and trimmed again.
+pub(crate) fn content(line: &str) -> &str {
+    let trimmed = line.trim();
+    trimmed[..trimmed.find('#').unwrap_or(trimmed.len())].trim()
 }
 
 /// A token's letter and number. A name that names no register has the number 16.

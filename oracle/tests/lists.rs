@@ -3,40 +3,55 @@
 use std::collections::{BTreeMap, BTreeSet};
 
 use oracle::isa::ROWS;
-use oracle::list::{answer_lines, read, Record, USUAL_TABLE};
-use oracle::{answer, answer_within, image_list, model, source_list, token_list};
+use oracle::list::{answer_lines, image_lines, read, read_image, Record, USUAL_TABLE};
+use oracle::{answer, answer_within, model, token_list, vector_list, word_list};
 
-const RUST: &str = include_str!("../lists/rust.txt");
 const BY_HAND: &str = include_str!("../lists/by_hand.txt");
-const IMAGES: &str = include_str!("../lists/images.txt");
+const VECTORS: &str = include_str!("../../crates/vectors/stdin");
 const TOKENS: &str = include_str!("../../crates/tokens/stdin");
+const WORDS: &str = include_str!("../../crates/words/stdin");
 
 #[test]
 fn the_made_lists_are_made_again() {
     // Not `assert_eq`, which would print both files.
     assert!(
-        source_list() == RUST,
-        "lists/rust.txt is not what make-list writes"
-    );
-    assert!(
-        image_list() == IMAGES,
-        "lists/images.txt is not what make-list writes"
+        vector_list() == VECTORS,
+        "crates/vectors/stdin is not what make-list writes"
     );
     assert!(
         token_list() == TOKENS,
         "crates/tokens/stdin is not what make-list writes"
     );
+    assert!(
+        word_list() == WORDS,
+        "crates/words/stdin is not what make-list writes"
+    );
+}
+
+/// The records of images as they stand in the list; only they say how long a text buffer is.
+fn images() -> impl Iterator<Item = &'static str> {
+    let records = VECTORS.split("\n\n").skip(1);
+    records.filter(|record| record.lines().any(|line| line.starts_with("n ")))
+}
+
+/// The records of sources, those by hand first.
+fn sources() -> Vec<Record> {
+    let mut records = read(VECTORS);
+    records.truncate(records.len() - images().count());
+    records
+}
+
+/// The records of made sources.
+fn made_sources() -> Vec<Record> {
+    sources().split_off(read(BY_HAND).len())
 }
 
 #[test]
 fn every_record_is_answered_again() {
-    for record in read(RUST).into_iter().chain(read(BY_HAND)) {
+    for record in sources() {
         let table = record.table.unwrap_or(USUAL_TABLE);
         let room = record.room.unwrap_or(usize::MAX);
-        let mut lines = answer_lines(&answer_within(&record.source, table, room));
-        if !record.answer.iter().any(|line| line.starts_with("i ")) {
-            lines.retain(|line| !line.starts_with("i "));
-        }
+        let lines = answer_lines(&answer_within(&record.source, table, room));
         let start = String::from_utf8_lossy(&record.source[..record.source.len().min(60)]);
         assert_eq!(
             record.answer, lines,
@@ -61,9 +76,10 @@ fn counts(records: &[Record]) -> BTreeMap<u32, usize> {
 
 #[test]
 fn the_list_of_sources_covers_all_that_the_rust_refuses() {
-    let records = read(RUST);
+    let records = made_sources();
     assert!(records.len() >= 3000, "only {} sources", records.len());
-    assert!(RUST.len() < 900 * 1024, "{} bytes", RUST.len());
+    // What the program `vectors` has room for.
+    assert!(VECTORS.len() < 786_432, "{} bytes", VECTORS.len());
     let sources: BTreeSet<_> = records.iter().map(|record| &record.source).collect();
     assert_eq!(sources.len(), records.len(), "a source stands twice");
     let found: Vec<u32> = counts(&records).into_keys().collect();
@@ -86,7 +102,7 @@ fn the_list_by_hand_covers_the_added_limits() {
 #[test]
 fn every_mnemonic_is_accepted_with_distinct_registers() {
     let mut seen = BTreeSet::new();
-    for record in read(RUST) {
+    for record in made_sources() {
         // Behind the header there is one word.
         let word = match &record.answer[..] {
             [counts, image] if counts.starts_with("a 1 0 ") => &image[2 + 64..],
@@ -106,8 +122,9 @@ fn every_mnemonic_is_accepted_with_distinct_registers() {
 #[test]
 fn the_list_of_images_covers_opening_and_listing() {
     let numbers = |tag: &str| -> BTreeSet<u32> {
-        let lines = IMAGES.lines().filter_map(|line| line.strip_prefix(tag));
+        let lines = images().flat_map(str::lines);
         lines
+            .filter_map(|line| line.strip_prefix(tag))
             .map(|line| line.split(' ').next().unwrap().parse().unwrap())
             .collect()
     };
@@ -115,36 +132,25 @@ fn the_list_of_images_covers_opening_and_listing() {
     let listing: BTreeSet<u32> = opening.iter().copied().chain(29..=32).collect();
     assert_eq!(numbers("q "), opening);
     assert_eq!(numbers("z "), listing);
-    let records = IMAGES.lines().filter(|line| line.starts_with("n ")).count();
-    assert!(records >= 400, "only {records} images");
+    assert!(images().count() >= 400, "only {} images", images().count());
+    let texts: String = images().collect();
     for row in ROWS {
         let line = format!("\ns {}", row.mnemonic);
-        assert!(IMAGES.contains(&(line.clone() + " ")) || IMAGES.contains(&(line + "\\0a")));
+        assert!(texts.contains(&(line.clone() + " ")) || texts.contains(&(line + "\\0a")));
     }
 }
 
 /// The reference takes each listing back to the image that was listed.
 #[test]
 fn listings_assemble_to_their_images() {
-    let image_of = |record: &str| -> Vec<u8> {
-        let hex: String = record
-            .lines()
-            .filter_map(|line| line.strip_prefix("i "))
-            .collect();
-        let byte = |at| u8::from_str_radix(&hex[at..at + 2], 16).unwrap();
-        (0..hex.len()).step_by(2).map(byte).collect()
-    };
     let mut listed = 0;
-    for record in IMAGES.split("\n\n").skip(1) {
-        let image = image_of(record);
+    for record in images() {
+        let image = read_image(record.lines());
         let Ok(text) = model::list(&image, usize::MAX) else {
             continue;
         };
         let lines = answer_lines(&answer(text.as_bytes()));
-        assert!(lines[1..]
-            .iter()
-            .cloned()
-            .eq(oracle::list::image_lines(&image)));
+        assert_eq!(lines[1..], image_lines(&image));
         listed += 1;
     }
     assert!(listed > 100, "only {listed} images are listed");

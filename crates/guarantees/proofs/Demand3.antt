@@ -17,7 +17,7 @@ use Rattle.text.proofs.Lines.{visible}
 use Rattle.instruction.specs.Operands.{Instruction}
 use Rattle.instruction.specs.Table.{places, Row, row, table}
 use Rattle.instruction.specs.Words.{modulo, wordOf}
-use Rattle.instruction.proofs.Fit.{InTable, placesOf, numberField, hasNumber, widthOf, numberWidth, Fits}
+use Rattle.instruction.specs.Fits.{InTable, placesOf, numberField, hasNumber, widthOf, numberWidth, Fits}
 use Rattle.instruction.proofs.Rows.{carried, same-row}
 use Rattle.instruction.proofs.Decoding.{word-tells, same-word}
 use Rattle.image.specs.Settings.{Settings, limb-bits-key, data-limbs-key, addr-limbs-key}
@@ -26,10 +26,10 @@ use Rattle.image.specs.Assembling.{State, Assembled, accepted, fitted, assembli
 use Rattle.image.specs.Listing.{wordsOf, textOf, written, rejected as unlisted, Refusal, refusal, listingFault, listing}
 use Rattle.image.specs.Meaning.{instructionsOf, settingsOf, imageOf, isAccepted, Accepted, isWritten, Listed}
 use Rattle.image.proofs.Settings.{good}
-use Rattle.image.proofs.Program.{byte, image-length}
-use Rattle.image.proofs.Listing.{words-of-image, settings-of-image, image-listed, listed-usual}
+use Rattle.image.proofs.Images.{byte, image-length}
+use Rattle.image.proofs.Listed.{words-of-image, settings-of-image, image-listed, listed-usual}
 use Rattle.image.proofs.Walking.{reading-means, accepted-assembles}
-use Rattle.image.proofs.Config.{Key, settings-pass}
+use Rattle.image.proofs.ConfigLines.{Key, settings-pass}
 use Rattle.image.proofs.Round.{Keys, AllRead, instructionsIn, text-reading}
 use Rattle.image.proofs.Fitting.{AllFit, source-fits, fit-words, fit-decoded, words-read, words-again}
 use Rattle.guarantees.specs.NameSets.{keys, NameSet}

@@ -2,3 +2,4 @@ pub mod Computing
 pub mod Examples
 pub mod NameSets
 pub mod Demand3
+pub mod Demand1

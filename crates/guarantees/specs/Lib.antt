@@ -1,3 +1,4 @@
 pub mod NameSets
 pub mod Promises
 pub mod Examples
+pub mod Calls

@@ -16,15 +16,15 @@ use Rattle.text.proofs.Tests.{both}
 use Rattle.instruction.specs.Table.{table}
 use Rattle.instruction.specs.Operands.{Instruction, readInstruction, behind, markByte}
 use Rattle.instruction.specs.Words.{wordOf}
-use Rattle.instruction.proofs.Fit.{Fits}
+use Rattle.instruction.specs.Fits.{Fits, reducedTo}
 use Rattle.instruction.proofs.Rows.{carried}
-use Rattle.instruction.proofs.Decoding.{reducedTo, decode-encode, word-bound, decoded-fits, decoded-reduced, encode-decode}
+use Rattle.instruction.proofs.Decoding.{decode-encode, word-bound, decoded-fits, decoded-reduced, encode-decode}
 use Rattle.instruction.proofs.Reading.{numberedToken, read-fits, line-numbered, behind-numbered}
 use Rattle.instruction.proofs.Text.{operandTokens, noColon, no-colon, tokens-kept, tokens-read, text-visible, text-length, text-line}
 use Rattle.image.specs.Assembling.{Kind, empty, labelled, config, ignored, plain, identifierKind, kindOf}
 use Rattle.image.specs.Meaning.{oneOf, instructionOn, instructionsOf}
-use Rattle.image.proofs.Program.{Words}
-use Rattle.image.proofs.Listing.{Decoded, AllDecoded}
+use Rattle.image.proofs.Images.{Words}
+use Rattle.image.proofs.Listed.{Decoded, AllDecoded}
 use Rattle.image.proofs.Round.{Reads, AllRead, instructionsIn}
 
 -- ---- the instructions of a source

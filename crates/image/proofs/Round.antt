@@ -21,7 +21,7 @@ use Rattle.image.specs.Settings.{Settings, settings, begin, limb-bits-ke
 use Rattle.image.specs.Assembling.{State, start, next, plain, kindOf, most-words, withInstruction, stepOn, step, finished, walk, accepted, readTo, most-bytes, reading}
 use Rattle.image.specs.Listing.{lineText, settingText, settingsText, wordText}
 use Rattle.image.proofs.Settings.{Good, no-fault, small-bits, small-data, small-addr}
-use Rattle.image.proofs.Config.{Key, configText, config-visible, config-short, config-step}
+use Rattle.image.proofs.ConfigLines.{Key, configText, config-visible, config-short, config-step}
 
 -- ---- one line more
 

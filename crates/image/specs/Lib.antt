@@ -6,3 +6,4 @@ pub mod Listing
 pub mod Meaning
 pub mod Lent
 pub mod Zkasm
+pub mod Contracts

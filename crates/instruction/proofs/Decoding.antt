@@ -15,16 +15,12 @@ use Rattle.text.proofs.Numbers.{residue-lt, residue-meant}
 use Rattle.instruction.specs.Table.{Row, rowCoded}
 use Rattle.instruction.specs.Operands.{Instruction}
 use Rattle.instruction.specs.Words.{modulo, reduced, wordOf, registersIn, unusedFrom, taken, instructionOf}
-use Rattle.instruction.proofs.Fit.{placesOf, NumberField, numberField, hasNumber, widthOf, numberWidth, Fits}
+use Rattle.instruction.specs.Fits.{placesOf, NumberField, numberField, hasNumber, widthOf, numberWidth, Fits, reducedIn, reducedTo}
 use Rattle.instruction.proofs.Rows.{coded-row, row-facts}
 use Rattle.instruction.proofs.Results.{test-value, option-value, nothing}
-use Rattle.instruction.proofs.Placing.{read-number, read-registers, reducedIn, read-reduced, unused-most, Placed, placed, placed-tells}
+use Rattle.instruction.proofs.Placing.{read-number, read-registers, read-reduced, unused-most, Placed, placed, placed-tells}
 
 -- ---- an instruction's word
-
--- What a word keeps of an instruction: its number is the one that the bits of its field mean.
-unfoldable pub reducedTo : Instruction → Instruction
-reducedTo i = record { row = i .row; registers = i .registers; number = reducedIn (numberField (placesOf (i .row))) (i .number) }
 
 -- What the word of an instruction that fits tells.
 told : (i : Instruction) (f : Fits i) → Placed (i .row) (f .in-table) (i .registers) (i .number) (wordOf i)
@@ -90,7 +86,7 @@ decodes-iff w = (
 -- ---- instructions of one word
 
 -- What a field keeps of a number leaves the same as the number.
-modulo-reduced : (o : Option NumberField) (n : Option ℤ) → isSome n ≡ isSome o → modulo (widthOf o) (reducedIn o n) ≡ modulo (widthOf o) n
+pub modulo-reduced : (o : Option NumberField) (n : Option ℤ) → isSome n ≡ isSome o → modulo (widthOf o) (reducedIn o n) ≡ modulo (widthOf o) n
 unfolding modulo reducedIn reduced widthOf isSome
 modulo-reduced none n h = sym (ap (modulo 0) (nothing n h))
 modulo-reduced (some f) none h = absurd (true≢false (sym h))

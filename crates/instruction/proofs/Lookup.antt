@@ -15,7 +15,7 @@ use Rattle.text.proofs.Tests.{by-test, both, or-elim}
 use Rattle.text.proofs.Keys.{Below, isKeyed, byKey, found-by-key}
 use Rattle.instruction.specs.Table.{System, Row, row, table, rowNamed, rowCoded}
 use Rattle.instruction.specs.Contracts.{rowAt, mnemonicKeys, slotRow, slotRowsFrom, slotRows}
-use Rattle.instruction.proofs.Fit.{InTable}
+use Rattle.instruction.specs.Fits.{InTable}
 use Rattle.instruction.proofs.Rows.{unique, fifty}
 
 -- ---- searching a list
@@ -201,3 +201,10 @@ unfolding named rowNamed
 row-in-table i h =
     let s : place (named i) table ≡ i = eqb-true _ _ (below-all (λ i. eqb (place (named i) table) i) 50 i named-places h) in
     find-at (named i) (record { mnemonic = []; opcode = 0; form = System }) table (rw (s, fifty) h) ∙ rw s
+
+-- Places below fifty have different rows.
+pub row-tells : (i j : ℕ) → i < 50 → j < 50 → rowAt i ≡ rowAt j → i ≡ j
+unfolding named
+row-tells i j h k e =
+    let s = below-all (λ i. eqb (place (named i) table) i) 50 in
+    sym (eqb-true _ _ (s i named-places h)) ∙ ap (λ (r : Row). place (λ q. same (q .mnemonic) (r .mnemonic)) table) e ∙ eqb-true _ _ (s j named-places k)

@@ -1,19 +1,20 @@
 -- What the code's instructions mean: each fits, its word is decoded to it with its number reduced, and what a word is decoded to has
 -- that word.
-use mathlib.Core.Path.{_≡_, refl, sym}
+use mathlib.Core.Path.{_≡_, refl, sym, ap, _∙_}
 use Prim.Native.Nat.{ℕ, _<_}
 use mathlib.Core.List.{List, [], _∷_}
 use lib.IntN.{ℤ}
 use Rattle.text.specs.Bytes.{value, isSome}
-use Rattle.instruction.specs.Table.{Place, reg, num, comma-place, opening-place, closing-place, Form, R, I, Shift, Load, Store, Branch, Jump, System, places}
+use Rattle.text.specs.Contracts.{wholeMeant}
+use Rattle.instruction.specs.Table.{Place, reg, num, comma-place, opening-place, closing-place, Form, R, I, Shift, Load, Store, Branch, Jump, System, places, Row}
+use Rattle.instruction.specs.Operands.{Instruction as Meant}
 use Rattle.instruction.specs.Words.{wordOf, instructionOf}
-use Rattle.instruction.specs.Contracts.{rowAt, registersFor, numberFor, partsOf, instructionMeant, decodedMeant}
-use Rattle.instruction.specs.declared.encoder.Decoded.the-variants.{Is}
+use Rattle.instruction.specs.Contracts.{rowAt, registersFor, numberFor, registersOf, partsOf, instructionMeant}
 use Rattle.instruction.specs.declared.instruction.Instruction.{Instruction}
-use Rattle.instruction.proofs.Fit.{placesOf, Regs, numberField, hasNumber, Fits}
+use Rattle.instruction.specs.Fits.{placesOf, Regs, numberField, hasNumber, Fits, reducedTo}
 use Rattle.instruction.proofs.Parts.{row-below, register-below}
-use Rattle.instruction.proofs.Lookup.{row-in-table}
-use Rattle.instruction.proofs.Decoding.{reducedTo, decode-encode, encode-decode}
+use Rattle.instruction.proofs.Lookup.{row-in-table, row-tells}
+use Rattle.instruction.proofs.Decoding.{decode-encode, encode-decode}
 
 -- ---- it fits
 
@@ -47,6 +48,21 @@ meant-fits i =
       number = number-fits (placesOf (rowAt (p .row))) _;
     }
 
+-- ---- what it tells
+
+-- Instructions that mean the same stand in one row of the table, and have the same registers and the same number, where their form
+-- has a place for them.
+pub meant-tells : (i j : Instruction) → instructionMeant i ≡ instructionMeant j → let ps = placesOf (rowAt (partsOf i .row)) in
+    (partsOf i .row ≡ partsOf j .row)
+    × (registersFor ps (registersOf (partsOf i .operands)) ≡ registersFor ps (registersOf (partsOf j .operands)))
+    × (numberFor ps (wholeMeant (partsOf i .operands .number)) ≡ numberFor ps (wholeMeant (partsOf j .operands .number)))
+meant-tells i j e =
+    let r = ap (λ (x : Meant). x .row) e in (
+      row-tells (partsOf i .row) (partsOf j .row) (row-below i) (row-below j) r,
+      ap (λ (x : Meant). x .registers) e ∙ ap (λ (x : Row). registersFor (placesOf x) (registersOf (partsOf j .operands))) (sym r),
+      ap (λ (x : Meant). x .number) e ∙ ap (λ (x : Row). numberFor (placesOf x) (wholeMeant (partsOf j .operands .number))) (sym r),
+    )
+
 -- ---- its word
 
 -- The word of an instruction is decoded to it, its number reduced.
@@ -54,5 +70,5 @@ pub word-decoded : (i : Instruction) → instructionOf (wordOf (instructionMeant
 word-decoded i = decode-encode (instructionMeant i) (meant-fits i)
 
 -- The instruction that a word is decoded to has that word.
-pub decoded-word : (w : ℕ) (i : Instruction) → decodedMeant (Is i) ≡ instructionOf w → wordOf (instructionMeant i) ≡ w
+pub decoded-word : (w : ℕ) (i : Instruction) → value (instructionMeant i) ≡ instructionOf w → wordOf (instructionMeant i) ≡ w
 decoded-word w i e = encode-decode w (instructionMeant i) (sym e)

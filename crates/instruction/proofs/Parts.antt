@@ -9,35 +9,29 @@ use Rattle.text.specs.Contracts.{indexOf}
 use Rattle.text.specs.declared.register.Register.{Register}
 use Rattle.text.specs.declared.register.Register.the-variants.{R0, R1, R2, R3, R4, R5, R6, R7, R8, R9, R10, R11, R12, R13, R14, R15}
 use Rattle.instruction.specs.Table.{Form, R, I, Shift, Load, Store, Branch, Jump, System, places}
-use Rattle.instruction.specs.Contracts.{rowAt, noNumber, operands, registersFor, numberFor, partsMeant, partsOf}
+use Rattle.instruction.specs.Contracts.{rowAt, keep, registersFor, numberFor, partsMeant, partsOf}
 use Rattle.instruction.specs.declared.instruction.Instruction.{Instruction}
 use Rattle.instruction.specs.declared.instruction.Instruction.the-variants.{Add, Sub, Mul, Mulh, Divu, Remu, Div, Rem, Addi, And, Or, Xor, Andi, Ori, Xori, Sll, Srl, Sra, Slli, Srli, Srai, Sltu, Sgeu, Slt, Sge, Seq, Sne, Cmov, Cmovz, Cmovnz, Lb, Lbu, Lh, Lhu, Lw, Ld, Sb, Sh, Sw, Sd, Beq, Bne, Blt, Bge, Bltu, Bgeu, Jal, Jalr, Ecall, Ebreak}
 use Rattle.instruction.specs.declared.instruction.Operands.{Operands}
 use Rattle.instruction.specs.declared.instruction.Parts.{Parts}
 
--- The operands that a form has a place for; R0 and 0 for the others.
-abbrev pub keep : Form → Operands → Operands
-keep R o = operands (o .first) (o .second) (o .third) noNumber
-keep I o = operands (o .first) (o .second) R0 (o .number)
-keep Shift o = operands (o .first) (o .second) R0 (o .number)
-keep Load o = operands (o .first) (o .second) R0 (o .number)
-keep Store o = operands (o .first) (o .second) R0 (o .number)
-keep Branch o = operands (o .first) (o .second) R0 (o .number)
-keep Jump o = operands (o .first) R0 R0 (o .number)
-keep System o = operands R0 R0 R0 noNumber
-
--- No other operand matters.
-pub kept : (f : Form) (i j : ℕ) (o : Operands) → rowAt i .form ≡ f → j ≡ i
+-- The operands that a form keeps are all that matters.
+kept-meant : (f : Form) (i j : ℕ) (o : Operands) → rowAt i .form ≡ f → j ≡ i
     → partsMeant (record { row = i; operands = keep f o }) ≡ partsMeant (record { row = j; operands = o })
 unfolding registersFor numberFor places
-kept R i j o e q = rw (q, e)
-kept I i j o e q = rw (q, e)
-kept Shift i j o e q = rw (q, e)
-kept Load i j o e q = rw (q, e)
-kept Store i j o e q = rw (q, e)
-kept Branch i j o e q = rw (q, e)
-kept Jump i j o e q = rw (q, e)
-kept System i j o e q = rw (q, e)
+kept-meant R i j o e q = rw (q, e)
+kept-meant I i j o e q = rw (q, e)
+kept-meant Shift i j o e q = rw (q, e)
+kept-meant Load i j o e q = rw (q, e)
+kept-meant Store i j o e q = rw (q, e)
+kept-meant Branch i j o e q = rw (q, e)
+kept-meant Jump i j o e q = rw (q, e)
+kept-meant System i j o e q = rw (q, e)
+
+pub kept : (f : Form) (i j : ℕ) (o : Operands) → rowAt i .form ≡ f → j ≡ i
+    → (_≡_ {A = Parts} (record { row = i; operands = keep f o }) (record { row = j; operands = keep (rowAt j .form) o }))
+    × (partsMeant (record { row = i; operands = keep f o }) ≡ partsMeant (record { row = j; operands = o }))
+kept f i j o e q = (rw (q, e), kept-meant f i j o e q)
 
 -- x is none of the numbers below n.
 abbrev NoneBelow : ℕ → ℕ → Type 0

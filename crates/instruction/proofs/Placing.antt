@@ -18,7 +18,7 @@ use Rattle.text.proofs.Tests.{by-test, both, and-both, between-true}
 use Rattle.text.proofs.Numbers.{residue-lt, residue-meant}
 use Rattle.instruction.specs.Table.{Place, reg, num, comma-place, opening-place, closing-place, places, Row, row, table}
 use Rattle.instruction.specs.Words.{reduced, fields, fieldAt, registersIn, numberIn, unusedFrom}
-use Rattle.instruction.proofs.Fit.{InTable, placesOf, Regs, NumberField, numberField, hasNumber}
+use Rattle.instruction.specs.Fits.{InTable, placesOf, Regs, numberField, hasNumber, reducedIn}
 use Rattle.instruction.proofs.Fields.{disjoint, disjoint-sym, field-lt, field-empty, put-read, put-other, put-bound, field-up}
 use Rattle.instruction.proofs.Rows.{carried, row-facts}
 use Rattle.instruction.proofs.Results.{nothing, each-both}
@@ -44,11 +44,6 @@ read-registers w (num bit width signed ∷ ps) = read-registers w ps
 read-registers w (comma-place ∷ ps) = read-registers w ps
 read-registers w (opening-place ∷ ps) = read-registers w ps
 read-registers w (closing-place ∷ ps) = read-registers w ps
-
--- What a field keeps of a number: the number that its bits mean.
-unfoldable pub reducedIn : Option NumberField → Option ℤ → Option ℤ
-reducedIn none n = none
-reducedIn (some f) n = some (meantBy (f .signed) (f .width) (reduced (f .width) n))
 
 -- A number that is read is reduced already.
 pub read-reduced : (w : ℕ) (ps : List Place) → reducedIn (numberField ps) (numberIn w ps) ≡ numberIn w ps

@@ -16,7 +16,7 @@ use Rattle.text.proofs.Tests.{by-test, both, and-both}
 use Rattle.text.proofs.Strings.{found}
 use Rattle.instruction.specs.Table.{Place, reg, num, comma-place, opening-place, closing-place, rowNamed}
 use Rattle.instruction.specs.Operands.{Instruction, readRegister, readNumber, readIdentifier, markByte, Operands, noOperands, withRegister, withNumber, readPlace, readOperands, made, readRow, readMnemonic, readInstruction, behind}
-use Rattle.instruction.proofs.Fit.{placesOf, Regs, numberField, hasNumber, Fits}
+use Rattle.instruction.specs.Fits.{placesOf, Regs, numberField, hasNumber, Fits}
 use Rattle.instruction.proofs.Rows.{named-row}
 use Rattle.instruction.proofs.Results.{not-refused, test-value, option-value, result-value, through-value, whenSome, each-take, each-drop}
 

@@ -13,7 +13,7 @@ use Rattle.text.specs.Tokens.{isIdentifier}
 use Rattle.text.proofs.Tests.{both, between-true}
 use Rattle.text.proofs.Strings.{every-head, every-tail, same-eq, eq-same, found}
 use Rattle.instruction.specs.Table.{Place, reg, num, comma-place, opening-place, closing-place, places, Row, row, table, rowNamed, rowCoded}
-use Rattle.instruction.proofs.Fit.{InTable, placesOf, numberField, widthOf, numberWidth}
+use Rattle.instruction.specs.Fits.{InTable, placesOf, numberField, widthOf, numberWidth}
 
 -- "fifty mnemonics"
 pub fifty : length table ≡ 50

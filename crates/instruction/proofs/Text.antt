@@ -27,11 +27,10 @@ use Rattle.instruction.specs.Table.{Place, reg, num, comma-place, openin
 use Rattle.instruction.specs.Operands.{Instruction, readRegister, readNumber, readIdentifier, markByte, noOperands, withRegister, withNumber, readPlace, readOperands, made, readRow, readMnemonic, readInstruction}
 use Rattle.instruction.specs.Words.{fieldAt, registersIn, numberIn, unusedFrom, taken, instructionOf}
 use Rattle.instruction.specs.Text.{registerText, numberText, placesText, operandsText, instructionText}
-use Rattle.instruction.proofs.Fit.{InTable, placesOf, Regs, NumberField, numberField, hasNumber, widthOf, numberWidth, Fits}
+use Rattle.instruction.specs.Fits.{InTable, placesOf, Regs, NumberField, numberField, hasNumber, widthOf, numberWidth, Fits, reducedIn, reducedTo}
 use Rattle.instruction.proofs.Rows.{lowerCase, marked, apart, carried, row-facts}
 use Rattle.instruction.proofs.Results.{nothing}
-use Rattle.instruction.proofs.Placing.{reducedIn, reduced-lt}
-use Rattle.instruction.proofs.Decoding.{reducedTo}
+use Rattle.instruction.proofs.Placing.{reduced-lt}
 
 -- ---- the tokens of operands
 

@@ -1,41 +1,24 @@
 -- What the code's values mean in terms of the definitions, and what its functions promise.
-use Prim.Native.Nat.{ℕ, zero, suc, _+_, _%_, _^_, _≤_, _<_}
+use Prim.Native.Nat.{ℕ, zero, suc, _%_, _<_}
 use mathlib.Core.Path.{_≡_}
 use mathlib.Core.Bool.{true, false}
 use mathlib.Core.Option.{Option, none, some}
-use mathlib.Core.List.{List, [], _∷_, _++_, map}
-use lib.ListN.{length, take, drop, getD}
+use mathlib.Core.List.{List, [], _∷_, map}
+use lib.ListN.{getD}
 use lib.Dec.{eqb}
 use lib.IntN.{ℤ}
-use Rattle.text.specs.Bytes.{Result, value, refused}
-use Rattle.text.specs.Numbers.{meantBy}
-use Rattle.text.specs.Tokens.{Token}
-use Rattle.text.specs.Contracts.{keyOf, indexOf, wholeMeant, kindMeant, filler}
+use Rattle.text.specs.Contracts.{keyOf, indexOf, wholeMeant}
 use Rattle.text.specs.declared.register.Register.{Register}
 use Rattle.text.specs.declared.register.Register.the-variants.{R0}
 use Rattle.text.specs.declared.number.Whole.{Whole}
-use Rattle.text.specs.declared.parser.Line.{Line}
 use Rattle.instruction.specs.Table.{Place, reg, num, comma-place, opening-place, closing-place, Form, R, I, Shift, Load, Store, Branch, Jump, System, places, Row, table}
-use Rattle.instruction.specs.Operands.{readOperands, withRegister}
 use Rattle.instruction.specs.Operands.{Instruction as Meant, Operands as MeantOperands}
-use Rattle.instruction.specs.Text.{registerText, operandsText}
 use Rattle.instruction.specs.declared.instruction.Instruction.{Instruction}
 use Rattle.instruction.specs.declared.instruction.Instruction.the-variants.{Add, Sub, Mul, Mulh, Divu, Remu, Div, Rem, Addi, And, Or, Xor, Andi, Ori, Xori, Sll, Srl, Sra, Slli, Srli, Srai, Sltu, Sgeu, Slt, Sge, Seq, Sne, Cmov, Cmovz, Cmovnz, Lb, Lbu, Lh, Lhu, Lw, Ld, Sb, Sh, Sw, Sd, Beq, Bne, Blt, Bge, Bltu, Bgeu, Jal, Jalr, Ecall, Ebreak}
 use Rattle.instruction.specs.declared.instruction.Operands.{Operands}
 use Rattle.instruction.specs.declared.instruction.Parts.{Parts}
 use Rattle.instruction.specs.declared.opcode.Row.{Row as Looked}
 use Rattle.instruction.specs.declared.opcode.Row.the-variants.{At, Missing}
-use Rattle.instruction.specs.declared.encoder.Decoded.{Decoded}
-use Rattle.instruction.specs.declared.encoder.Decoded.the-variants.{Is as IsDecoded, Refused as RefusedDecoded}
-use Rattle.text.specs.declared.lexer.Token.{Token as KeptToken}
-use Rattle.instruction.specs.declared.assembler.RegisterOperand.{RegisterOperand}
-use Rattle.instruction.specs.declared.assembler.RegisterOperand.the-variants.{Is as IsRegister, Refused as NoRegister}
-use Rattle.instruction.specs.declared.assembler.Operand.{Operand}
-use Rattle.instruction.specs.declared.assembler.Operand.the-variants.{Are}
-use Rattle.instruction.specs.declared.assembler.Operand.the-variants.{Refused as NoOperands}
-use Rattle.instruction.specs.declared.assembler.Parsed.{Parsed}
-use Rattle.instruction.specs.declared.assembler.Parsed.the-variants.{Is as IsInstruction, Refused as NoInstruction}
-use Rattle.instruction.specs.declared.assembler.Six.{Six}
 
 -- ---- the table
 
@@ -149,6 +132,17 @@ partsOf (Jalr d a n) = parts 47 d a R0 n
 partsOf Ecall = parts 48 R0 R0 R0 noNumber
 partsOf Ebreak = parts 49 R0 R0 R0 noNumber
 
+-- The operands that a form has a place for; R0 and 0 for the others.
+abbrev pub keep : Form → Operands → Operands
+keep R o = operands (o .first) (o .second) (o .third) noNumber
+keep I o = operands (o .first) (o .second) R0 (o .number)
+keep Shift o = operands (o .first) (o .second) R0 (o .number)
+keep Load o = operands (o .first) (o .second) R0 (o .number)
+keep Store o = operands (o .first) (o .second) R0 (o .number)
+keep Branch o = operands (o .first) (o .second) R0 (o .number)
+keep Jump o = operands (o .first) R0 R0 (o .number)
+keep System o = operands R0 R0 R0 noNumber
+
 -- Registers as many as a form has places for them, and its number, where it has one.
 unfoldable pub registersFor : List Place → List ℕ → List ℕ
 registersFor [] rs = []
@@ -182,100 +176,6 @@ partsMeant p =
       number = numberFor (places (rowAt (p .row) .form)) (wholeMeant (p .operands .number));
     }
 
--- The instruction of the definitions that the code's means.
+-- The instruction of the definitions that the code's means. Whether a 0 has a sign is not looked at: -0 means 0.
 abbrev pub instructionMeant : Instruction → Meant
 instructionMeant i = partsMeant (partsOf i)
-
-abbrev pub decodedMeant : Decoded → Result Meant
-decodedMeant (IsDecoded i) = value (instructionMeant i)
-decodedMeant (RefusedDecoded n) = refused n
-
--- ---- fields
-
--- A power of two, for a field of at most 21 bits.
-pub record Power (modulus : ℕ) : Type 0 where
-  pub width : ℕ
-  pub is-power : modulus ≡ 2 ^ width
-  pub most : width ≤ 21
-
--- The number that a field means as signed, whichever power of two its values are below.
-pub record Signed (modulus field : ℕ) (z : ℤ) : Type 0 where
-  pub at-width : (k : ℕ) → modulus ≡ 2 ^ k → z ≡ meantBy true k field
-
--- ---- reading a line
-
--- A register that a token was to name, or the refusal.
-abbrev pub registerMeant : RegisterOperand → Result ℕ
-registerMeant (IsRegister r) = value (indexOf r)
-registerMeant (NoRegister n) = refused n
-
--- What is read of the places behind a register's, with the register in front.
-abbrev pub behindRegister : RegisterOperand → Result MeantOperands → Result MeantOperands
-behindRegister (IsRegister r) rest = withRegister (indexOf r) rest
-behindRegister (NoRegister n) rest = refused n
-
--- The operands that were read at places, or the refusal.
-abbrev pub operandMeant : List Place → Operand → Result MeantOperands
-operandMeant ps (Are o) = value (operandsMeant ps o)
-operandMeant ps (NoOperands n) = refused n
-
--- The tokens that six kinds mean, by their spellings.
-abbrev pub sixMeant : (ℕ → List ℕ) → Six → List Token
-sixMeant u k =
-    kindMeant (k .a) (u 1) ∷ kindMeant (k .b) (u 2) ∷ kindMeant (k .c) (u 3) ∷ kindMeant (k .d) (u 4) ∷ kindMeant (k .e) (u 5)
-    ∷ kindMeant (k .f) (u 6) ∷ []
-
--- The kinds of the six tokens behind a place.
-abbrev pub sixBehind : List KeptToken → ℕ → Six
-sixBehind ts at =
-    record {
-      a = getD ts (at + 1) filler .kind;
-      b = getD ts (at + 2) filler .kind;
-      c = getD ts (at + 3) filler .kind;
-      d = getD ts (at + 4) filler .kind;
-      e = getD ts (at + 5) filler .kind;
-      f = getD ts (at + 6) filler .kind;
-    }
-
--- Six kinds are read at places, whatever their spellings.
-abbrev pub Reads : List Place → Six → Operand → Type 0
-Reads ps k r = (u : ℕ → List ℕ) → operandMeant ps r ≡ readOperands ps (sixMeant u k)
-
--- The instruction that was read, or the refusal.
-abbrev pub parsedMeant : Parsed → Result Meant
-parsedMeant (IsInstruction i) = value (instructionMeant i)
-parsedMeant (NoInstruction n) = refused n
-
--- What a line's record promises of its tokens: there are nine, and each is a part of the text.
-pub record Kept (s : List ℕ) (l : Line) : Type 0 where
-  pub nine : length (l .tokens) ≡ 9
-  pub inside-text : (i : ℕ) → getD (l .tokens) i filler .start + getD (l .tokens) i filler .length ≤ length s
-
--- ---- texts in a buffer
-
--- A register with a comma and a space behind it; with the space before the operands; and two registers.
-abbrev pub nextText : Register → List ℕ
-nextText r = registerText (indexOf r) ++ (44 ∷ 32 ∷ [])
-
-abbrev pub firstText : Register → List ℕ
-firstText r = 32 ∷ nextText r
-
-abbrev pub pairText : Register → Register → List ℕ
-pairText a b = firstText a ++ nextText b
-
--- A register in brackets.
-abbrev pub baseText : Register → List ℕ
-baseText r = 40 ∷ (registerText (indexOf r) ++ (41 ∷ []))
-
--- The text of a form's operands.
-unfoldable pub formText : Form → Operands → List ℕ
-formText f o = operandsText (places f) (registersFor (places f) (registersOf o)) (numberFor (places f) (wholeMeant (o .number)))
-
--- A buffer in which a text was put at a place.
-unfoldable pub put : List ℕ → ℕ → List ℕ → List ℕ
-put old at text = take at old ++ (text ++ drop (at + length text) old)
-
--- A text was written at a place: where it ends, and the buffer afterwards.
-pub record Written (old : List ℕ) (at : ℕ) (text : List ℕ) (end : ℕ) (new : List ℕ) : Type 0 where
-  pub ends : end ≡ at + length text
-  pub holds : new ≡ put old at text

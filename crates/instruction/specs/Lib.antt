@@ -1,5 +1,6 @@
 pub mod Table
 pub mod Operands
 pub mod Words
+pub mod Fits
 pub mod Text
 pub mod Contracts

@@ -2,7 +2,7 @@
 ghost use mathlib.Core.Path.{_≡_};
 ghost use Prim.Native.Nat.{_<_};
 ghost use mathlib.Core.Bool.{false};
-ghost use Rattle.instruction.specs.Contracts.{parts, noNumber, partsOf, instructionMeant, partsMeant};
+ghost use Rattle.instruction.specs.Contracts.{rowAt, parts, keep, noNumber, partsOf, instructionMeant, partsMeant};
 ghost use Rattle.text.specs.declared.register.Register.the-variants.{R0};
 use text::number::Whole;
 use text::register::Register;
@@ -261,7 +261,7 @@ pub enum Instruction {
     Ebreak,
 }
 
-// Registers and number in operand order; those that a form does not have are R0 and 0.
+// Registers and number in operand order. What a form has no place for is not looked at; `to_parts` gives R0 and 0 there.
 pub struct Operands {
     pub first: Register,
     pub second: Register,
@@ -378,7 +378,7 @@ impl Instruction {
     // The instruction of a row of the table with operands.
     pub fn from_parts(row: usize, operands: Operands) -> Instruction
         requires { ⌜ row < 50 ⌝ }
-        ensures { λ r. ⌜ instructionMeant r ≡ partsMeant (record { row = row; operands = operands }) ⌝ }
+        ensures { λ r. ⌜ partsOf r ≡ record { row = row; operands = keep (rowAt row .form) operands } ⌝ ∗ ⌜ instructionMeant r ≡ partsMeant (record { row = row; operands = operands }) ⌝ }
     {
         let first = operands.first;
         let second = operands.second;

@@ -1,6 +1,3 @@
-// The instruction layer: the table of mnemonics, instructions, operands, words, and the text of an instruction.
-pub mod assembler;
-pub mod display;
-pub mod encoder;
+// The instruction layer, lower half: the table of mnemonics and the instructions, with the definitions of operands, words and text.
 pub mod instruction;
 pub mod opcode;

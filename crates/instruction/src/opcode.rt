@@ -9,7 +9,7 @@ ghost use Rattle.instruction.specs.Table.{table, rowCoded};
 ghost use Rattle.instruction.specs.Contracts.{mnemonicKeys, slotRows, opcodeNumbers, formNumbers, IsRow};
 
 // A mnemonic as its key: the letters, the first lowest, with a 1 behind them.
-pub const MNEMONICS: [u64; 50] = [
+const MNEMONICS: [u64; 50] = [
     0x1646461, // add
     0x1627573, // sub
     0x16C756D, // mul
@@ -62,7 +62,7 @@ pub const MNEMONICS: [u64; 50] = [
     0x16B6165726265, // ebreak
 ];
 
-pub const OPCODES: [u8; 50] = [
+const OPCODES: [u8; 50] = [
     0x00,
     0x01,
     0x02,
@@ -116,61 +116,61 @@ pub const OPCODES: [u8; 50] = [
 ];
 
 // A form by its number: R, I, shift, load, store, branch, jump, system.
-pub const FORMS: [u8; 50] = [
-    0,
-    0,
-    0,
-    0,
-    0,
-    0,
-    0,
-    0,
-    1,
-    0,
-    0,
-    0,
-    1,
-    1,
-    1,
-    0,
-    0,
-    0,
-    2,
-    2,
-    2,
-    0,
-    0,
-    0,
-    0,
-    0,
-    0,
-    0,
-    0,
-    0,
-    3,
-    3,
-    3,
-    3,
-    3,
-    3,
-    4,
-    4,
-    4,
-    4,
-    5,
-    5,
-    5,
-    5,
-    5,
-    5,
-    6,
-    1,
-    7,
-    7,
+const FORMS: [u8; 50] = [
+    0, // add
+    0, // sub
+    0, // mul
+    0, // mulh
+    0, // divu
+    0, // remu
+    0, // div
+    0, // rem
+    1, // addi
+    0, // and
+    0, // or
+    0, // xor
+    1, // andi
+    1, // ori
+    1, // xori
+    0, // sll
+    0, // srl
+    0, // sra
+    2, // slli
+    2, // srli
+    2, // srai
+    0, // sltu
+    0, // sgeu
+    0, // slt
+    0, // sge
+    0, // seq
+    0, // sne
+    0, // cmov
+    0, // cmovz
+    0, // cmovnz
+    3, // lb
+    3, // lbu
+    3, // lh
+    3, // lhu
+    3, // lw
+    3, // ld
+    4, // sb
+    4, // sh
+    4, // sw
+    4, // sd
+    5, // beq
+    5, // bne
+    5, // blt
+    5, // bge
+    5, // bltu
+    5, // bgeu
+    6, // jal
+    1, // jalr
+    7, // ecall
+    7, // ebreak
 ];
 
 // Where a mnemonic may stand: the row at its key's residue modulo 293, by which all fifty differ; 50 where there is none.
-pub const SLOTS: [u8; 293] = [
+const SLOTS: [u8; 293] = [
     50,
     50,
     50,
@@ -511,21 +511,21 @@ pub fn find_mnemonic(key: u64, mnemonics: &[u64; 50], slots: &[u8; 293]) -> Row
     Row::Missing
 }
 
-// The row with an opcode.
+// The row with an opcode: the fifty opcodes are nine runs of numbers.
 pub fn find_opcode(opcode: u32) -> Row
     ensures { λ r. ⌜ IsRow r (rowCoded opcode) ⌝ }
 {
-    let row = opcode as usize;
-    match row {
-        0x00..=0x08 => Row::At(row),
-        0x10..=0x15 => Row::At(row - 7),
-        0x18..=0x1D => Row::At(row - 9),
-        0x20..=0x28 => Row::At(row - 11),
-        0x30..=0x35 => Row::At(row - 18),
-        0x38..=0x3B => Row::At(row - 20),
-        0x40..=0x45 => Row::At(row - 24),
-        0x48..=0x49 => Row::At(row - 26),
-        0x50..=0x51 => Row::At(row - 32),
+    let code = opcode as usize;
+    match code {
+        0x00..=0x08 => Row::At(code),
+        0x10..=0x15 => Row::At(code - 7),
+        0x18..=0x1D => Row::At(code - 9),
+        0x20..=0x28 => Row::At(code - 11),
+        0x30..=0x35 => Row::At(code - 18),
+        0x38..=0x3B => Row::At(code - 20),
+        0x40..=0x45 => Row::At(code - 24),
+        0x48..=0x49 => Row::At(code - 26),
+        0x50..=0x51 => Row::At(code - 32),
         _ => Row::Missing,
     }
 }

@@ -7,7 +7,7 @@ use mathlib.Core.List.{List, [], _∷_, map}
 use lib.ListN.{length, take, drop, getD, replicate}
 use lib.Dec.{leb, ltb}
 use lib.IntN.{ℤ, pos, negsuc}
-use Rattle.text.specs.Bytes.{digit, hexDigit, binaryDigit, nameStart, namePart, blank, run}
+use Rattle.text.specs.Bytes.{digit, hexDigit, binaryDigit, nameStart, namePart, blank, ascii, run}
 use Rattle.text.specs.Numbers.{minus, residue}
 use Rattle.text.specs.Names.{Name, present}
 use Rattle.text.specs.Tokens.{identifier, register, number, hex, binary, directive, comma, colon, opening, closing, Number as NumberClass, longest, front, infront, tokens}
@@ -16,7 +16,7 @@ use Rattle.text.specs.Lines.{indent, readLine}
 use Rattle.text.specs.Lines.{Line as Record}
 use Rattle.text.specs.Places.{inside, margin, restAt, leftAt, endAt}
 use Rattle.text.specs.declared.bytes.Class.{Class}
-use Rattle.text.specs.declared.bytes.Class.the-variants.{NamePart, Digit, HexDigit, BinaryDigit, Blank, Margin, Inside}
+use Rattle.text.specs.declared.bytes.Class.the-variants.{NamePart, Digit, HexDigit, BinaryDigit, Blank, Margin, Inside, Ascii}
 use Rattle.text.specs.declared.register.Register.{Register}
 use Rattle.text.specs.declared.register.Register.the-variants.{R0, R1, R2, R3, R4, R5, R6, R7, R8, R9, R10, R11, R12, R13, R14, R15}
 use Rattle.text.specs.declared.number.Value.{Value}
@@ -43,6 +43,7 @@ isOf BinaryDigit = binaryDigit
 isOf Blank = blank
 isOf Margin = margin
 isOf Inside = inside
+isOf Ascii = ascii
 
 -- ---- registers
 

@@ -16,6 +16,7 @@ pub enum Class {
     Blank,
     Margin,
     Inside,
+    Ascii,
 }
 
 pub fn within(lo: u8, hi: u8, b: u8) -> bool
@@ -81,6 +82,7 @@ pub fn is_in(class: Class, b: u8) -> bool
         Class::Blank => is_blank(b),
         Class::Margin => is_margin(b),
         Class::Inside => b != b'\n',
+        Class::Ascii => b <= 127,
     }
 }
 

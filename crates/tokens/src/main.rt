@@ -19,7 +19,7 @@ struct Spelling(u8, u64);
 fn spelled(kind: Kind) -> Spelling {
     match kind {
         Kind::Identifier => Spelling(b'i', 0),
-        Kind::Register(register) => Spelling(b'r', list::wide(register.index())),
+        Kind::Register(register) => Spelling(b'r', replay::list::wide(register.index())),
         Kind::NoRegister => Spelling(b'r', 16),
         Kind::Number(value) => Spelling(b'n', value),
         Kind::Negative(value) => Spelling(b'm', value),
@@ -60,12 +60,12 @@ fn are_entries(line: Line, from: usize, list: &[u8], at: usize) -> bool {
         next = entry.next;
         i += 1;
     }
-    list::is_record_end(list, next)
+    replay::list::is_record_end(list, next)
 }
 
 // Whether the record of the line from `from` to `end` is what the list has at `at`. Of a bad line it holds nothing.
 fn is_answer(line: Line, from: usize, end: usize, list: &[u8], at: usize) -> bool {
-    let tag = list::byte_at(list, at);
+    let tag = replay::list::byte_at(list, at);
     let next = wrapping_add_usize(at, 2);
     if line.bad {
         return tag == b'b'
@@ -73,7 +73,7 @@ fn is_answer(line: Line, from: usize, end: usize, list: &[u8], at: usize) -> boo
             && line.end == from
             && are_entries(line, from, list, next);
     }
-    let count = list::number_at(list, next);
+    let count = replay::list::number_at(list, next);
     tag == b'n'
         && line.count as u64 == count.value
         && line.end == end
@@ -84,7 +84,7 @@ fn is_answer(line: Line, from: usize, end: usize, list: &[u8], at: usize) -> boo
 fn with_record_in(list: &[u8], at: usize, tally: Tally, room: &mut [u8]) -> Tally
     requires { ⌜ 2 < length (now room) ⌝ }
 {
-    let piece = list::line_at(list, wrapping_add_usize(at, 2), room);
+    let piece = replay::list::line_at(list, wrapping_add_usize(at, 2), room);
     let from = piece.start;
     let end = piece.end;
     let next = piece.next;
@@ -104,7 +104,7 @@ fn compare(list: &[u8]) -> Tally {
     let mut tally = Tally::new();
     let mut at = 0;
     while at < list.len() {
-        at = list::next_record(list, at);
+        at = replay::list::next_record(list, at);
         if at < list.len() {
             tally = with_record(list, at, tally);
         }

@@ -1,5 +1,6 @@
 // How much was compared: lines, those that differ, and tokens by kind.
-use std::num::wrapping_add_u64;
+use replay::tally::more;
+use replay::tally::write_count;
 use text::lexer::Kind;
 use text::parser::Line;
 
@@ -18,16 +19,6 @@ pub struct Tally {
     pub colons: u64,
     pub openings: u64,
     pub closings: u64,
-}
-
-// No run counts to 2^64.
-fn more(n: u64) -> u64 {
-    wrapping_add_u64(n, 1)
-}
-
-fn write_count(n: u64, what: &[u8]) {
-    io::print_decimal(1, n);
-    io::write_all(1, what);
 }
 
 impl Tally {
@@ -88,8 +79,7 @@ impl Tally {
         self.lines = more(self.lines);
         if !agrees {
             self.differences = more(self.differences);
-            io::write_all(1, b"differs: record ");
-            write_count(self.lines, b"\n");
+            replay::tally::write_difference(self.lines);
         }
         if line.bad {
             self.bad = more(self.bad);

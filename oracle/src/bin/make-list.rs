@@ -4,7 +4,7 @@ use std::path::PathBuf;
 
 fn main() -> std::io::Result<()> {
     let root = PathBuf::from(std::env::args().nth(1).unwrap_or_else(|| "..".to_string()));
-    std::fs::write(root.join("oracle/lists/rust.txt"), oracle::source_list())?;
-    std::fs::write(root.join("oracle/lists/images.txt"), oracle::image_list())?;
-    std::fs::write(root.join("crates/tokens/stdin"), oracle::token_list())
+    std::fs::write(root.join("crates/tokens/stdin"), oracle::token_list())?;
+    std::fs::write(root.join("crates/words/stdin"), oracle::word_list())?;
+    std::fs::write(root.join("crates/vectors/stdin"), oracle::vector_list())
 }

@@ -1,6 +1,6 @@
 -- `text::bytes::is_in` meets its contract.
 use borrow.Author.Needs.{needs}
-use Rattle.text.specs.Bytes.{binaryDigit}
+use Rattle.text.specs.Bytes.{binaryDigit, ascii}
 use Rattle.text.specs.Places.{inside}
 use Rattle.text.proofs.bytes.is_in.Statement.{statement}
 use Rattle.text.proofs.bytes.is_in.Tie as tie
@@ -44,6 +44,9 @@ is-margin-requires c κs = search needs
 enum-told-7 : tie.Need-enum-told-7
 enum-told-7 c = search needs
 
+enum-told-8 : tie.Need-enum-told-8
+enum-told-8 c = search needs
+
 returns : tie.Need-returns
 returns c = rw (c .before .enum-told .given .1) (c .is-name-part .ensures)
 
@@ -67,6 +70,10 @@ returns-7 : tie.Need-returns-7
 unfolding inside
 returns-7 c = rw (c .enum-told7 .given .1)
 
+returns-8 : tie.Need-returns-8
+unfolding ascii
+returns-8 c = rw (c .enum-told8 .given .1)
+
 pub is-in-spec : {M : Type 1} → statement M
 is-in-spec =
     tie.close
@@ -84,10 +91,12 @@ is-in-spec =
     enum-told-6
     is-margin-requires
     enum-told-7
+    enum-told-8
     returns
     returns-2
     returns-3
     returns-4
     returns-5
     returns-6
-    returns-7)
+    returns-7
+    returns-8)

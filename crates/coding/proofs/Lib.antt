@@ -1,0 +1,7 @@
+pub mod Forms
+pub mod Coding
+pub mod Words
+pub mod Writing
+pub mod Decimals
+pub mod Spelling
+pub mod Pieces

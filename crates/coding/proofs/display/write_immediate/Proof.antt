@@ -1,0 +1,42 @@
+-- `coding::display::write_immediate` meets its contract.
+use mathlib.Core.List.{_++_}
+use Prim.Native.Nat.{_+_, _≤_}
+use native.Mathlib.Omega.{arith}
+use lib.ListN.{length}
+use borrow.Author.Needs.{needs}
+use Rattle.text.specs.Numbers.{signedDecimal}
+use Rattle.text.specs.Contracts.{wholeMeant}
+use Rattle.coding.specs.Contracts.{pairText}
+use Rattle.coding.proofs.Pieces.{immediate-text}
+use Rattle.coding.proofs.Writing.{written-append, room-before, room-behind}
+use Rattle.coding.proofs.display.write_immediate.Statement.{statement}
+use Rattle.coding.proofs.display.write_immediate.Tie as tie
+
+-- the text in its pieces has room
+room : (c : tie.Start) → let o = c .args .operands in c .args .at + length (pairText (o .first) (o .second) ++ signedDecimal (wholeMeant (o .number))) ≤ length (c .args .out .now)
+room c = rw (immediate-text (c .args .operands)) at (c .pre)
+
+write-pair-requires : tie.Need-write-pair-requires
+write-pair-requires c κs =
+    let s = c .before .before .before in
+    let o = s .args .operands in
+    room-before (s .args .out .now) (s .args .at) (pairText (o .first) (o .second)) _ (room s)
+
+write-number-requires : tie.Need-write-number-requires
+write-number-requires c κs =
+    let k = c .before .before .before in
+    room-behind (k .write-pair .ensures) _ (room (k .before .before .before .before))
+
+same-length : tie.Need-same-length
+same-length c = search needs
+
+returns : tie.Need-returns
+returns c =
+    let k = c .before .before .before .before .before .before in
+    let s = k .before .before .before .before in
+    let r = room s in
+    rw (immediate-text (s .args .operands)) (written-append (k .write-pair .ensures) (omega arith) (c .before .before .write-number .ensures))
+
+pub write-immediate-spec : {M : Type 1} → statement M
+write-immediate-spec =
+    tie.close (tie.spec write-pair-requires write-number-requires same-length returns)

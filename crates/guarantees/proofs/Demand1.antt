@@ -1,0 +1,45 @@
+-- Demand 1 holds of every call.
+use Prim.Native.Nat.{ℕ}
+use mathlib.Core.Path.{_≡_, sym, ap, subst}
+use mathlib.Core.List.{List}
+use lib.ListN.{length}
+use Rattle.text.specs.Names.{present}
+use Rattle.image.specs.Assembling.{Assembled as Reading, accepted, rejected, assembling}
+use Rattle.image.specs.Listing.{Listing as Written, written, rejected as unwritten, listing}
+use Rattle.image.specs.Lent.{over, Answer, answerOf, entered, imageAfter, ListAnswer, listAnswerOf, textAfter}
+use Rattle.image.specs.Contracts.{answerMeant, roomOf, listingMeant}
+use Rattle.guarantees.specs.Calls.{IsRefusal, IsUnlisted, labelCount, Demand1}
+
+-- An answer that is a refusal is that of a refused source, which leaves the image.
+image-left : (source image image′ : List ℕ) (a : Reading) (x : Answer) → x ≡ answerOf a → image′ ≡ imageAfter present source a image → IsRefusal x → image′ ≡ image
+unfolding answerOf imageAfter
+image-left source image image′ (rejected r) x e h k = h
+image-left source image image′ (accepted st) x e h k = absurd (subst IsRefusal e k)
+
+labels-entered : (a : Reading) (x : Answer) → x ≡ answerOf a → length (entered a) ≡ labelCount x
+unfolding answerOf entered
+labels-entered (accepted st) x e = sym (ap labelCount e)
+labels-entered (rejected r) x e = sym (ap labelCount e)
+
+text-left : (text text′ : List ℕ) (w : Written) (x : ListAnswer) → x ≡ listAnswerOf w → text′ ≡ textAfter w text → IsUnlisted x → text′ ≡ text
+unfolding listAnswerOf textAfter
+text-left text text′ (unwritten r) x e h k = h
+text-left text text′ (written t) x e h k = absurd (subst IsUnlisted e k)
+
+pub demand-1 : Demand1
+unfolding over
+demand-1 =
+    record {
+      image-kept = λ source starts lengths addresses image starts′ lengths′ addresses′ image′ r h k.
+          image-left source image image′ (assembling present source (roomOf starts lengths addresses) (length image)) (answerMeant r) (h .answer) (h .image-holds) k;
+      table-holds = λ source starts lengths addresses image starts′ lengths′ addresses′ image′ r h.
+          let a = assembling present source (roomOf starts lengths addresses) (length image) in
+          record {
+            labels = entered a;
+            as-many = labels-entered a (answerMeant r) (h .answer);
+            starts-ahead = h .table .starts-hold;
+            lengths-ahead = h .table .lengths-hold;
+            addresses-ahead = h .table .addresses-hold;
+          };
+      text-kept = λ image text text′ r h k. text-left text text′ (listing image (length text)) (listingMeant r) (h .answer) (h .text) k;
+    }

@@ -1,0 +1,48 @@
+-- Demand 1: what every call leaves in the slices that are lent to it. `Assembles` and `Lists` are what the contracts of `assemble`
+-- and `list` promise of every call, whatever the source, the image and the lengths of the slices, 0 included; the answer is always
+-- one of the cases of `Answer` and `ListAnswer`.
+use Prim.Native.Nat.{ℕ}
+use mathlib.Core.Path.{_≡_}
+use mathlib.Core.List.{List, _++_, map}
+use lib.ListN.{length, drop}
+use Rattle.image.specs.Assembling.{Label}
+use Rattle.image.specs.Lent.{Answer, assembled, refusal, ListAnswer, listed, unlisted}
+use Rattle.image.specs.Contracts.{answerMeant, Assembles, listingMeant, Lists}
+use Rattle.image.specs.declared.assembler.Assembled.{Assembled}
+use Rattle.image.specs.declared.listing.Listing.{Listing}
+
+abbrev pub IsRefusal : Answer → Type 0
+IsRefusal (assembled words labels s) = ⊥
+IsRefusal (refusal number rust-line true-line labels needed) = Unit {0}
+
+abbrev pub IsUnlisted : ListAnswer → Type 0
+IsUnlisted (listed n) = ⊥
+IsUnlisted (unlisted number index needed) = Unit {0}
+
+-- The count of labels that an answer carries.
+abbrev pub labelCount : Answer → ℕ
+labelCount (assembled words labels s) = labels
+labelCount (refusal number rust-line true-line labels needed) = labels
+
+-- A slice holds some numbers, and behind them what it held before.
+abbrev pub Ahead : List ℕ → List ℕ → List ℕ → Type 0
+Ahead new old after = after ≡ new ++ drop (length new) old
+
+-- The label table holds the labels entered so far, as many as the answer says, ahead of its untouched entries.
+pub record TableHolds (count : ℕ) (starts lengths addresses starts′ lengths′ addresses′ : List ℕ) : Type 0 where
+  pub labels : List Label
+  pub as-many : length labels ≡ count
+  pub starts-ahead : Ahead (map (λ l. l .start) labels) starts starts′
+  pub lengths-ahead : Ahead (map (λ l. length (l .spelling)) labels) lengths lengths′
+  pub addresses-ahead : Ahead (map (λ l. l .address) labels) addresses addresses′
+
+pub record Demand1 : Type 0 where
+  -- After a refusal the image buffer holds what it held before.
+  pub image-kept : (source starts lengths addresses image starts′ lengths′ addresses′ image′ : List ℕ) (r : Assembled)
+      → Assembles source starts lengths addresses image starts′ lengths′ addresses′ image′ r → IsRefusal (answerMeant r) → image′ ≡ image
+  -- After every call the label table holds the labels entered so far, ahead of its untouched entries.
+  pub table-holds : (source starts lengths addresses image starts′ lengths′ addresses′ image′ : List ℕ) (r : Assembled)
+      → Assembles source starts lengths addresses image starts′ lengths′ addresses′ image′ r
+      → TableHolds (labelCount (answerMeant r)) starts lengths addresses starts′ lengths′ addresses′
+  -- After a refusal the text buffer holds what it held before.
+  pub text-kept : (image text text′ : List ℕ) (r : Listing) → Lists image text text′ r → IsUnlisted (listingMeant r) → text′ ≡ text

@@ -1,0 +1,198 @@
+-- The header of an image as the code writes it and reads it, and opening.
+use mathlib.Core.Path.{_≡_, refl, sym, ap, ap₂, subst, _∙_}
+use Prim.Native.Nat.{ℕ, _+_, _-_, _*_, _/_, _%_, _^_, _≤_, _<_}
+use native.Mathlib.Nat.{add-zero}
+use native.Mathlib.Numerals.{add-one}
+use native.Mathlib.Omega.{arith}
+use mathlib.Core.Bool.{Bool, true, false}
+use mathlib.Core.Option.{Option, none, some}
+use mathlib.Core.List.{List, [], _∷_, _++_}
+use lib.ListN.{length, take, drop, set, getD, length-set, length-drop}
+use lib.Seq.{take-suc, take-all, getD-drop}
+use lib.Dec.{eqb}
+use borrow.Author.Tests.{eq-eqb, ne-eqb, lt-ltb, le-ltb}
+use Rattle.text.specs.Bytes.{value, refused}
+use Rattle.text.specs.Numbers.{little, unlittle}
+use Rattle.coding.specs.Contracts.{put, Written}
+use Rattle.coding.proofs.Writing.{put-none, written-byte, written-append}
+use Rattle.image.specs.Settings.{settingsFault}
+use Rattle.image.specs.Program.{Header, magic, version, header-size, numberAt, headerOf, codeOf, dataOf}
+use Rattle.image.specs.Opening.{openingFault, opening}
+use Rattle.image.specs.Contracts.{headerMeant, headerFault, openedMeant}
+use Rattle.image.specs.declared.program.ProgramHeader.{ProgramHeader}
+use Rattle.image.specs.declared.program.Opened.the-variants.{Is as IsOpened}
+
+-- ---- bytes written
+
+-- So many of some bytes are written.
+pub record Copied (l : List ℕ) (at : ℕ) (bytes : List ℕ) (i : ℕ) (m : List ℕ) : Type 0 where
+  pub some-of : i ≤ length bytes
+  pub long : length m ≡ length l
+  pub so-far : Written l at (take i bytes) (at + i) m
+
+-- None at first,
+pub copied-none : (l : List ℕ) (at : ℕ) (bytes : List ℕ) → Copied l at bytes 0 l
+copied-none l at bytes =
+    record { some-of = omega arith; long = refl; so-far = record { ends = refl; holds = sym (put-none l at) } }
+
+-- one more each time,
+pub copied-more : {l : List ℕ} {at : ℕ} {bytes : List ℕ} {i : ℕ} {m : List ℕ} → Copied l at bytes i m → at + length bytes ≤ length l → i < length bytes
+    → Copied l at bytes (i + 1) (set m (at + i) (getD bytes i 0))
+copied-more {l} {at} {bytes} {i} {m} c room h =
+    let e : take i bytes ++ (getD bytes i 0 ∷ []) ≡ take (i + 1) bytes = rw (add-one i) (sym (take-suc bytes i 0 h)) in
+    let w = written-append (c .so-far) (omega arith) (written-byte m (at + i) (getD bytes i 0) (omega (arith, c .long))) in
+    record {
+      some-of = omega arith;
+      long = length-set m (at + i) (getD bytes i 0) ∙ c .long;
+      so-far = record { ends = omega (arith, w .ends, ap length e); holds = w .holds ∙ ap (put l at) e };
+    }
+
+-- and all in the end.
+pub copied-all : {l : List ℕ} {at : ℕ} {bytes : List ℕ} {i : ℕ} {m : List ℕ} → Copied l at bytes i m → length bytes ≤ i → Written l at bytes (at + i) m
+copied-all {l} {at} {bytes} {i} {m} c h = rw (take-all i bytes h) at (c .so-far)
+
+-- A byte, stored behind what is written.
+byte-behind : {l : List ℕ} {at : ℕ} {s : List ℕ} {p : ℕ} {m : List ℕ} → Written l at s p m → at ≤ length l → (b q : ℕ) → q ≡ p → q < length m
+    → Written l at (s ++ (b ∷ [])) (q + 1) (set m q b)
+byte-behind {l} {at} {s} {p} {m} w h b q e r = written-append w h (subst (λ (x : ℕ). Written m x (b ∷ []) (q + 1) (set m q b)) e (written-byte m q b r))
+
+-- Four bytes, each stored at its place.
+pub written-four : (l : List ℕ) (at a b c d : ℕ) → at + 4 ≤ length l
+    → Written l at (a ∷ b ∷ c ∷ d ∷ []) (at + 4) (set (set (set (set l at a) (at + 1) b) (at + 2) c) (at + 3) d)
+written-four l at a b c d h =
+    let m1 = set l at a in
+    let m2 = set m1 (at + 1) b in
+    let m3 = set m2 (at + 2) c in
+    let n1 : length m1 ≡ length l = length-set l at a in
+    let n2 : length m2 ≡ length m1 = length-set m1 (at + 1) b in
+    let n3 : length m3 ≡ length m2 = length-set m2 (at + 2) c in
+    let w1 = written-byte l at a (omega arith) in
+    let w2 = byte-behind w1 (omega arith) b (at + 1) refl (omega arith) in
+    let w3 = byte-behind w2 (omega arith) c (at + 2) (omega arith) (omega arith) in
+    let w4 = byte-behind w3 (omega arith) d (at + 3) (omega arith) (omega arith) in
+    record { ends = refl; holds = w4 .holds }
+
+-- The bytes of a number of 32 bits.
+pub little-four : (v : ℕ) → v < 2 ^ 32 → v % 256 ∷ v / 256 % 256 ∷ v / 65536 % 256 ∷ v / 16777216 ∷ [] ≡ little 4 v
+unfolding little
+little-four v h =
+    let a : v / 65536 % 256 ≡ v / 256 / 256 % 256 = omega arith in
+    let b : v / 16777216 ≡ v / 256 / 256 / 256 % 256 = omega arith in
+    ap₂ (λ (x y : ℕ). v % 256 ∷ v / 256 % 256 ∷ x ∷ y ∷ []) a b
+
+-- ---- bytes read
+
+-- The number of the first four bytes.
+four-of : (x : List ℕ) → 4 ≤ length x → unlittle (take 4 x) ≡ getD x 0 0 + 256 * getD x 1 0 + 65536 * getD x 2 0 + 16777216 * getD x 3 0
+unfolding unlittle
+four-of [] h = absurd (omega arith)
+four-of (a ∷ []) h = absurd (omega arith)
+four-of (a ∷ b ∷ []) h = absurd (omega arith)
+four-of (a ∷ b ∷ c ∷ []) h = absurd (omega arith)
+four-of (a ∷ b ∷ c ∷ d ∷ x) h = omega arith
+
+-- The number of four bytes at a place.
+pub number-four : (at : ℕ) (b : List ℕ) → at + 4 ≤ length b
+    → getD b at 0 + 256 * getD b (at + 1) 0 + 65536 * getD b (at + 2) 0 + 16777216 * getD b (at + 3) 0 ≡ numberAt at 4 b
+unfolding numberAt
+number-four at b h =
+    sym (four-of (drop at b) (omega (arith, length-drop at b))
+    ∙ rw (getD-drop at b 0 0, getD-drop at b 1 0, getD-drop at b 2 0, getD-drop at b 3 0, add-zero at))
+
+-- The number of one byte is that byte.
+one-of : (x : List ℕ) → 1 ≤ length x → unlittle (take 1 x) ≡ getD x 0 0
+unfolding unlittle
+one-of [] h = absurd (omega arith)
+one-of (a ∷ x) h = omega arith
+
+-- The byte at a place.
+pub number-one : (at : ℕ) (b : List ℕ) → at < length b → getD b at 0 ≡ numberAt at 1 b
+unfolding numberAt
+number-one at b h = sym (one-of (drop at b) (omega (arith, length-drop at b)) ∙ rw (getD-drop at b 0 0, add-zero at))
+
+-- ---- what a header is refused for
+
+module _ (h : Header) where
+  -- each test in order
+  pub header-magic : (h .magic ≡ magic → ⊥) → headerFault h ≡ some 25
+  unfolding headerFault
+  header-magic e = rw (headerFault, ne-eqb (h .magic) magic e)
+
+  module _ (m : h .magic ≡ magic) where
+    pub header-version : (h .version ≡ version → ⊥) → headerFault h ≡ some 26
+    unfolding headerFault
+    header-version e = rw (headerFault, eq-eqb (h .magic) magic m, ne-eqb (h .version) version e)
+
+    module _ (v : h .version ≡ version) where
+      pub header-setup : (n : ℕ) → settingsFault (h .setup) ≡ some n → headerFault h ≡ some n
+      unfolding headerFault
+      header-setup n e = rw (headerFault, eq-eqb (h .magic) magic m, eq-eqb (h .version) version v, e)
+
+      module _ (s : settingsFault (h .setup) ≡ none) where
+        pub header-code : (h .code-size % 4 ≡ 0 → ⊥) → headerFault h ≡ some 27
+        unfolding headerFault
+        header-code e = rw (headerFault, eq-eqb (h .magic) magic m, eq-eqb (h .version) version v, s, ne-eqb (h .code-size % 4) 0 e)
+
+        -- and nothing behind the last
+        pub header-good : h .code-size % 4 ≡ 0 → headerFault h ≡ none
+        unfolding headerFault
+        header-good e = rw (headerFault, eq-eqb (h .magic) magic m, eq-eqb (h .version) version v, s, eq-eqb (h .code-size % 4) 0 e)
+
+-- ---- opening
+
+-- The first of two refusals.
+abbrev first : Option ℕ → Option ℕ → Option ℕ
+first (some n) o = some n
+first none o = o
+
+-- A chain of tests, its last one behind the others.
+last-behind : (m v c : Bool) (s o : Option ℕ)
+    → _≡_ {A = Option ℕ} (elim m [ false ↦ some 25 | true ↦ elim v [ false ↦ some 26 | true ↦ elim s [ some n ↦ some n | none ↦ elim c [ false ↦ some 27 | true ↦ o ] ] ] ])
+    (first (elim m [ false ↦ some 25 | true ↦ elim v [ false ↦ some 26 | true ↦ elim s [ some n ↦ some n | none ↦ elim c [ false ↦ some 27 | true ↦ none ] ] ] ]) o)
+last-behind false v c s o = refl
+last-behind true false c s o = refl
+last-behind true true c (some n) o = refl
+last-behind true true false none o = refl
+last-behind true true true none o = refl
+
+module _ (b : List ℕ) where
+  -- under 32 bytes
+  pub opening-short : length b < 32 → opening b ≡ refused 24
+  unfolding opening openingFault header-size
+  opening-short h = rw (opening, openingFault, lt-ltb (length b) 32 h)
+
+  module _ (long : 32 ≤ length b) where
+    -- what the header is refused for comes before the length
+    header-first : openingFault b ≡ first (headerFault (headerOf b)) (elim (eqb (length b) (32 + headerOf b .code-size + headerOf b .data-size)) [ false ↦ some 28 | true ↦ none ])
+    unfolding openingFault headerFault header-size
+    header-first =
+        rw (openingFault, le-ltb (length b) 32 long)
+        (last-behind (eqb (headerOf b .magic) magic) (eqb (headerOf b .version) version) (eqb (headerOf b .code-size % 4) 0) (settingsFault (headerOf b .setup))
+        (elim (eqb (length b) (32 + headerOf b .code-size + headerOf b .data-size)) [ false ↦ some 28 | true ↦ none ]))
+
+    -- refused for the header
+    pub opening-header : (n : ℕ) → headerFault (headerOf b) ≡ some n → opening b ≡ refused n
+    unfolding opening
+    opening-header n e = rw (opening, header-first, e)
+
+    module _ (good : headerFault (headerOf b) ≡ none) where
+      -- refused for the length
+      pub opening-length : (length b ≡ 32 + headerOf b .code-size + headerOf b .data-size → ⊥) → opening b ≡ refused 28
+      unfolding opening
+      opening-length e = rw (opening, header-first, good, ne-eqb (length b) (32 + headerOf b .code-size + headerOf b .data-size) e)
+
+      -- opened
+      pub opening-good : length b ≡ 32 + headerOf b .code-size + headerOf b .data-size
+          → opening b ≡ value (record { header = headerOf b; code = codeOf b; initialized = dataOf b })
+      unfolding opening
+      opening-good e = rw (opening, header-first, good, eq-eqb (length b) (32 + headerOf b .code-size + headerOf b .data-size) e)
+
+-- The parts of an image, by a header that was read from it.
+pub opened-parts : (b : List ℕ) (h : ProgramHeader) → headerMeant h ≡ headerOf b
+    → openedMeant b (IsOpened h (32 + h .«code_size»)) ≡ value (record { header = headerOf b; code = codeOf b; initialized = dataOf b })
+unfolding codeOf dataOf header-size
+opened-parts b h e =
+    let s : h .«code_size» ≡ headerOf b .code-size = ap (λ (x : Header). x .code-size) e in
+    let n : 32 + h .«code_size» - 32 ≡ headerOf b .code-size = omega arith in
+    let m : 32 + h .«code_size» ≡ 32 + headerOf b .code-size = omega arith in
+    λ i. value (record { header = e i; code = take (n i) (drop 32 b); initialized = drop (m i) b })

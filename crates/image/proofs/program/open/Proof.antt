@@ -1,0 +1,84 @@
+-- `image::program::open` meets its contract.
+use mathlib.Core.Path.{_≡_, sym, ap, _∙_}
+use native.Mathlib.Omega.{arith}
+use borrow.Author.Needs.{needs}
+use Rattle.image.specs.Program.{Header, headerOf}
+use Rattle.image.specs.Contracts.{faultMeant, headerFault}
+use Rattle.image.proofs.Heads.{opening-short, opening-header, opening-length, opening-good, opened-parts}
+use Rattle.image.proofs.program.open.Statement.{statement}
+use Rattle.image.proofs.program.open.Tie as tie
+
+returns : tie.Need-returns
+returns c = sym (opening-short (c .before .before .args .image .now) (c .if1 .taken))
+
+read-header-requires : tie.Need-read-header-requires
+read-header-requires c κs = search needs
+
+validate-requires : tie.Need-validate-requires
+validate-requires c κs = search needs
+
+enum-known-n : tie.Need-enum-known-n
+enum-known-n c = search needs
+
+enum-told : tie.Need-enum-told
+enum-told c = search needs
+
+cast-code-end : tie.Need-cast-code-end
+cast-code-end c = search needs
+
+add-code-end : tie.Need-add-code-end
+add-code-end c = search needs
+
+cast-if2 : tie.Need-cast-if2
+cast-if2 c = search needs
+
+add-if2 : tie.Need-add-if2
+add-if2 c = search needs
+
+-- what the header that was read is refused for
+refused-for : (c : tie.After-validate) → headerFault (headerOf (c .before .before .before .before .args .image .now)) ≡ faultMeant (c .validate .result)
+refused-for c = sym (c .validate .ensures ∙ ap headerFault (c .before .read-header .ensures))
+
+returns-2 : tie.Need-returns-2
+returns-2 c =
+    let t = c .before .before .before in
+    let v = t .before .before in
+    let r = v .before in
+    let b = r .before .before .before .args .image .now in
+    let n = ap (λ (x : Header). x .code-size) (r .read-header .ensures) in
+    let m = ap (λ (x : Header). x .data-size) (r .read-header .ensures) in
+    sym (opening-length b (omega arith) (rw (t .enum-told .given .1) at (refused-for v)) (λ e. c .if2 .taken (omega (arith, n, m, e))))
+
+returns-3 : tie.Need-returns-3
+returns-3 c =
+    let n = c .before in
+    let v = n .before .before in
+    sym (opening-header (v .before .before .before .before .args .image .now) (omega arith) (n .n .given .0 .0) (rw (n .n .given .1) at (refused-for v)))
+
+returns-4 : tie.Need-returns-4
+returns-4 c =
+    let t = c .before .before .before in
+    let v = t .before .before in
+    let r = v .before in
+    let b = r .before .before .before .args .image .now in
+    let n = ap (λ (x : Header). x .code-size) (r .read-header .ensures) in
+    let m = ap (λ (x : Header). x .data-size) (r .read-header .ensures) in
+    opened-parts b (r .read-header .result) (r .read-header .ensures)
+    ∙ sym (opening-good b (omega arith) (rw (t .enum-told .given .1) at (refused-for v)) (omega (arith, n, m, c .if2 .left)))
+
+pub open-spec : {M : Type 1} → statement M
+open-spec =
+    tie.close
+    (tie.spec
+    returns
+    read-header-requires
+    validate-requires
+    enum-known-n
+    enum-told
+    cast-code-end
+    add-code-end
+    cast-if2
+    add-if2
+    returns-2
+    returns-3
+    returns-4)

@@ -1,0 +1,168 @@
+// The header of an image: written, read and checked.
+ghost use mathlib.Core.Path.{_≡_};
+ghost use Prim.Native.Nat.{_+_, _≤_};
+ghost use lib.ListN.{length};
+ghost use Rattle.text.specs.Numbers.{little};
+ghost use Rattle.coding.specs.Contracts.{Written};
+ghost use Rattle.image.specs.Program.{headerBytes, headerFor, numberAt, headerOf};
+ghost use Rattle.image.specs.Opening.{opening};
+ghost use Rattle.image.specs.Contracts.{settingsMeant, faultMeant, settingBytes, headerMeant, headerFault, openedMeant};
+use crate::config::Checked;
+use crate::config::Config;
+
+pub struct ProgramHeader {
+    pub magic: u32,
+    pub version: u32,
+    pub config: Config,
+    pub flags: u8,
+    pub entry_point: u32,
+    pub code_size: u32,
+    pub data_size: u32,
+    pub bss_size: u32,
+    pub stack_size: u32,
+}
+
+// An image's header, and where its code ends, which begins at 32; its data fill the rest.
+pub enum Opened {
+    Is {
+        header: ProgramHeader,
+        code_end: usize,
+    },
+    Refused(u8),
+}
+
+// Bytes, written at a place; the answer is the place behind them.
+pub fn write_bytes(out: &mut [u8], at: usize, bytes: &[u8]) -> usize
+    requires { ⌜ at + length (now bytes) ≤ length (now out) ⌝ }
+    ensures { λ r. ⌜ Written (now (out .entry)) at (now (bytes .entry)) r (now (out .exit)) ⌝ }
+{
+    let mut i = 0;
+    while i < bytes.len() {
+        out[at + i] = bytes[i];
+        i += 1;
+    }
+    at + i
+}
+
+// A number of 32 bits, its lowest byte first.
+pub fn write_u32(out: &mut [u8], at: usize, value: u32) -> usize
+    requires { ⌜ at + 4 ≤ length (now out) ⌝ }
+    ensures { λ r. ⌜ Written (now (out .entry)) at (little 4 value) r (now (out .exit)) ⌝ }
+{
+    out[at] = (value % 0x100) as u8;
+    out[at + 1] = (value / 0x100 % 0x100) as u8;
+    out[at + 2] = (value / 0x10000 % 0x100) as u8;
+    out[at + 3] = (value / 0x1000000) as u8;
+    at + 4
+}
+
+// The three settings, a byte each, and no flags.
+fn write_config(out: &mut [u8], at: usize, config: Config) -> usize
+    requires { ⌜ at + 4 ≤ length (now out) ⌝ }
+    ensures { λ r. ⌜ Written (now (out .entry)) at (settingBytes (settingsMeant config)) r (now (out .exit)) ⌝ }
+{
+    out[at] = config.limb_bits;
+    out[at + 1] = config.data_limbs;
+    out[at + 2] = config.addr_limbs;
+    out[at + 3] = 0;
+    at + 4
+}
+
+// The header of a program with settings and a size of code.
+pub fn write_header(image: &mut [u8], config: Config, code_size: u32) -> usize
+    requires { ⌜ 32 ≤ length (now image) ⌝ }
+    ensures { λ r. ⌜ Written (now (image .entry)) 0 (headerBytes (headerFor (settingsMeant config) «code_size» 0)) r (now (image .exit)) ⌝ }
+{
+    // magic, version
+    let at = write_bytes(image, 0, b"ZKIR\x04\x00\x03\x00");
+    let at = write_config(image, at, config);
+    // entry
+    let at = write_bytes(image, at, b"\x00\x10\x00\x00");
+    let at = write_u32(image, at, code_size);
+    // data, bss, stack
+    write_bytes(
+        image,
+        at,
+        b"\x00\x00\x00\x00\x00\x00\x00\x00\x00\x00\x10\x00",
+    )
+}
+
+pub fn read_u32(image: &[u8], at: usize) -> u32
+    requires { ⌜ at + 4 ≤ length (now image) ⌝ }
+    ensures { λ r. ⌜ r ≡ numberAt at 4 (now (image .entry)) ⌝ }
+{
+    let low = image[at] as u32 + 0x100 * (image[at + 1] as u32);
+    low + 0x10000 * (image[at + 2] as u32) + 0x1000000 * (image[at + 3] as u32)
+}
+
+fn read_config(image: &[u8]) -> Config
+    requires { ⌜ 32 ≤ length (now image) ⌝ }
+    ensures { λ r. ⌜ settingsMeant r ≡ headerOf (now (image .entry)) .setup ⌝ }
+{
+    Config {
+        limb_bits: image[8],
+        data_limbs: image[9],
+        addr_limbs: image[10],
+    }
+}
+
+fn read_header(image: &[u8]) -> ProgramHeader
+    requires { ⌜ 32 ≤ length (now image) ⌝ }
+    ensures { λ r. ⌜ headerMeant r ≡ headerOf (now (image .entry)) ⌝ }
+{
+    ProgramHeader {
+        magic: read_u32(image, 0),
+        version: read_u32(image, 4),
+        config: read_config(image),
+        flags: image[11],
+        entry_point: read_u32(image, 12),
+        code_size: read_u32(image, 16),
+        data_size: read_u32(image, 20),
+        bss_size: read_u32(image, 24),
+        stack_size: read_u32(image, 28),
+    }
+}
+
+impl ProgramHeader {
+    // What a header alone can be refused for: 25, 26, 10 to 13, 27.
+    pub fn validate(self) -> Checked
+        ensures { λ r. ⌜ faultMeant r ≡ headerFault (headerMeant self) ⌝ }
+    {
+        let config = self.config;
+        if self.magic != 0x52494B5A {
+            return Checked::Refused(25);
+        }
+        if self.version != 0x00030004 {
+            return Checked::Refused(26);
+        }
+        match config.validate() {
+            Checked::Refused(n) => Checked::Refused(n),
+            Checked::Good => {
+                if self.code_size % 4 != 0 {
+                    return Checked::Refused(27);
+                }
+                Checked::Good
+            }
+        }
+    }
+}
+
+// The header of an image and its parts: 24, then what the header is refused for, then 28.
+pub fn open(image: &[u8]) -> Opened
+    ensures { λ r. ⌜ openedMeant (now (image .entry)) r ≡ opening (now (image .entry)) ⌝ }
+{
+    if image.len() < 32 {
+        return Opened::Refused(24);
+    }
+    let header = read_header(image);
+    match header.validate() {
+        Checked::Refused(n) => Opened::Refused(n),
+        Checked::Good => {
+            let code_end = 32 + header.code_size as usize;
+            if image.len() != code_end + header.data_size as usize {
+                return Opened::Refused(28);
+            }
+            Opened::Is { header, code_end }
+        }
+    }
+}

@@ -1,0 +1,2 @@
+// The instruction layer, reading: a line's tokens read as an instruction.
+pub mod assembler;

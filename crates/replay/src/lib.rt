@@ -1,0 +1,4 @@
+// What the programs share that replay a list of the oracle: reading its records, and counting. Nothing here calls a crate under
+// test, so that no fault of one can hide itself.
+pub mod list;
+pub mod tally;

@@ -1,0 +1,142 @@
+// Reads sources and images with the oracle's answers, and compares what `image` answers: the answer, every entry and every byte
+// lent. Writes the number of each record that differs, then counts.
+
+mod answer;
+mod calls;
+mod images;
+mod pieces;
+mod record;
+mod room;
+mod sources;
+mod tally;
+
+use replay::list::has_tag;
+use tally::Outcome;
+use tally::Tally;
+
+fn source_outcome(
+    list: &[u8],
+    at: usize,
+    source: &mut [u8],
+    image: &mut [u8],
+    image_buffer: &mut [u8],
+    text_buffer: &mut [u8],
+) -> Outcome {
+    let record = record::source_at(list, at, source, image);
+    let answer = record.answer;
+    if !record.is_whole {
+        return Outcome::Differs;
+    }
+    let n = room::part(image, record.image);
+    if !sources::agrees(record, list, source, &image[..n], image_buffer, text_buffer) {
+        return Outcome::Differs;
+    }
+    if answer.number == 0 {
+        return Outcome::Assembled;
+    }
+    Outcome::Refused(answer.number)
+}
+
+fn image_outcome(
+    list: &[u8],
+    at: usize,
+    text: &mut [u8],
+    image: &mut [u8],
+    image_buffer: &mut [u8],
+    text_buffer: &mut [u8],
+) -> Outcome {
+    let record = record::image_at(list, at, text, image);
+    let answer = record.text;
+    let header = record.header;
+    let lent = record.room;
+    if !record.is_whole {
+        return Outcome::Differs;
+    }
+    let n = room::part(image, record.length);
+    let m = room::part(text, record.filled);
+    if !images::agrees(
+        &image[..n],
+        header,
+        lent,
+        answer,
+        &text[..m],
+        image_buffer,
+        text_buffer,
+    ) {
+        return Outcome::Differs;
+    }
+    if answer.number == 0 {
+        return Outcome::Listed;
+    }
+    Outcome::Refused(answer.number)
+}
+
+// Compares the record at `at`: a source's begins with a piece of it, an image's with a line of it or, if it is empty, with the
+// length of the text buffer.
+fn outcome(
+    list: &[u8],
+    at: usize,
+    source: &mut [u8],
+    image: &mut [u8],
+    image_buffer: &mut [u8],
+    text_buffer: &mut [u8],
+) -> Outcome {
+    if has_tag(list, at, b's') || has_tag(list, at, b'x') {
+        return source_outcome(list, at, source, image, image_buffer, text_buffer);
+    }
+    image_outcome(list, at, source, image, image_buffer, text_buffer)
+}
+
+fn compare(
+    list: &[u8],
+    source: &mut [u8],
+    image: &mut [u8],
+    image_buffer: &mut [u8],
+    text_buffer: &mut [u8],
+) -> Tally {
+    let mut tally = Tally::new();
+    let mut at = 0;
+    while at < list.len() {
+        at = replay::list::next_record(list, at);
+        if at < list.len() {
+            tally = tally.with(outcome(list, at, source, image, image_buffer, text_buffer));
+        }
+    }
+    tally
+}
+
+// Room for the list.
+fn list_room() -> [u8; 786432] {
+    [0; 786432]
+}
+
+// Room for a source that is too long by 64 bytes.
+fn source_room() -> [u8; 1048640] {
+    [0; 1048640]
+}
+
+// Room for an image of one word too many, and what is looked at behind it.
+fn image_room() -> [u8; 131328] {
+    [0; 131328]
+}
+
+// Room for the text of 32,768 words, and what is looked at behind it.
+fn text_room() -> [u8; 721152] {
+    [0; 721152]
+}
+
+fn main() {
+    let mut list = list_room();
+    let n = io::read_full(0, &mut list);
+    let mut source = source_room();
+    let mut image = image_room();
+    let mut image_buffer = image_room();
+    let mut text_buffer = text_room();
+    compare(
+        &list[..n],
+        &mut source,
+        &mut image,
+        &mut image_buffer,
+        &mut text_buffer,
+    ).write();
+}

@@ -1,0 +1,51 @@
+// What is called of the crates under test, with the tables that they want lent.
+ghost use Prim.Native.Nat.{_≤_};
+ghost use lib.ListN.{length, take};
+ghost use mathlib.Core.Path.{_≡_};
+use coding::encoder::Decoded;
+use instruction::instruction::Instruction;
+use reading::assembler::Parsed;
+
+// The text of an instruction in the room: how long it was said to be, and where it ends.
+pub struct Text {
+    pub length: usize,
+    pub end: usize,
+}
+
+// The instruction of the line that begins at `from`, its mnemonic the token at `place`.
+pub(crate) fn read(text: &[u8], from: usize, place: usize) -> Parsed
+    requires { ⌜ from ≤ length (now text) ⌝ ∗ ⌜ place ≤ 2 ⌝ }
+{
+    let line = text::parser::tokenize(text, from);
+    if line.bad {
+        return Parsed::Refused(3);
+    }
+    let mnemonics = instruction::opcode::mnemonics();
+    let forms = instruction::opcode::forms();
+    let slots = instruction::opcode::slots();
+    reading::assembler::parse_instruction(text, line, place, &mnemonics, &forms, &slots)
+}
+
+pub(crate) fn encode(instruction: Instruction) -> u32 {
+    let opcodes = instruction::opcode::opcodes();
+    let forms = instruction::opcode::forms();
+    coding::encoder::encode(instruction, &opcodes, &forms)
+}
+
+pub(crate) fn decode(word: u32) -> Decoded {
+    let forms = instruction::opcode::forms();
+    coding::encoder::decode(word, &forms)
+}
+
+// Writes an instruction's text into the room, behind eight bytes that it leaves. The promises are what `&room[..end]` asks for.
+pub(crate) fn write(instruction: Instruction, room: &mut [u8]) -> Text
+    requires { ⌜ length (now room) ≡ 96 ⌝ }
+    ensures { λ r. ⌜ r .end ≤ length (now (room .exit)) ⌝ }
+    ensures { λ r. ⌜ r .end ≡ length (take (r .end) (now (room .exit))) ⌝ }
+{
+    let mnemonics = instruction::opcode::mnemonics();
+    let forms = instruction::opcode::forms();
+    let length = coding::display::instruction_length(instruction, &mnemonics, &forms);
+    let end = coding::display::write_instruction(room, 8, instruction, &mnemonics, &forms);
+    Text { length, end }
+}

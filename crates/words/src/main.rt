@@ -1,0 +1,173 @@
+// Reads lines of one instruction with the oracle's words and texts for them, and words alone, and compares what
+// `instruction`, `coding` and `reading` make of them. Writes the number of each record that differs, then counts.
+ghost use Prim.Native.Nat.{_<_};
+ghost use lib.ListN.{length};
+ghost use mathlib.Core.Path.{_≡_};
+
+mod calls;
+mod tally;
+
+use calls::Text;
+use coding::encoder::Decoded;
+use instruction::instruction::Instruction;
+use reading::assembler::Parsed;
+use replay::list::byte_at;
+use replay::list::has_tag;
+use std::num::wrapping_add_usize;
+use tally::Outcome;
+use tally::Tally;
+
+// Whether a room of `$` has the list's text behind its first eight bytes, and nothing else.
+fn holds(room: &[u8], count: usize, list: &[u8], at: usize) -> bool {
+    let end = wrapping_add_usize(at, count);
+    let mut next = at;
+    let mut i: usize = 0;
+    while i < room.len() {
+        let mut wanted = b'$';
+        if 8 <= i && next != end {
+            wanted = byte_at(list, next);
+            next = wrapping_add_usize(next, 1);
+        }
+        if room[i] != wanted {
+            return false;
+        }
+        i += 1;
+    }
+    next == end && byte_at(list, end) == b'\n'
+}
+
+// The refusal, if it is what the list has at `at` and nothing follows.
+fn refusal(number: u8, list: &[u8], at: usize) -> Outcome {
+    let wanted = replay::list::number_at(list, wrapping_add_usize(at, 2));
+    if has_tag(list, at, b'r')
+        && wanted.value == replay::list::wide(number)
+        && replay::list::is_record_end(list, wanted.next)
+    {
+        return Outcome::Refused(number);
+    }
+    Outcome::Differs
+}
+
+// Whether the room has an instruction's text, said to be as long as it is, and the list's line at `at` has it under this tag.
+fn has_text(room: &[u8], text: Text, tag: u8, list: &[u8], at: usize) -> bool {
+    let length = text.length;
+    text.end == wrapping_add_usize(8, length)
+        && has_tag(list, at, tag)
+        && holds(room, length, list, wrapping_add_usize(at, 2))
+}
+
+// Where the list goes on behind a line with a text.
+fn behind_text(at: usize, text: Text) -> usize {
+    wrapping_add_usize(wrapping_add_usize(at, 3), text.length)
+}
+
+// Whether the text behind the first eight bytes is read as an instruction that has this word.
+fn reads(text: &[u8], word: u32) -> bool {
+    if text.len() < 8 {
+        return false;
+    }
+    match calls::read(text, 8, 0) {
+        Parsed::Refused(_) => false,
+        Parsed::Is(instruction) => calls::encode(instruction) == word,
+    }
+}
+
+// Whether a word's instruction has this word, and the text that the list has at `at`, from which it is read again.
+fn is_decoded(instruction: Instruction, word: u32, list: &[u8], at: usize, room: &mut [u8]) -> bool
+    requires { ⌜ length (now room) ≡ 96 ⌝ }
+{
+    let text = calls::write(instruction, room);
+    let end = text.end;
+    let is_read_again = reads(&room[..end], word);
+    is_read_again
+        && calls::encode(instruction) == word
+        && has_text(room, text, b'l', list, at)
+        && replay::list::is_record_end(list, behind_text(at, text))
+}
+
+// A word, of eight digits, and its text or refusal.
+fn word_outcome(list: &[u8], at: usize) -> Outcome {
+    let digits = replay::list::hex_at(list, wrapping_add_usize(at, 2));
+    let value = digits.value;
+    let next = digits.next;
+    if 0xFFFFFFFF < value || next != wrapping_add_usize(at, 11) || !has_tag(list, at, b'w') {
+        return Outcome::Differs;
+    }
+    let word = value as u32;
+    match calls::decode(word) {
+        Decoded::Refused(number) => refusal(number, list, next),
+        Decoded::Is(instruction) => {
+            let mut room = [b'$'; 96];
+            if is_decoded(instruction, word, list, next, &mut room) {
+                Outcome::Word
+            } else {
+                Outcome::Differs
+            }
+        }
+    }
+}
+
+// The instruction of a line: its text with the number as it stands there, its word, and all that holds of that word.
+fn instruction_outcome(instruction: Instruction, list: &[u8], at: usize) -> Outcome {
+    let mut room = [b'$'; 96];
+    let text = calls::write(instruction, &mut room);
+    let next = behind_text(at, text);
+    let word = replay::list::hex_at(list, wrapping_add_usize(next, 2));
+    if !has_text(&room, text, b'u', list, at) || word.value != calls::encode(instruction) as u64 {
+        return Outcome::Differs;
+    }
+    match word_outcome(list, next) {
+        Outcome::Word => Outcome::Line,
+        _ => Outcome::Differs,
+    }
+}
+
+// A line, the place of its mnemonic, of one digit, and its instruction or refusal.
+fn line_outcome(list: &[u8], at: usize, room: &mut [u8]) -> Outcome
+    requires { ⌜ 2 < length (now room) ⌝ }
+{
+    let piece = replay::list::line_at(list, wrapping_add_usize(at, 2), room);
+    let from = piece.start;
+    let next = piece.next;
+    let number = replay::list::number_at(list, wrapping_add_usize(next, 2));
+    let place = number.value;
+    let behind = number.next;
+    if 2 < place
+        || behind != wrapping_add_usize(next, 4)
+        || !has_tag(list, at, b's')
+        || !has_tag(list, next, b'm')
+    {
+        return Outcome::Differs;
+    }
+    match calls::read(room, from, place as usize) {
+        Parsed::Refused(number) => refusal(number, list, behind),
+        Parsed::Is(instruction) => instruction_outcome(instruction, list, behind),
+    }
+}
+
+// Compares the record at `at`. Around a line stand bad tokens.
+fn outcome(list: &[u8], at: usize) -> Outcome {
+    if byte_at(list, at) == b'w' {
+        return word_outcome(list, at);
+    }
+    let mut room = [b'$'; 512];
+    line_outcome(list, at, &mut room)
+}
+
+fn compare(list: &[u8]) -> Tally {
+    let mut tally = Tally::new();
+    let mut at = 0;
+    while at < list.len() {
+        at = replay::list::next_record(list, at);
+        if at < list.len() {
+            tally = tally.with(outcome(list, at));
+        }
+    }
+    tally
+}
+
+fn main() {
+    let mut list = [0u8; 524288];
+    let n = io::read_full(0, &mut list);
+    compare(&list[..n]).write();
+}
