@@ -35,7 +35,6 @@ demand-1 =
       table-holds = λ source starts lengths addresses image starts′ lengths′ addresses′ image′ r h.
           let a = assembling present source (roomOf starts lengths addresses) (length image) in
           record {
-            labels = entered a;
             as-many = labels-entered a (answerMeant r) (h .answer);
             starts-ahead = h .table .starts-hold;
             lengths-ahead = h .table .lengths-hold;

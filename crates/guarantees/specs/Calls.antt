@@ -5,9 +5,10 @@ use Prim.Native.Nat.{ℕ}
 use mathlib.Core.Path.{_≡_}
 use mathlib.Core.List.{List, _++_, map}
 use lib.ListN.{length, drop}
-use Rattle.image.specs.Assembling.{Label}
-use Rattle.image.specs.Lent.{Answer, assembled, refusal, ListAnswer, listed, unlisted}
-use Rattle.image.specs.Contracts.{answerMeant, Assembles, listingMeant, Lists}
+use Rattle.text.specs.Names.{present}
+use Rattle.image.specs.Assembling.{Label, assembling}
+use Rattle.image.specs.Lent.{Answer, assembled, refusal, entered, ListAnswer, listed, unlisted}
+use Rattle.image.specs.Contracts.{answerMeant, roomOf, Assembles, listingMeant, Lists}
 use Rattle.image.specs.declared.assembler.Assembled.{Assembled}
 use Rattle.image.specs.declared.listing.Listing.{Listing}
 
@@ -28,9 +29,8 @@ labelCount (refusal number rust-line true-line labels needed) = labels
 abbrev pub Ahead : List ℕ → List ℕ → List ℕ → Type 0
 Ahead new old after = after ≡ new ++ drop (length new) old
 
--- The label table holds the labels entered so far, as many as the answer says, ahead of its untouched entries.
-pub record TableHolds (count : ℕ) (starts lengths addresses starts′ lengths′ addresses′ : List ℕ) : Type 0 where
-  pub labels : List Label
+-- The label table holds labels, as many as the answer says, ahead of its untouched entries.
+pub record TableHolds (labels : List Label) (count : ℕ) (starts lengths addresses starts′ lengths′ addresses′ : List ℕ) : Type 0 where
   pub as-many : length labels ≡ count
   pub starts-ahead : Ahead (map (λ l. l .start) labels) starts starts′
   pub lengths-ahead : Ahead (map (λ l. length (l .spelling)) labels) lengths lengths′
@@ -43,6 +43,6 @@ pub record Demand1 : Type 0 where
   -- After every call the label table holds the labels entered so far, ahead of its untouched entries.
   pub table-holds : (source starts lengths addresses image starts′ lengths′ addresses′ image′ : List ℕ) (r : Assembled)
       → Assembles source starts lengths addresses image starts′ lengths′ addresses′ image′ r
-      → TableHolds (labelCount (answerMeant r)) starts lengths addresses starts′ lengths′ addresses′
+      → TableHolds (entered (assembling present source (roomOf starts lengths addresses) (length image))) (labelCount (answerMeant r)) starts lengths addresses starts′ lengths′ addresses′
   -- After a refusal the text buffer holds what it held before.
   pub text-kept : (image text text′ : List ℕ) (r : Listing) → Lists image text text′ r → IsUnlisted (listingMeant r) → text′ ≡ text

@@ -183,16 +183,16 @@ module _ (b : List ℕ) where
 
       -- opened
       pub opening-good : length b ≡ 32 + headerOf b .code-size + headerOf b .data-size
-          → opening b ≡ value (record { header = headerOf b; code = codeOf b; initialized = dataOf b })
+          → opening b ≡ value (record { header = headerOf b; code-end = header-size + headerOf b .code-size; code = codeOf b; initialized = dataOf b })
       unfolding opening
       opening-good e = rw (opening, header-first, good, eq-eqb (length b) (32 + headerOf b .code-size + headerOf b .data-size) e)
 
 -- The parts of an image, by a header that was read from it.
 pub opened-parts : (b : List ℕ) (h : ProgramHeader) → headerMeant h ≡ headerOf b
-    → openedMeant b (IsOpened h (32 + h .«code_size»)) ≡ value (record { header = headerOf b; code = codeOf b; initialized = dataOf b })
+    → openedMeant b (IsOpened h (32 + h .«code_size»)) ≡ value (record { header = headerOf b; code-end = header-size + headerOf b .code-size; code = codeOf b; initialized = dataOf b })
 unfolding codeOf dataOf header-size
 opened-parts b h e =
     let s : h .«code_size» ≡ headerOf b .code-size = ap (λ (x : Header). x .code-size) e in
     let n : 32 + h .«code_size» - 32 ≡ headerOf b .code-size = omega arith in
     let m : 32 + h .«code_size» ≡ 32 + headerOf b .code-size = omega arith in
-    λ i. value (record { header = e i; code = take (n i) (drop 32 b); initialized = drop (m i) b })
+    λ i. value (record { header = e i; code-end = m i; code = take (n i) (drop 32 b); initialized = drop (m i) b })

@@ -16,7 +16,7 @@ use Rattle.instruction.specs.Text.{instructionText}
 use Rattle.coding.specs.Contracts.{put, Written}
 use Rattle.coding.proofs.Writing.{written-none, written-length, written-append, room-behind, room-before}
 use Rattle.image.specs.Settings.{Settings, settings, limb-bits-key, data-limbs-key, addr-limbs-key}
-use Rattle.image.specs.Program.{Header, numberAt, headerOf, codeOf, dataOf}
+use Rattle.image.specs.Program.{header-size, Header, numberAt, headerOf, codeOf, dataOf}
 use Rattle.image.specs.Opening.{Opened as MeantOpened, openingFault, opening}
 use Rattle.image.specs.Listing.{Listing as Answered, wordsOf, lineText, settingText, settingsText, wordText, textOf, Refusal, refusal, isUsual, wordsFault, listingFault, rejected, written, listing}
 use Rattle.image.specs.Lent.{over, listed, unlisted, listAnswerOf, textAfter}
@@ -294,7 +294,7 @@ unopened b n h = go (openingFault b) refl h
   where
     go : (o : Option ℕ) → openingFault b ≡ o → _≡_ {A = Result MeantOpened} (refused n) (elim o [
       | some n ↦ refused n
-      | none ↦ value (record { header = headerOf b; code = codeOf b; initialized = dataOf b })
+      | none ↦ value (record { header = headerOf b; code-end = header-size + headerOf b .code-size; code = codeOf b; initialized = dataOf b })
     ]) → listingFault b ≡ some (refusal n none none)
     go (some k) e h = let q : k ≡ n = cc in rw (listingFault, e, q)
     go none e h = let z : _≡_ {A = ℕ} 0 1 = cc in absurd (omega arith)
@@ -316,7 +316,7 @@ opens b h end e = go (openingFault b) refl e
   where
     go : (o : Option ℕ) → openingFault b ≡ o → openedMeant b (IsOpened h end) ≡ elim o [
       | some n ↦ refused n
-      | none ↦ value (record { header = headerOf b; code = codeOf b; initialized = dataOf b })
+      | none ↦ value (record { header = headerOf b; code-end = header-size + headerOf b .code-size; code = codeOf b; initialized = dataOf b })
     ] → Opens b h
     go (some k) q e = let z : _≡_ {A = ℕ} 0 1 = cc in absurd (omega arith)
     go none q e = record { no-fault = q; header-is = ap (headerIn (headerOf b)) e }

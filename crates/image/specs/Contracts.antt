@@ -107,7 +107,7 @@ settingBytes s = s .limb-bits ∷ s .data-limbs ∷ s .addr-limbs ∷ 0 ∷ []
 
 -- The parts stand where the answer says: the code from 32 to its end, the data behind it.
 abbrev pub openedMeant : List ℕ → Opened → Result MeantOpened
-openedMeant b (IsOpened h end) = value (record { header = headerMeant h; code = take (end - 32) (drop 32 b); initialized = drop end b })
+openedMeant b (IsOpened h end) = value (record { header = headerMeant h; code-end = end; code = take (end - 32) (drop 32 b); initialized = drop end b })
 openedMeant b (RefusedOpening n) = refused n
 
 -- ---- listing
@@ -213,7 +213,7 @@ pub record Placed (s starts lengths : List ℕ) (count : ℕ) : Type 0 where
   pub in-lengths : count ≤ length lengths
   pub in-text : (i : ℕ) → i < count → getD starts i 0 + getD lengths i 0 ≤ length s
 
--- "With room for so many labels": as many as the shortest of three slices.
+-- Three slices have room for as many labels as the shortest of them.
 abbrev pub roomOf : List ℕ → List ℕ → List ℕ → ℕ
 roomOf starts lengths addresses = min (length starts) (min (length lengths) (length addresses))
 

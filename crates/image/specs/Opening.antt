@@ -10,8 +10,10 @@ use Rattle.text.specs.Bytes.{Result, value, refused}
 use Rattle.image.specs.Settings.{settingsFault}
 use Rattle.image.specs.Program.{Header, magic, version, header-size, headerOf, codeOf, dataOf}
 
+-- The parts, and where the code ends, which begins behind the header; the data fill the rest.
 pub record Opened : Type 0 where
   pub header : Header
+  pub code-end : ℕ
   pub code : List ℕ
   pub initialized : List ℕ
 
@@ -40,5 +42,5 @@ unfoldable pub opening : List ℕ → Result Opened
 opening b =
     elim (openingFault b) [
       | some n ↦ refused n
-      | none ↦ value (record { header = headerOf b; code = codeOf b; initialized = dataOf b })
+      | none ↦ value (record { header = headerOf b; code-end = header-size + headerOf b .code-size; code = codeOf b; initialized = dataOf b })
     ]

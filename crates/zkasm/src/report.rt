@@ -1,0 +1,77 @@
+// What the program prints for an input.
+ghost use mathlib.Core.Path.{_≡_};
+ghost use Prim.Native.Nat.{_≤_};
+ghost use lib.ListN.{length};
+ghost use Rattle.image.specs.Listing.{textOf, written, listing};
+ghost use Rattle.image.specs.Zkasm.{most-input, image-room, text-room, refusalText, programOutput};
+ghost use Rattle.zkasm.specs.Contracts.{Assembles, Prints};
+use image::assembler::Assembled;
+use image::listing::Listing;
+
+// `refused N line L`
+fn write_refusal(out: &mut [u8], number: u8, line: usize) -> usize
+    requires { ⌜ text-room ≤ length (now out) ⌝ }
+    ensures { λ r. ⌜ Prints (refusalText number line) (now (out .entry)) (now (out .exit)) r ⌝ }
+{
+    let at = image::program::write_bytes(out, 0, b"refused ");
+    let at = coding::display::write_decimal(out, at, number as u64);
+    let at = image::program::write_bytes(out, at, b" line ");
+    let at = coding::display::write_decimal(out, at, line as u64);
+    image::program::write_bytes(out, at, b"\n")
+}
+
+// The text of an image that has one, and for which there is room.
+fn write_listing(image: &[u8], out: &mut [u8]) -> usize
+    requires { ⌜ listing (now image) (length (now out)) ≡ written (textOf (now image)) ⌝ ∗ ⌜ length (textOf (now image)) ≤ length (now out) ⌝ }
+    ensures { λ r. ⌜ Prints (textOf (now (image .entry))) (now (out .entry)) (now (out .exit)) r ⌝ }
+{
+    match image::listing::list(image, out) {
+        Listing::Is(length) => length,
+        // no such image is refused
+        _ => 0,
+    }
+}
+
+// An input assembled, with a table of 1,024 labels.
+fn assemble(input: &[u8], image: &mut [u8]) -> Assembled
+    ensures { λ r. ⌜ Assembles (now (input .entry)) (now (image .entry)) (now (image .exit)) r ⌝ }
+{
+    let mut starts = [0u32; 1024];
+    let mut lengths = [0u32; 1024];
+    let mut addresses = [0u32; 1024];
+    image::assembler::assemble(input, &mut starts, &mut lengths, &mut addresses, image)
+}
+
+// What is printed for an input that is not too long, by way of an image buffer.
+fn report_source(input: &[u8], image: &mut [u8], out: &mut [u8]) -> usize
+    requires { ⌜ length (now input) ≤ most-input ⌝ ∗ ⌜ image-room ≤ length (now image) ⌝ ∗ ⌜ text-room ≤ length (now out) ⌝ }
+    ensures { λ r. ⌜ Prints (programOutput (now (input .entry))) (now (out .entry)) (now (out .exit)) r ⌝ }
+{
+    match assemble(input, image) {
+        Assembled::Refused {
+            number,
+            rust_line,
+            line,
+            labels,
+        } => write_refusal(out, number, line),
+        Assembled::Is {
+            words,
+            labels,
+            config,
+        } => write_listing(&image[..32 + 4 * words], out),
+        // the image buffer holds the image of every such input
+        Assembled::TooShort { labels, needed } => 0,
+    }
+}
+
+// What is printed for an input.
+pub fn report(input: &[u8], out: &mut [u8]) -> usize
+    requires { ⌜ text-room ≤ length (now out) ⌝ }
+    ensures { λ r. ⌜ Prints (programOutput (now (input .entry))) (now (out .entry)) (now (out .exit)) r ⌝ }
+{
+    if 16384 < input.len() {
+        return write_refusal(out, 1, 0);
+    }
+    let mut image = [0u8; 65572];
+    report_source(input, &mut image, out)
+}
