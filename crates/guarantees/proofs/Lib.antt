@@ -3,3 +3,4 @@ pub mod Examples
 pub mod NameSets
 pub mod Demand3
 pub mod Demand1
+pub mod Calls

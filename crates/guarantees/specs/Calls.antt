@@ -1,12 +1,15 @@
--- Demand 1: what every call leaves in the slices that are lent to it. `Assembles` and `Lists` are what the contracts of `assemble`
+-- Demand 1: what every call leaves in the slices that are lent to it; and that calls are what demand 3 speaks of. `Assembles` and `Lists` are what the contracts of `assemble`
 -- and `list` promise of every call, whatever the source, the image and the lengths of the slices, 0 included; the answer is always
 -- one of the cases of `Answer` and `ListAnswer`.
 use Prim.Native.Nat.{ℕ}
 use mathlib.Core.Path.{_≡_}
+use mathlib.Core.Logic.{_↔_}
 use mathlib.Core.List.{List, _++_, map}
 use lib.ListN.{length, drop}
 use Rattle.text.specs.Names.{present}
 use Rattle.image.specs.Assembling.{Label, assembling}
+use Rattle.image.specs.Listing.{textOf}
+use Rattle.image.specs.Meaning.{instructionsOf, settingsOf, imageOf, Accepted, Listed}
 use Rattle.image.specs.Lent.{Answer, assembled, refusal, entered, ListAnswer, listed, unlisted}
 use Rattle.image.specs.Contracts.{answerMeant, roomOf, Assembles, listingMeant, Lists}
 use Rattle.image.specs.declared.assembler.Assembled.{Assembled}
@@ -46,3 +49,19 @@ pub record Demand1 : Type 0 where
       → TableHolds (entered (assembling present source (roomOf starts lengths addresses) (length image))) (labelCount (answerMeant r)) starts lengths addresses starts′ lengths′ addresses′
   -- After a refusal the text buffer holds what it held before.
   pub text-kept : (image text text′ : List ℕ) (r : Listing) → Lists image text text′ r → IsUnlisted (listingMeant r) → text′ ≡ text
+
+-- What demand 3 speaks of is what calls do: a call is not refused exactly when its source is accepted, or its image listed, and then
+-- it answers and fills what is read off source and image.
+pub record Calls : Type 0 where
+  pub accepted-call : (source starts lengths addresses image starts′ lengths′ addresses′ image′ : List ℕ) (r : Assembled)
+      → Assembles source starts lengths addresses image starts′ lengths′ addresses′ image′ r
+      → (IsRefusal (answerMeant r) → ⊥) ↔ Accepted present source (roomOf starts lengths addresses) (length image)
+  pub fills-image : (source starts lengths addresses image starts′ lengths′ addresses′ image′ : List ℕ) (r : Assembled)
+      → Assembles source starts lengths addresses image starts′ lengths′ addresses′ image′ r
+      → Accepted present source (roomOf starts lengths addresses) (length image)
+      → (answerMeant r ≡ assembled (length (instructionsOf present source)) (labelCount (answerMeant r)) (settingsOf present source))
+      × Ahead (imageOf present source) image image′
+  pub listed-call : (image text text′ : List ℕ) (r : Listing) → Lists image text text′ r
+      → (IsUnlisted (listingMeant r) → ⊥) ↔ Listed image (length text)
+  pub fills-text : (image text text′ : List ℕ) (r : Listing) → Lists image text text′ r → Listed image (length text)
+      → (listingMeant r ≡ listed (length (textOf image))) × Ahead (textOf image) text text′
