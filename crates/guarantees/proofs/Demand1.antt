@@ -1,14 +1,20 @@
 -- Demand 1 holds of every call.
-use Prim.Native.Nat.{ℕ}
+use Prim.Native.Nat.{ℕ, _+_}
+use native.Mathlib.Omega.{arith}
+use mathlib.Core.Option.{Option, none, some}
 use mathlib.Core.Path.{_≡_, sym, ap, subst}
 use mathlib.Core.List.{List}
 use lib.ListN.{length}
+use Rattle.text.specs.Bytes.{Result, value, refused}
 use Rattle.text.specs.Names.{present}
+use Rattle.image.specs.Program.{header-size, headerOf, codeOf, dataOf}
+use Rattle.image.specs.Opening.{Opened, openingFault, opening}
 use Rattle.image.specs.Assembling.{Assembled as Reading, accepted, rejected, assembling}
 use Rattle.image.specs.Listing.{Listing as Written, written, rejected as unwritten, listing}
 use Rattle.image.specs.Lent.{over, Answer, answerOf, entered, imageAfter, ListAnswer, listAnswerOf, textAfter}
-use Rattle.image.specs.Contracts.{answerMeant, roomOf, listingMeant}
-use Rattle.guarantees.specs.Calls.{IsRefusal, IsUnlisted, labelCount, Demand1}
+use Rattle.image.specs.Contracts.{answerMeant, roomOf, openedMeant, listingMeant}
+use Rattle.guarantees.specs.Calls.{Opens, IsNumbered, IsOpening, IsListing, IsRefusal, IsUnlisted, labelCount, Demand1}
+use Rattle.guarantees.proofs.Numbered.{OfFault, OfAnswer, OfListing, assembling-numbered, opening-numbered, listing-numbered}
 
 -- An answer that is a refusal is that of a refused source, which leaves the image.
 image-left : (source image image′ : List ℕ) (a : Reading) (x : Answer) → x ≡ answerOf a → image′ ≡ imageAfter present source a image → IsRefusal x → image′ ≡ image
@@ -26,10 +32,36 @@ unfolding listAnswerOf textAfter
 text-left text text′ (unwritten r) x e h k = h
 text-left text text′ (written t) x e h k = absurd (subst IsUnlisted e k)
 
+is-numbered : (a : Reading) (x : Answer) → x ≡ answerOf a → OfAnswer a → IsNumbered x
+unfolding answerOf
+is-numbered (accepted st) x e h = subst IsNumbered (sym e) tt
+is-numbered (rejected r) x e h = subst IsNumbered (sym e) h
+
+is-opening : (b : List ℕ) (x : Result Opened) → x ≡ opening b → IsOpening x
+unfolding opening
+is-opening b x e = subst IsOpening (sym e) (go (openingFault b) (opening-numbered 28 (omega arith) b))
+  where
+    go : (o : Option ℕ) → OfFault (Opens 28) o → IsOpening (elim o [
+      | some n ↦ refused n
+      | none ↦ value (record { header = headerOf b; code-end = header-size + headerOf b .code-size; code = codeOf b; initialized = dataOf b })
+    ])
+    go (some n) k = k
+    go none k = tt
+
+is-listing : (w : Written) (x : ListAnswer) → x ≡ listAnswerOf w → OfListing w → IsListing x
+unfolding listAnswerOf
+is-listing (written t) x e h = subst IsListing (sym e) tt
+is-listing (unwritten r) x e h = subst IsListing (sym e) h
+
 pub demand-1 : Demand1
 unfolding over
 demand-1 =
     record {
+      numbered = λ source starts lengths addresses image starts′ lengths′ addresses′ image′ r h.
+          let room = roomOf starts lengths addresses in
+          is-numbered (assembling present source room (length image)) (answerMeant r) (h .answer) (assembling-numbered present source room (length image));
+      opening-numbered = λ image r h. is-opening image (openedMeant image r) h;
+      listing-numbered = λ image text text′ r h. is-listing (listing image (length text)) (listingMeant r) (h .answer) (listing-numbered image (length text));
       image-kept = λ source starts lengths addresses image starts′ lengths′ addresses′ image′ r h k.
           image-left source image image′ (assembling present source (roomOf starts lengths addresses) (length image)) (answerMeant r) (h .answer) (h .image-holds) k;
       table-holds = λ source starts lengths addresses image starts′ lengths′ addresses′ image′ r h.

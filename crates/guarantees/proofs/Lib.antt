@@ -4,3 +4,4 @@ pub mod NameSets
 pub mod Demand3
 pub mod Demand1
 pub mod Calls
+pub mod Numbered

@@ -1,19 +1,44 @@
 -- Demand 1: what every call leaves in the slices that are lent to it; and that calls are what demand 3 speaks of. `Assembles` and `Lists` are what the contracts of `assemble`
 -- and `list` promise of every call, whatever the source, the image and the lengths of the slices, 0 included; the answer is always
 -- one of the cases of `Answer` and `ListAnswer`.
-use Prim.Native.Nat.{ℕ}
+use Prim.Native.Nat.{ℕ, _≤_}
 use mathlib.Core.Path.{_≡_}
-use mathlib.Core.Logic.{_↔_}
+use mathlib.Core.Logic.{_↔_, _⊎_}
 use mathlib.Core.List.{List, _++_, map}
 use lib.ListN.{length, drop}
+use Rattle.text.specs.Bytes.{Result, value, refused}
 use Rattle.text.specs.Names.{present}
 use Rattle.image.specs.Assembling.{Label, assembling}
+use Rattle.image.specs.Opening.{opening}
+use Rattle.image.specs.Opening.{Opened as Parts}
 use Rattle.image.specs.Listing.{textOf}
 use Rattle.image.specs.Meaning.{instructionsOf, settingsOf, imageOf, Accepted, Listed}
 use Rattle.image.specs.Lent.{Answer, assembled, refusal, entered, ListAnswer, listed, unlisted}
-use Rattle.image.specs.Contracts.{answerMeant, roomOf, Assembles, listingMeant, Lists}
+use Rattle.image.specs.Contracts.{answerMeant, roomOf, Assembles, openedMeant, listingMeant, Lists}
 use Rattle.image.specs.declared.assembler.Assembled.{Assembled}
+use Rattle.image.specs.declared.program.Opened.{Opened}
 use Rattle.image.specs.declared.listing.Listing.{Listing}
+
+-- "1 source over 1,048,576 bytes", and so on to "23 image buffer too short".
+abbrev pub Numbered : ℕ → Type 0
+Numbered n = (1 ≤ n) × (n ≤ 23)
+
+-- "10 to 13 on the settings", and those from "24 under 32 bytes" on: to 28 of opening, to 32 of listing.
+abbrev pub Opens : ℕ → ℕ → Type 0
+Opens most n = ((10 ≤ n) × (n ≤ 13)) ⊎ ((24 ≤ n) × (n ≤ most))
+
+-- An answer is a finished result, or one numbered refusal.
+abbrev pub IsNumbered : Answer → Type 0
+IsNumbered (assembled words labels s) = Unit {0}
+IsNumbered (refusal number rust-line true-line labels needed) = Numbered number
+
+abbrev pub IsOpening : Result Parts → Type 0
+IsOpening (value o) = Unit {0}
+IsOpening (refused n) = Opens 28 n
+
+abbrev pub IsListing : ListAnswer → Type 0
+IsListing (listed n) = Unit {0}
+IsListing (unlisted number index needed) = Opens 32 number
 
 abbrev pub IsRefusal : Answer → Type 0
 IsRefusal (assembled words labels s) = ⊥
@@ -40,6 +65,11 @@ pub record TableHolds (labels : List Label) (count : ℕ) (starts lengths addres
   pub addresses-ahead : Ahead (map (λ l. l .address) labels) addresses addresses′
 
 pub record Demand1 : Type 0 where
+  -- The answer to a call is a finished result or one numbered refusal.
+  pub numbered : (source starts lengths addresses image starts′ lengths′ addresses′ image′ : List ℕ) (r : Assembled)
+      → Assembles source starts lengths addresses image starts′ lengths′ addresses′ image′ r → IsNumbered (answerMeant r)
+  pub opening-numbered : (image : List ℕ) (r : Opened) → openedMeant image r ≡ opening image → IsOpening (openedMeant image r)
+  pub listing-numbered : (image text text′ : List ℕ) (r : Listing) → Lists image text text′ r → IsListing (listingMeant r)
   -- After a refusal the image buffer holds what it held before.
   pub image-kept : (source starts lengths addresses image starts′ lengths′ addresses′ image′ : List ℕ) (r : Assembled)
       → Assembles source starts lengths addresses image starts′ lengths′ addresses′ image′ r → IsRefusal (answerMeant r) → image′ ≡ image

@@ -1,0 +1,392 @@
+-- The numbers of refusals: of assembling 1 to 23, of opening and listing 10 to 13 and 24 on.
+use Prim.Native.Nat.{ℕ, suc, _+_, _-_, _%_, _^_, _≤_}
+use mathlib.Core.Path.{_≡_, refl, ap, subst}
+use mathlib.Core.Logic.{inl, inr}
+use native.Mathlib.Omega.{arith}
+use mathlib.Core.Bool.{Bool, true, false}
+use mathlib.Core.Option.{Option, none, some}
+use mathlib.Core.List.{List, [], _∷_, _++_, map}
+use lib.ListN.{length, drop}
+use lib.Dec.{leb, ltb, eqb}
+use lib.IntN.{ℤ}
+use Rattle.text.specs.Bytes.{Result, value, refused, ascii, every, before, same, between, lower}
+use Rattle.text.specs.Numbers.{residue}
+use Rattle.text.specs.Names.{Name}
+use Rattle.text.specs.Tokens.{Token, identifier, register, number, hex, binary, directive, comma, colon, opening, closing}
+use Rattle.text.specs.Lines.{Line, lines, indent, readLine}
+use Rattle.instruction.specs.Table.{Place, reg, num, comma-place, opening-place, closing-place, Row, places, rowNamed, rowCoded}
+use Rattle.instruction.specs.Operands.{Instruction, readNumber, readIdentifier, readRegister, markByte, Operands, withRegister, withNumber, readPlace, readOperands, made, readRow, readMnemonic, readInstruction, behind}
+use Rattle.instruction.specs.Words.{unusedFrom, taken, instructionOf}
+use Rattle.image.specs.Settings.{Settings, settings, settingsFault, limb-bits-key, data-limbs-key, addr-limbs-key, set, checked, configuredBy, configuredWith, configured}
+use Rattle.image.specs.Program.{magic, version, header-size, headerOf, codeOf, imageLength}
+use Rattle.image.specs.Opening.{openingFault}
+use Rattle.image.specs.Listing.{wordsOf, textOf, Refusal, refusal, isUsual, wordsFault, listingFault, Listing, written, rejected as unwritten, listing}
+use Rattle.image.specs.Assembling.{State, start, Step, next, stop, Kind, empty, labelled, config, ignored, plain, kindOf, isKnown, withLabel, enter, withSettings, most-words, withInstruction, afterLabel, stepOn, step, Walk, finished, stopped, walk, Assembled, accepted, rejected, refusing, readTo, most-bytes, reading, fitted, assembling}
+use Rattle.guarantees.specs.Calls.{Numbered, Opens}
+
+-- ---- reading an instruction
+
+abbrev OfResult : {A : Type 0} → Result A → Type 0
+OfResult (value a) = Unit {0}
+OfResult (refused n) = Numbered n
+
+of-register : (t : Token) → OfResult (readRegister t)
+unfolding readRegister
+of-register (register (some n)) = tt
+of-register (register none) = (omega arith, omega arith)
+of-register (identifier s) = (omega arith, omega arith)
+of-register (number z) = (omega arith, omega arith)
+of-register (hex n) = (omega arith, omega arith)
+of-register (binary n) = (omega arith, omega arith)
+of-register (directive s) = (omega arith, omega arith)
+of-register comma = (omega arith, omega arith)
+of-register colon = (omega arith, omega arith)
+of-register opening = (omega arith, omega arith)
+of-register closing = (omega arith, omega arith)
+
+with-register : (n : ℕ) (rest : Result Operands) → OfResult rest → OfResult (withRegister n rest)
+unfolding withRegister
+with-register n (value o) h = tt
+with-register n (refused k) h = h
+
+with-number : (z : ℤ) (rest : Result Operands) → OfResult rest → OfResult (withNumber z rest)
+unfolding withNumber
+with-number z (value o) h = tt
+with-number z (refused k) h = h
+
+of-mark : (b : Bool) (n : ℕ) (rest : Result Operands) → Numbered n → OfResult rest → OfResult {A = Operands} (elim b [ true ↦ rest | false ↦ refused n ])
+of-mark true n rest k h = h
+of-mark false n rest k h = k
+
+of-place : (p : Place) (t : Token) (rest : Result Operands) → OfResult rest → OfResult (readPlace p t rest)
+unfolding readPlace
+of-place (reg bit) t rest h = go (readRegister t) (of-register t)
+  where
+    go : (x : Result ℕ) → OfResult x → OfResult {A = Operands} (elim x [ value n ↦ withRegister n rest | refused k ↦ refused k ])
+    go (value n) k = with-register n rest h
+    go (refused n) k = k
+of-place (num bit width signed) t rest h = go (readNumber t)
+  where
+    go : (x : Option ℤ) → OfResult {A = Operands} (elim x [ some z ↦ withNumber z rest | none ↦ refused 8 ])
+    go (some z) = with-number z rest h
+    go none = (omega arith, omega arith)
+of-place comma-place t rest h = of-mark (eqb (markByte t) 44) 19 rest (omega arith, omega arith) h
+of-place opening-place t rest h = of-mark (eqb (markByte t) 40) 20 rest (omega arith, omega arith) h
+of-place closing-place t rest h = of-mark (eqb (markByte t) 41) 21 rest (omega arith, omega arith) h
+
+of-operands : (ps : List Place) (ts : List Token) → OfResult (readOperands ps ts)
+unfolding readOperands
+of-operands [] ts = tt
+of-operands (p ∷ ps) [] = (omega arith, omega arith)
+of-operands (p ∷ ps) (t ∷ ts) = of-place p t (readOperands ps ts) (of-operands ps ts)
+
+of-made : (r : Row) (o : Result Operands) → OfResult o → OfResult (made r o)
+unfolding made
+of-made r (value o) h = tt
+of-made r (refused k) h = h
+
+of-row : (r : Row) (count : ℕ) (ts : List Token) → OfResult (readRow r count ts)
+unfolding readRow
+of-row r count ts = go (eqb count (length (places (r .form))))
+  where
+    go : (b : Bool) → OfResult {A = Instruction} (elim b [ true ↦ made r (readOperands (places (r .form)) ts) | false ↦ refused 16 ])
+    go true = of-made r (readOperands (places (r .form)) ts) (of-operands (places (r .form)) ts)
+    go false = (omega arith, omega arith)
+
+of-mnemonic : (t : Token) (count : ℕ) (ts : List Token) → OfResult (readMnemonic t count ts)
+unfolding readMnemonic
+of-mnemonic t count ts = go (readIdentifier t)
+  where
+    named : (o : Option Row) → OfResult {A = Instruction} (elim o [ none ↦ refused 15 | some r ↦ readRow r count ts ])
+    named none = (omega arith, omega arith)
+    named (some r) = of-row r count ts
+
+    go : (x : Option (List ℕ)) → OfResult {A = Instruction} (elim x [ none ↦ refused 14 | some s ↦ elim (rowNamed (map lower s)) [ none ↦ refused 15 | some r ↦ readRow r count ts ] ])
+    go none = (omega arith, omega arith)
+    go (some s) = named (rowNamed (map lower s))
+
+of-instruction : (l : Line) → OfResult (readInstruction l)
+unfolding readInstruction
+of-instruction l = go (l .first)
+  where
+    go : (ts : List Token) → OfResult {A = Instruction} (elim ts [ [] ↦ refused 14 | t ∷ us ↦ readMnemonic t (l .count - 1) us ])
+    go [] = (omega arith, omega arith)
+    go (t ∷ us) = of-mnemonic t (l .count - 1) us
+
+-- ---- the `.config` line
+
+-- A number that there may be, of which something holds.
+abbrev pub OfFault : (ℕ → Type 0) → Option ℕ → Type 0
+OfFault P none = Unit {0}
+OfFault P (some n) = P n
+
+of-fault : (P : ℕ → Type 0) → P 10 → P 11 → P 12 → P 13 → (s : Settings) → OfFault P (settingsFault s)
+unfolding settingsFault
+of-fault P ten eleven twelve thirteen s = go (between 16 30 (s .limb-bits)) (eqb (s .limb-bits % 2) 0) (between 1 4 (s .data-limbs)) (between 1 2 (s .addr-limbs))
+  where
+    go : (a b c d : Bool) → OfFault P (elim a [ false ↦ some 10 | true ↦ elim b [ false ↦ some 11 | true ↦ elim c [ false ↦ some 12 | true ↦ elim d [ false ↦ some 13 | true ↦ none ] ] ] ])
+    go false b c d = ten
+    go true false c d = eleven
+    go true true false d = twelve
+    go true true true false = thirteen
+    go true true true true = tt
+
+of-checked : (x : Result Settings) → OfResult x → OfResult (checked x)
+unfolding checked
+of-checked (refused n) h = h
+of-checked (value s) h =
+    go (settingsFault s) (of-fault Numbered (omega arith, omega arith) (omega arith, omega arith) (omega arith, omega arith) (omega arith, omega arith) s)
+  where
+    go : (o : Option ℕ) → OfFault Numbered o → OfResult {A = Settings} (elim o [ some n ↦ refused n | none ↦ value s ])
+    go none k = tt
+    go (some n) k = k
+
+of-set : (s : Settings) (key : List ℕ) (v : ℕ) → OfResult (set s key v)
+unfolding set
+of-set s key v = go (same key limb-bits-key) (same key data-limbs-key) (same key addr-limbs-key)
+  where
+    go : (a b c : Bool) → OfResult {A = Settings} (elim a [
+      | true ↦ value (settings v (s .data-limbs) (s .addr-limbs))
+      | false ↦ elim b [
+        | true ↦ value (settings (s .limb-bits) v (s .addr-limbs))
+        | false ↦ elim c [ true ↦ value (settings (s .limb-bits) (s .data-limbs) v) | false ↦ refused 9 ]
+      ]
+    ])
+    go true b c = tt
+    go false true c = tt
+    go false false true = tt
+    go false false false = (omega arith, omega arith)
+
+of-configured : (s : Settings) (l : Line) → OfResult (configured s l)
+unfolding configured configuredWith configuredBy
+of-configured s l = go (eqb (l .count) 3) (drop 1 (l .first))
+  where
+    by-number : (k : List ℕ) (o : Option ℤ) → OfResult {A = Settings} (elim o [ none ↦ refused 8 | some z ↦ checked (set s k (residue 8 z)) ])
+    by-number k none = (omega arith, omega arith)
+    by-number k (some z) = of-checked (set s k (residue 8 z)) (of-set s k (residue 8 z))
+
+    by-key : (v : Token) (o : Option (List ℕ)) → OfResult {A = Settings} (elim o [ none ↦ refused 7 | some k ↦ elim (readNumber v) [ none ↦ refused 8 | some z ↦ checked (set s k (residue 8 z)) ] ])
+    by-key v none = (omega arith, omega arith)
+    by-key v (some k) = by-number k (readNumber v)
+
+    go : (b : Bool) (ts : List Token) → OfResult {A = Settings} (elim b [ true ↦ configuredWith s ts | false ↦ refused 6 ])
+    go false ts = (omega arith, omega arith)
+    go true [] = (omega arith, omega arith)
+    go true (key ∷ []) = (omega arith, omega arith)
+    go true (key ∷ v ∷ ts) = by-key v (readIdentifier key)
+
+-- ---- lines
+
+abbrev OfStep : Step → Type 0
+OfStep (next st) = Unit {0}
+OfStep (stop n st) = Numbered n
+
+of-word : (st : State) (x : Result Instruction) → OfResult x → OfStep (withInstruction st x)
+unfolding withInstruction
+of-word st (refused n) h = h
+of-word st (value i) h = go (ltb (length (st .instructions)) most-words)
+  where
+    go : (b : Bool) → OfStep (elim b [
+      | true ↦ next (record { labels = st .labels; instructions = st .instructions ++ (i ∷ []); setup = st .setup })
+      | false ↦ stop 22 st
+    ])
+    go true = tt
+    go false = (omega arith, omega arith)
+
+of-settings : (st : State) (x : Result Settings) → OfResult x → OfStep (withSettings st x)
+unfolding withSettings
+of-settings st (refused n) h = h
+of-settings st (value s) h = tt
+
+of-behind : (l : Line) (d : Step) → OfStep d → OfStep (afterLabel l d)
+unfolding afterLabel
+of-behind l (stop n st) h = h
+of-behind l (next st) h = go (l .first)
+  where
+    go : (ts : List Token) → OfStep (elim ts [ [] ↦ next st | t ∷ us ↦ withInstruction st (readInstruction l) ])
+    go [] = tt
+    go (t ∷ us) = of-word st (readInstruction l) (of-instruction l)
+
+of-label : (room : ℕ) (st : State) (at : ℕ) (s : List ℕ) → OfStep (enter room st at s)
+unfolding enter
+of-label room st at s = go (isKnown (st .labels) s) (ltb (length (st .labels)) room)
+  where
+    go : (a b : Bool) → OfStep (elim a [ true ↦ stop 4 st | false ↦ elim b [ true ↦ next (withLabel st at s) | false ↦ stop 5 st ] ])
+    go true b = (omega arith, omega arith)
+    go false true = tt
+    go false false = (omega arith, omega arith)
+
+of-line : (room : ℕ) (st : State) (at : ℕ) (o : Option Line) → OfStep (step room st at o)
+unfolding step stepOn
+of-line room st at none = (omega arith, omega arith)
+of-line room st at (some l) = go (kindOf (l .first))
+  where
+    go : (k : Kind) → OfStep (elim k [
+      | empty ↦ next st
+      | labelled s ↦ afterLabel (behind 2 l) (enter room st at s)
+      | config ↦ withSettings st (configured (st .setup) l)
+      | ignored ↦ next st
+      | plain ↦ withInstruction st (readInstruction l)
+    ])
+    go empty = tt
+    go (labelled s) = of-behind (behind 2 l) (enter room st at s) (of-label room st at s)
+    go config = of-settings st (configured (st .setup) l) (of-configured (st .setup) l)
+    go ignored = tt
+    go plain = of-word st (readInstruction l) (of-instruction l)
+
+abbrev OfWalk : Walk → Type 0
+OfWalk (finished st) = Unit {0}
+OfWalk (stopped n line st) = Numbered n
+
+of-walk : (names : List Name) (room line at : ℕ) (st : State) (ls : List (List ℕ)) → OfWalk (walk names room line at st ls)
+unfolding walk
+of-walk names room line at st [] = tt
+of-walk names room line at st (l ∷ ls) =
+    go (step room st (at + indent l) (readLine names l)) (of-line room st (at + indent l) (readLine names l))
+    (λ st′. of-walk names room (suc line) (at + suc (length l)) st′ ls)
+  where
+    go : (d : Step) → OfStep d → ((st′ : State) → OfWalk (walk names room (suc line) (at + suc (length l)) st′ ls))
+        → OfWalk (elim d [ next st′ ↦ walk names room (suc line) (at + suc (length l)) st′ ls | stop n st′ ↦ stopped n line st′ ])
+    go (next st′) h k = k st′
+    go (stop n st′) h k = h
+
+-- ---- the answer
+
+abbrev pub OfAnswer : Assembled → Type 0
+OfAnswer (accepted st) = Unit {0}
+OfAnswer (rejected r) = Numbered (r .number)
+
+of-read : (w : Walk) → OfWalk w → OfAnswer (readTo w)
+unfolding readTo refusing
+of-read (finished st) h = tt
+of-read (stopped n line st) h = h
+
+of-reading : (names : List Name) (s : List ℕ) (room : ℕ) → OfAnswer (reading names s room)
+unfolding reading refusing
+of-reading names s room = go (leb (length s) most-bytes) (every ascii s)
+  where
+    go : (a b : Bool) → OfAnswer (elim a [
+      | false ↦ refusing 1 0 0 [] none
+      | true ↦ elim b [
+        | false ↦ refusing 2 0 (length (lines (before ascii s))) [] none
+        | true ↦ readTo (walk names room 1 0 start (lines s))
+      ]
+    ])
+    go false b = (omega arith, omega arith)
+    go true false = (omega arith, omega arith)
+    go true true = of-read (walk names room 1 0 start (lines s)) (of-walk names room 1 0 start (lines s))
+
+of-fitted : (size : ℕ) (a : Assembled) → OfAnswer a → OfAnswer (fitted size a)
+unfolding fitted refusing
+of-fitted size (rejected r) h = h
+of-fitted size (accepted st) h = go (leb (imageLength (length (st .instructions))) size)
+  where
+    go : (b : Bool) → OfAnswer (elim b [ true ↦ accepted st | false ↦ refusing 23 0 0 (st .labels) (some (imageLength (length (st .instructions)))) ])
+    go true = tt
+    go false = (omega arith, omega arith)
+
+pub assembling-numbered : (names : List Name) (s : List ℕ) (room size : ℕ) → OfAnswer (assembling names s room size)
+unfolding assembling
+assembling-numbered names s room size = of-fitted size (reading names s room) (of-reading names s room)
+
+-- ---- opening and listing
+
+settings-numbered : (most : ℕ) (s : Settings) → OfFault (Opens most) (settingsFault s)
+settings-numbered most =
+    of-fault (Opens most) (inl (omega arith, omega arith)) (inl (omega arith, omega arith)) (inl (omega arith, omega arith)) (inl (omega arith, omega arith))
+
+pub opening-numbered : (most : ℕ) → 28 ≤ most → (b : List ℕ) → OfFault (Opens most) (openingFault b)
+unfolding openingFault
+opening-numbered most h b =
+    go (ltb (length b) header-size) (eqb (headerOf b .magic) magic) (eqb (headerOf b .version) version) (settingsFault (headerOf b .setup)) (settings-numbered most (headerOf b .setup))
+    (eqb (headerOf b .code-size % 4) 0) (eqb (length b) (header-size + headerOf b .code-size + headerOf b .data-size))
+  where
+    go : (a m v : Bool) (o : Option ℕ) → OfFault (Opens most) o → (c d : Bool) → OfFault (Opens most) (elim a [
+      | true ↦ some 24
+      | false ↦ elim m [
+        | false ↦ some 25
+        | true ↦ elim v [
+          | false ↦ some 26
+          | true ↦ elim o [
+            | some n ↦ some n
+            | none ↦ elim c [ false ↦ some 27 | true ↦ elim d [ false ↦ some 28 | true ↦ none ] ]
+          ]
+        ]
+      ]
+    ])
+    go true m v o k c d = inr (omega arith, omega arith)
+    go false false v o k c d = inr (omega arith, omega arith)
+    go false true false o k c d = inr (omega arith, omega arith)
+    go false true true (some n) k c d = k
+    go false true true none k false d = inr (omega arith, omega arith)
+    go false true true none k true false = inr (omega arith, omega arith)
+    go false true true none k true true = tt
+
+-- Two refusals that are equal have one number, and a value is none.
+abbrev numberOf : Result Instruction → ℕ
+numberOf (value i) = 0
+numberOf (refused n) = suc n
+
+refused-is : {n m : ℕ} → _≡_ {A = Result Instruction} (refused n) (refused m) → n ≡ m
+refused-is q = let e = ap numberOf q in omega (arith, e)
+
+value-not : {i : Instruction} {m : ℕ} → _≡_ {A = Result Instruction} (value i) (refused m) → ⊥
+value-not q = let e = ap numberOf q in absurd (omega (arith, e))
+
+-- A refusal's number, if there is one.
+abbrev OfRefusal : Option Refusal → Type 0
+OfRefusal none = Unit {0}
+OfRefusal (some r) = Opens 32 (r .number)
+
+of-decoded : (w n : ℕ) → instructionOf w ≡ refused n → Opens 32 n
+unfolding instructionOf
+of-decoded w n e = go (rowCoded (w % 128)) e
+  where
+    clear : (r : Row) (b : Bool) → _≡_ {A = Result Instruction} (elim b [ true ↦ value (taken r w) | false ↦ refused 31 ]) (refused n) → Opens 32 n
+    clear r true q = absurd (value-not q)
+    clear r false q = subst (Opens 32) (refused-is q) (inr (omega arith, omega arith))
+
+    go : (o : Option Row) → _≡_ {A = Result Instruction} (elim o [
+      | none ↦ refused 30
+      | some r ↦ elim (ltb w (2 ^ unusedFrom (places (r .form)))) [ true ↦ value (taken r w) | false ↦ refused 31 ]
+    ]) (refused n) → Opens 32 n
+    go none q = subst (Opens 32) (refused-is q) (inr (omega arith, omega arith))
+    go (some r) q = clear r (ltb w (2 ^ unusedFrom (places (r .form)))) q
+
+words-numbered : (i : ℕ) (ws : List ℕ) → OfRefusal (wordsFault i ws)
+unfolding wordsFault refusal
+words-numbered i [] = tt
+words-numbered i (w ∷ ws) = go (instructionOf w) (of-decoded w) (words-numbered (suc i) ws)
+  where
+    go : (x : Result Instruction) → ((n : ℕ) → x ≡ refused n → Opens 32 n) → OfRefusal (wordsFault (suc i) ws)
+        → OfRefusal (elim x [ value _ ↦ wordsFault (suc i) ws | refused n ↦ some (refusal n (some i) none) ])
+    go (value j) f k = k
+    go (refused n) f k = f n refl
+
+fault-numbered : (b : List ℕ) → OfRefusal (listingFault b)
+unfolding listingFault refusal
+fault-numbered b = go (openingFault b) (opening-numbered 32 (omega arith) b) (isUsual (headerOf b))
+  where
+    go : (o : Option ℕ) → OfFault (Opens 32) o → (u : Bool) → OfRefusal (elim o [
+      | some n ↦ some (refusal n none none)
+      | none ↦ elim u [ false ↦ some (refusal 29 none none) | true ↦ wordsFault 0 (wordsOf (codeOf b)) ]
+    ])
+    go (some n) k u = k
+    go none k false = inr (omega arith, omega arith)
+    go none k true = words-numbered 0 (wordsOf (codeOf b))
+
+abbrev pub OfListing : Listing → Type 0
+OfListing (written t) = Unit {0}
+OfListing (unwritten r) = Opens 32 (r .number)
+
+pub listing-numbered : (b : List ℕ) (size : ℕ) → OfListing (listing b size)
+unfolding listing refusal
+listing-numbered b size = go (listingFault b) (fault-numbered b) (leb (length (textOf b)) size)
+  where
+    go : (o : Option Refusal) → OfRefusal o → (u : Bool) → OfListing (elim o [
+      | some r ↦ unwritten r
+      | none ↦ elim u [ true ↦ written (textOf b) | false ↦ unwritten (refusal 32 none (some (length (textOf b)))) ]
+    ])
+    go (some r) k u = k
+    go none k true = tt
+    go none k false = inr (omega arith, omega arith)
