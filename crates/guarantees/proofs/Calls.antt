@@ -9,9 +9,10 @@ use Rattle.image.specs.Assembling.{Assembled as Reading, accepted, rejected, as
 use Rattle.image.specs.Listing.{Listing as Written, written, rejected as unwritten, listing}
 use Rattle.image.specs.Meaning.{instructionsOf, settingsOf, imageOf, isAccepted, Accepted, isWritten}
 use Rattle.image.specs.Lent.{over, Answer, assembled, answerOf, imageAfter, ListAnswer, listAnswerOf, textAfter}
-use Rattle.image.specs.Contracts.{answerMeant, roomOf, listingMeant}
+use Rattle.assembling.specs.Contracts.{answerMeant, roomOf}
+use Rattle.listing.specs.Contracts.{listingMeant}
 use Rattle.image.proofs.Walking.{accepted-assembles}
-use Rattle.guarantees.specs.Calls.{IsRefusal, IsUnlisted, labelCount, Ahead, Calls}
+use Rattle.guarantees.specs.Calls.{IsRefusal, IsUnlisted, labelCount, Calls}
 use Rattle.guarantees.proofs.Demand3.{demand-3}
 
 -- ---- assembling
@@ -36,8 +37,8 @@ module _ (source : List ℕ) (room : ℕ) (image image′ : List ℕ) (x : Answe
       let n = ap labelCount q in
       q ∙ (λ i. assembled (length (a .means .instructions i)) (sym n i) (a .means .setup i))
 
-  fills : Ahead (imageOf present source) image image′
-  unfolding imageAfter over
+  fills : image′ ≡ over (imageOf present source) image
+  unfolding imageAfter
   fills = let a = accepted-assembles present source room (length image) k in h ∙ ap (λ (w : Reading). imageAfter present source w image) (a .answer)
 
 -- ---- listing
@@ -53,7 +54,7 @@ not-unlisted (written t) x e h k = subst IsUnlisted e k
 not-unlisted (unwritten r) x e h k = true≢false (sym h)
 
 pub calls : Calls
-unfolding listAnswerOf textAfter over
+unfolding listAnswerOf textAfter
 calls =
     record {
       accepted-call = λ source starts lengths addresses image starts′ lengths′ addresses′ image′ r h.

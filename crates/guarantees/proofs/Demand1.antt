@@ -11,8 +11,10 @@ use Rattle.image.specs.Program.{header-size, headerOf, codeOf, dataOf}
 use Rattle.image.specs.Opening.{Opened, openingFault, opening}
 use Rattle.image.specs.Assembling.{Assembled as Reading, accepted, rejected, assembling}
 use Rattle.image.specs.Listing.{Listing as Written, written, rejected as unwritten, listing}
-use Rattle.image.specs.Lent.{over, Answer, answerOf, entered, imageAfter, ListAnswer, listAnswerOf, textAfter}
-use Rattle.image.specs.Contracts.{answerMeant, roomOf, openedMeant, listingMeant}
+use Rattle.image.specs.Lent.{Answer, answerOf, entered, imageAfter, ListAnswer, listAnswerOf, textAfter}
+use Rattle.image.specs.Contracts.{openedMeant}
+use Rattle.assembling.specs.Contracts.{answerMeant, roomOf}
+use Rattle.listing.specs.Contracts.{listingMeant}
 use Rattle.guarantees.specs.Calls.{Opens, IsNumbered, IsOpening, IsListing, IsRefusal, IsUnlisted, labelCount, Demand1}
 use Rattle.guarantees.proofs.Numbered.{OfFault, OfAnswer, OfListing, assembling-numbered, opening-numbered, listing-numbered}
 
@@ -54,7 +56,6 @@ is-listing (written t) x e h = subst IsListing (sym e) tt
 is-listing (unwritten r) x e h = subst IsListing (sym e) h
 
 pub demand-1 : Demand1
-unfolding over
 demand-1 =
     record {
       numbered = λ source starts lengths addresses image starts′ lengths′ addresses′ image′ r h.

@@ -4,20 +4,21 @@
 use Prim.Native.Nat.{ℕ, _≤_}
 use mathlib.Core.Path.{_≡_}
 use mathlib.Core.Logic.{_↔_, _⊎_}
-use mathlib.Core.List.{List, _++_, map}
-use lib.ListN.{length, drop}
+use mathlib.Core.List.{List, map}
+use lib.ListN.{length}
 use Rattle.text.specs.Bytes.{Result, value, refused}
 use Rattle.text.specs.Names.{present}
 use Rattle.image.specs.Assembling.{Label, assembling}
-use Rattle.image.specs.Opening.{opening}
-use Rattle.image.specs.Opening.{Opened as Parts}
+use Rattle.image.specs.Opening.{opening, Opened as Parts}
 use Rattle.image.specs.Listing.{textOf}
 use Rattle.image.specs.Meaning.{instructionsOf, settingsOf, imageOf, Accepted, Listed}
-use Rattle.image.specs.Lent.{Answer, assembled, refusal, entered, ListAnswer, listed, unlisted}
-use Rattle.image.specs.Contracts.{answerMeant, roomOf, Assembles, openedMeant, listingMeant, Lists}
-use Rattle.image.specs.declared.assembler.Assembled.{Assembled}
+use Rattle.image.specs.Lent.{over, Answer, assembled, refusal, entered, ListAnswer, listed, unlisted}
+use Rattle.image.specs.Contracts.{openedMeant}
+use Rattle.assembling.specs.Contracts.{answerMeant, roomOf, Assembles}
+use Rattle.listing.specs.Contracts.{listingMeant, Lists}
+use Rattle.assembling.specs.declared.assembler.Assembled.{Assembled}
 use Rattle.image.specs.declared.program.Opened.{Opened}
-use Rattle.image.specs.declared.listing.Listing.{Listing}
+use Rattle.listing.specs.declared.disassembler.Listing.{Listing}
 
 -- "1 source over 1,048,576 bytes", and so on to "23 image buffer too short".
 abbrev pub Numbered : ℕ → Type 0
@@ -53,16 +54,12 @@ abbrev pub labelCount : Answer → ℕ
 labelCount (assembled words labels s) = labels
 labelCount (refusal number rust-line true-line labels needed) = labels
 
--- A slice holds some numbers, and behind them what it held before.
-abbrev pub Ahead : List ℕ → List ℕ → List ℕ → Type 0
-Ahead new old after = after ≡ new ++ drop (length new) old
-
 -- The label table holds labels, as many as the answer says, ahead of its untouched entries.
 pub record TableHolds (labels : List Label) (count : ℕ) (starts lengths addresses starts′ lengths′ addresses′ : List ℕ) : Type 0 where
   pub as-many : length labels ≡ count
-  pub starts-ahead : Ahead (map (λ l. l .start) labels) starts starts′
-  pub lengths-ahead : Ahead (map (λ l. length (l .spelling)) labels) lengths lengths′
-  pub addresses-ahead : Ahead (map (λ l. l .address) labels) addresses addresses′
+  pub starts-ahead : starts′ ≡ over (map (λ l. l .start) labels) starts
+  pub lengths-ahead : lengths′ ≡ over (map (λ l. length (l .spelling)) labels) lengths
+  pub addresses-ahead : addresses′ ≡ over (map (λ l. l .address) labels) addresses
 
 pub record Demand1 : Type 0 where
   -- The answer to a call is a finished result or one numbered refusal.
@@ -90,8 +87,8 @@ pub record Calls : Type 0 where
       → Assembles source starts lengths addresses image starts′ lengths′ addresses′ image′ r
       → Accepted present source (roomOf starts lengths addresses) (length image)
       → (answerMeant r ≡ assembled (length (instructionsOf present source)) (labelCount (answerMeant r)) (settingsOf present source))
-      × Ahead (imageOf present source) image image′
+      × (image′ ≡ over (imageOf present source) image)
   pub listed-call : (image text text′ : List ℕ) (r : Listing) → Lists image text text′ r
       → (IsUnlisted (listingMeant r) → ⊥) ↔ Listed image (length text)
   pub fills-text : (image text text′ : List ℕ) (r : Listing) → Lists image text text′ r → Listed image (length text)
-      → (listingMeant r ≡ listed (length (textOf image))) × Ahead (textOf image) text text′
+      → (listingMeant r ≡ listed (length (textOf image))) × (text′ ≡ over (textOf image) text)

@@ -44,7 +44,7 @@ abbrev pub AreBytes : List ℕ → Type 0
 AreBytes b = every (λ x. ltb x 256) b ≡ true
 
 -- Some source, with some label table and image buffer, is accepted with just these bytes as its image.
-pub record Assembles (names : List Name) (b : List ℕ) : Type 0 where
+pub record HasSource (names : List Name) (b : List ℕ) : Type 0 where
   pub source : List ℕ
   pub table : ℕ
   pub size : ℕ
@@ -62,7 +62,7 @@ pub record Demand3 : Type 0 where
       ↔ ((settingsOf (N .names) s ≡ settingsOf (N′ .names) s′) × Agree (instructionsOf (N .names) s) (instructionsOf (N′ .names) s′))
   -- The listing accepts bytes exactly when some source assembles to them and the text buffer has room for their text.
   pub lists-exactly : (N : NameSet) (b : List ℕ) (n : ℕ) → AreBytes b
-      → Listed b n ↔ (Assembles (N .names) b × (length (textOf b) ≤ n))
+      → Listed b n ↔ (HasSource (N .names) b × (length (textOf b) ≤ n))
   -- What it then writes is their text, which is free of the buffer.
   pub writes-text : (b : List ℕ) (n : ℕ) → Listed b n → listing b n ≡ written (textOf b)
   -- That text, taken as a source, is accepted with any label table, one without entries too, and any image buffer no shorter

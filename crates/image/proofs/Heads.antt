@@ -4,12 +4,10 @@ use Prim.Native.Nat.{ℕ, _+_, _-_, _*_, _/_, _%_, _^_, _≤_, _<_}
 use native.Mathlib.Nat.{add-zero}
 use native.Mathlib.Numerals.{add-one}
 use native.Mathlib.Omega.{arith}
-use mathlib.Core.Bool.{Bool, true, false}
-use mathlib.Core.Option.{Option, none, some}
+use mathlib.Core.Option.{none, some}
 use mathlib.Core.List.{List, [], _∷_, _++_}
 use lib.ListN.{length, take, drop, set, getD, length-set, length-drop}
 use lib.Seq.{take-suc, take-all, getD-drop}
-use lib.Dec.{eqb}
 use borrow.Author.Tests.{eq-eqb, ne-eqb, lt-ltb, le-ltb}
 use Rattle.text.specs.Bytes.{value, refused}
 use Rattle.text.specs.Numbers.{little, unlittle}
@@ -17,8 +15,9 @@ use Rattle.coding.specs.Contracts.{put, Written}
 use Rattle.coding.proofs.Writing.{put-none, written-byte, written-append}
 use Rattle.image.specs.Settings.{settingsFault}
 use Rattle.image.specs.Program.{Header, magic, version, header-size, numberAt, headerOf, codeOf, dataOf}
-use Rattle.image.specs.Opening.{openingFault, opening}
-use Rattle.image.specs.Contracts.{headerMeant, headerFault, openedMeant}
+use Rattle.image.specs.Lent.{over}
+use Rattle.image.specs.Opening.{headerFault, openingFault, opening}
+use Rattle.image.specs.Contracts.{headerMeant, openedMeant}
 use Rattle.image.specs.declared.program.ProgramHeader.{ProgramHeader}
 use Rattle.image.specs.declared.program.Opened.the-variants.{Is as IsOpened}
 
@@ -80,6 +79,11 @@ little-four v h =
     let b : v / 16777216 ≡ v / 256 / 256 / 256 % 256 = omega arith in
     ap₂ (λ (x y : ℕ). v % 256 ∷ v / 256 % 256 ∷ x ∷ y ∷ []) a b
 
+-- A text that is written at the front of a buffer.
+pub written-over : {old : List ℕ} {s : List ℕ} {q : ℕ} {new : List ℕ} → Written old 0 s q new → new ≡ over s old
+unfolding put over
+written-over {old} {s} w = let e : 0 + length s ≡ length s = omega arith in w .holds ∙ ap (λ (n : ℕ). s ++ drop n old) e
+
 -- ---- bytes read
 
 -- The number of the first four bytes.
@@ -123,37 +127,11 @@ module _ (h : Header) where
     unfolding headerFault
     header-version e = rw (headerFault, eq-eqb (h .magic) magic m, ne-eqb (h .version) version e)
 
-    module _ (v : h .version ≡ version) where
-      pub header-setup : (n : ℕ) → settingsFault (h .setup) ≡ some n → headerFault h ≡ some n
-      unfolding headerFault
-      header-setup n e = rw (headerFault, eq-eqb (h .magic) magic m, eq-eqb (h .version) version v, e)
-
-      module _ (s : settingsFault (h .setup) ≡ none) where
-        pub header-code : (h .code-size % 4 ≡ 0 → ⊥) → headerFault h ≡ some 27
-        unfolding headerFault
-        header-code e = rw (headerFault, eq-eqb (h .magic) magic m, eq-eqb (h .version) version v, s, ne-eqb (h .code-size % 4) 0 e)
-
-        -- and nothing behind the last
-        pub header-good : h .code-size % 4 ≡ 0 → headerFault h ≡ none
-        unfolding headerFault
-        header-good e = rw (headerFault, eq-eqb (h .magic) magic m, eq-eqb (h .version) version v, s, eq-eqb (h .code-size % 4) 0 e)
+    pub header-setup : h .version ≡ version → headerFault h ≡ settingsFault (h .setup)
+    unfolding headerFault
+    header-setup v = rw (headerFault, eq-eqb (h .magic) magic m, eq-eqb (h .version) version v)
 
 -- ---- opening
-
--- The first of two refusals.
-abbrev first : Option ℕ → Option ℕ → Option ℕ
-first (some n) o = some n
-first none o = o
-
--- A chain of tests, its last one behind the others.
-last-behind : (m v c : Bool) (s o : Option ℕ)
-    → _≡_ {A = Option ℕ} (elim m [ false ↦ some 25 | true ↦ elim v [ false ↦ some 26 | true ↦ elim s [ some n ↦ some n | none ↦ elim c [ false ↦ some 27 | true ↦ o ] ] ] ])
-    (first (elim m [ false ↦ some 25 | true ↦ elim v [ false ↦ some 26 | true ↦ elim s [ some n ↦ some n | none ↦ elim c [ false ↦ some 27 | true ↦ none ] ] ] ]) o)
-last-behind false v c s o = refl
-last-behind true false c s o = refl
-last-behind true true c (some n) o = refl
-last-behind true true false none o = refl
-last-behind true true true none o = refl
 
 module _ (b : List ℕ) where
   -- under 32 bytes
@@ -162,30 +140,44 @@ module _ (b : List ℕ) where
   opening-short h = rw (opening, openingFault, lt-ltb (length b) 32 h)
 
   module _ (long : 32 ≤ length b) where
-    -- what the header is refused for comes before the length
-    header-first : openingFault b ≡ first (headerFault (headerOf b)) (elim (eqb (length b) (32 + headerOf b .code-size + headerOf b .data-size)) [ false ↦ some 28 | true ↦ none ])
-    unfolding openingFault headerFault header-size
-    header-first =
-        rw (openingFault, le-ltb (length b) 32 long)
-        (last-behind (eqb (headerOf b .magic) magic) (eqb (headerOf b .version) version) (eqb (headerOf b .code-size % 4) 0) (settingsFault (headerOf b .setup))
-        (elim (eqb (length b) (32 + headerOf b .code-size + headerOf b .data-size)) [ false ↦ some 28 | true ↦ none ]))
-
     -- refused for the header
     pub opening-header : (n : ℕ) → headerFault (headerOf b) ≡ some n → opening b ≡ refused n
-    unfolding opening
-    opening-header n e = rw (opening, header-first, e)
+    unfolding opening openingFault header-size
+    opening-header n e = rw (opening, openingFault, le-ltb (length b) 32 long, e)
 
     module _ (good : headerFault (headerOf b) ≡ none) where
-      -- refused for the length
-      pub opening-length : (length b ≡ 32 + headerOf b .code-size + headerOf b .data-size → ⊥) → opening b ≡ refused 28
-      unfolding opening
-      opening-length e = rw (opening, header-first, good, ne-eqb (length b) (32 + headerOf b .code-size + headerOf b .data-size) e)
+      -- for a code size
+      pub opening-code : (headerOf b .code-size % 4 ≡ 0 → ⊥) → opening b ≡ refused 27
+      unfolding opening openingFault header-size
+      opening-code e = rw (opening, openingFault, le-ltb (length b) 32 long, good, ne-eqb (headerOf b .code-size % 4) 0 e)
 
-      -- opened
-      pub opening-good : length b ≡ 32 + headerOf b .code-size + headerOf b .data-size
-          → opening b ≡ value (record { header = headerOf b; code-end = header-size + headerOf b .code-size; code = codeOf b; initialized = dataOf b })
-      unfolding opening
-      opening-good e = rw (opening, header-first, good, eq-eqb (length b) (32 + headerOf b .code-size + headerOf b .data-size) e)
+      module _ (fours : headerOf b .code-size % 4 ≡ 0) where
+        -- for the length
+        pub opening-length : (length b ≡ 32 + headerOf b .code-size + headerOf b .data-size → ⊥) → opening b ≡ refused 28
+        unfolding opening openingFault header-size
+        opening-length e =
+            rw (
+              opening,
+              openingFault,
+              le-ltb (length b) 32 long,
+              good,
+              eq-eqb (headerOf b .code-size % 4) 0 fours,
+              ne-eqb (length b) (32 + headerOf b .code-size + headerOf b .data-size) e,
+            )
+
+        -- opened
+        pub opening-good : length b ≡ 32 + headerOf b .code-size + headerOf b .data-size
+            → opening b ≡ value (record { header = headerOf b; code-end = header-size + headerOf b .code-size; code = codeOf b; initialized = dataOf b })
+        unfolding opening openingFault header-size
+        opening-good e =
+            rw (
+              opening,
+              openingFault,
+              le-ltb (length b) 32 long,
+              good,
+              eq-eqb (headerOf b .code-size % 4) 0 fours,
+              eq-eqb (length b) (32 + headerOf b .code-size + headerOf b .data-size) e,
+            )
 
 -- The parts of an image, by a header that was read from it.
 pub opened-parts : (b : List ℕ) (h : ProgramHeader) → headerMeant h ≡ headerOf b

@@ -6,11 +6,5 @@ pub mod Walking
 pub mod ConfigLines
 pub mod Round
 pub mod Fitting
-pub mod Steps
-pub mod Passes
-pub mod Labels
 pub mod Checks
 pub mod Heads
-pub mod Texts
-pub mod Walks
-pub mod Answers

@@ -16,7 +16,7 @@ use Rattle.instruction.specs.Operands.{Instruction}
 use Rattle.instruction.specs.Words.{instructionOf}
 use Rattle.image.specs.Settings.{Settings, settingsFault}
 use Rattle.image.specs.Program.{Header, headerBytes, header-size, headerFor, image, imageLength, headerOf, codeOf, magic, version, entry, stack-size}
-use Rattle.image.specs.Opening.{openingFault}
+use Rattle.image.specs.Opening.{headerFault, openingFault}
 use Rattle.image.specs.Assembling.{most-words}
 use Rattle.image.specs.Listing.{wordsOf, Refusal, refusal, isUsual, wordsFault, listingFault}
 use Rattle.image.proofs.Faults.{passed, passed-not, passed-on}
@@ -50,7 +50,7 @@ decoded-words i (w ∷ ws) a = rw (wordsFault, a .0 .1) (decoded-words (suc i) w
 
 module _ (s : Settings) (ws : List ℕ) (good : settingsFault s ≡ none) (few : length ws ≤ 32768) where
   opens : openingFault (image s ws []) ≡ none
-  unfolding openingFault headerFor header-size imageLength
+  unfolding openingFault headerFault headerFor header-size imageLength
   opens =
       let h = image-header s ws few in
       let n = image-length s ws in
@@ -62,6 +62,7 @@ module _ (s : Settings) (ws : List ℕ) (good : settingsFault s ≡ none) (few :
       rw (
         openingFault,
         le-ltb (length (image s ws [])) 32 (omega arith),
+        headerFault,
         eq-eqb _ _ m,
         eq-eqb _ _ v,
         g,
@@ -120,12 +121,12 @@ pub record Sound (b : List ℕ) : Type 0 where
   pub total : length b ≡ 32 + headerOf b .code-size + headerOf b .data-size
 
 pub sound : (b : List ℕ) → openingFault b ≡ none → Sound b
-unfolding openingFault header-size
+unfolding openingFault headerFault header-size
 sound b h =
     let (o1, p1) = passed-not (ltb (length b) 32) 24 _ h in
-    let (o2, p2) = passed (eqb (headerOf b .magic) magic) 25 _ p1 in
-    let (o3, p3) = passed (eqb (headerOf b .version) version) 26 _ p2 in
-    let (o4, p4) = passed-on (λ n. n) (settingsFault (headerOf b .setup)) _ p3 in
+    let (f, p4) = passed-on (λ n. n) (headerFault (headerOf b)) _ p1 in
+    let (o2, p2) = passed (eqb (headerOf b .magic) magic) 25 _ f in
+    let (o3, o4) = passed (eqb (headerOf b .version) version) 26 _ p2 in
     let (o5, p5) = passed (eqb (headerOf b .code-size % 4) 0) 27 _ p4 in
     let (o6, p6) = passed (eqb (length b) (32 + headerOf b .code-size + headerOf b .data-size)) 28 none p5 in
     record {

@@ -17,23 +17,25 @@ pub record Opened : Type 0 where
   pub code : List ℕ
   pub initialized : List ℕ
 
--- "In order: 24 under 32 bytes; 25 wrong magic; 26 wrong version; 10 to 13 on the settings; 27 code size no multiple of 4;
--- 28 length differs from 32 + code size + data size, added as whole numbers."
+-- What a header alone is refused for: "25 wrong magic; 26 wrong version; 10 to 13 on the settings". (`ProgramHeader::validate`)
+unfoldable pub headerFault : Header → Option ℕ
+headerFault h =
+    elim (eqb (h .magic) magic) [
+      | false ↦ some 25
+      | true ↦ elim (eqb (h .version) version) [ false ↦ some 26 | true ↦ settingsFault (h .setup) ]
+    ]
+
+-- "In order: 24 under 32 bytes"; those of the header; "27 code size no multiple of 4; 28 length differs from 32 + code size + data
+-- size, added as whole numbers."
 unfoldable pub openingFault : List ℕ → Option ℕ
 openingFault b =
     elim (ltb (length b) header-size) [
       | true ↦ some 24
-      | false ↦ elim (eqb (headerOf b .magic) magic) [
-        | false ↦ some 25
-        | true ↦ elim (eqb (headerOf b .version) version) [
-          | false ↦ some 26
-          | true ↦ elim (settingsFault (headerOf b .setup)) [
-            | some n ↦ some n
-            | none ↦ elim (eqb (headerOf b .code-size % 4) 0) [
-              | false ↦ some 27
-              | true ↦ elim (eqb (length b) (header-size + headerOf b .code-size + headerOf b .data-size)) [ false ↦ some 28 | true ↦ none ]
-            ]
-          ]
+      | false ↦ elim (headerFault (headerOf b)) [
+        | some n ↦ some n
+        | none ↦ elim (eqb (headerOf b .code-size % 4) 0) [
+          | false ↦ some 27
+          | true ↦ elim (eqb (length b) (header-size + headerOf b .code-size + headerOf b .data-size)) [ false ↦ some 28 | true ↦ none ]
         ]
       ]
     ]

@@ -2,7 +2,8 @@
 ghost use mathlib.Core.Path.{_≡_};
 ghost use Rattle.text.specs.Bytes.{value as good};
 ghost use Rattle.image.specs.Settings.{begin as initial, settingsFault, checked, set, configured};
-ghost use Rattle.image.specs.Contracts.{settingsMeant, faultMeant, configuredMeant, Told, recordMeant};
+ghost use Rattle.image.specs.Contracts.{settingsMeant, faultMeant, configuredMeant, recordMeant};
+ghost use Rattle.reading.specs.Contracts.{Kept};
 use text::lexer::Kind;
 use text::parser::Extracted;
 use text::parser::Line;
@@ -102,7 +103,7 @@ fn set_field(config: Config, key: &[u8], value: u8) -> Configured
 
 // The settings behind a `.config` line: 6, 7, 8, then those of its field.
 pub fn parse_config(source: &[u8], line: Line, config: Config) -> Configured
-    requires { ⌜ Told (now source) line ⌝ }
+    requires { ⌜ Kept (now source) line ⌝ }
     ensures { λ r. ⌜ configuredMeant r ≡ configured (settingsMeant config) (recordMeant (now (source .entry)) line) ⌝ }
 {
     let tokens = line.tokens;

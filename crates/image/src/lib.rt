@@ -1,5 +1,3 @@
-// The image layer: settings, header, opening, assembling and listing.
-pub mod assembler;
+// The image layer: settings, header and opening; the definitions of assembling and listing.
 pub mod config;
-pub mod listing;
 pub mod program;

@@ -5,8 +5,8 @@ ghost use lib.ListN.{length};
 ghost use Rattle.text.specs.Numbers.{little};
 ghost use Rattle.coding.specs.Contracts.{Written};
 ghost use Rattle.image.specs.Program.{headerBytes, headerFor, numberAt, headerOf};
-ghost use Rattle.image.specs.Opening.{opening};
-ghost use Rattle.image.specs.Contracts.{settingsMeant, faultMeant, settingBytes, headerMeant, headerFault, openedMeant};
+ghost use Rattle.image.specs.Opening.{headerFault, opening};
+ghost use Rattle.image.specs.Contracts.{settingsMeant, faultMeant, settingBytes, headerMeant, openedMeant};
 use crate::config::Checked;
 use crate::config::Config;
 
@@ -124,30 +124,22 @@ fn read_header(image: &[u8]) -> ProgramHeader
 }
 
 impl ProgramHeader {
-    // What a header alone can be refused for: 25, 26, 10 to 13, 27.
+    // What a header alone can be refused for: 25, 26, 10 to 13.
     pub fn validate(self) -> Checked
         ensures { λ r. ⌜ faultMeant r ≡ headerFault (headerMeant self) ⌝ }
     {
-        let config = self.config;
         if self.magic != 0x52494B5A {
             return Checked::Refused(25);
         }
         if self.version != 0x00030004 {
             return Checked::Refused(26);
         }
-        match config.validate() {
-            Checked::Refused(n) => Checked::Refused(n),
-            Checked::Good => {
-                if self.code_size % 4 != 0 {
-                    return Checked::Refused(27);
-                }
-                Checked::Good
-            }
-        }
+        let config = self.config;
+        config.validate()
     }
 }
 
-// The header of an image and its parts: 24, then what the header is refused for, then 28.
+// The header of an image and its parts: 24, then what the header is refused for, then 27, 28.
 pub fn open(image: &[u8]) -> Opened
     ensures { λ r. ⌜ openedMeant (now (image .entry)) r ≡ opening (now (image .entry)) ⌝ }
 {
@@ -158,6 +150,9 @@ pub fn open(image: &[u8]) -> Opened
     match header.validate() {
         Checked::Refused(n) => Opened::Refused(n),
         Checked::Good => {
+            if header.code_size % 4 != 0 {
+                return Opened::Refused(27);
+            }
             let code_end = 32 + header.code_size as usize;
             if image.len() != code_end + header.data_size as usize {
                 return Opened::Refused(28);

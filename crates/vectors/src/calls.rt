@@ -3,9 +3,9 @@ use crate::answer::Answer;
 use crate::answer::Header;
 use crate::answer::Text;
 use crate::record::Label;
-use image::assembler::Assembled;
+use assembling::assembler::Assembled;
 use image::config::Config;
-use image::listing::Listing;
+use listing::disassembler::Listing;
 use image::program::Opened;
 use image::program::ProgramHeader;
 
@@ -115,7 +115,7 @@ pub(crate) fn is_assembled(
     let mut starts = [FILLER; 1032];
     let mut lengths = [FILLER; 1032];
     let mut addresses = [FILLER; 1032];
-    let answer = answer_of(image::assembler::assemble(
+    let answer = answer_of(assembling::assembler::assemble(
         source,
         &mut starts[..table],
         &mut lengths[..table],
@@ -156,7 +156,7 @@ pub(crate) fn is_opened(image: &[u8], wanted: Header) -> bool {
 
 // What listing answers.
 pub(crate) fn listed(image: &[u8], text: &mut [u8]) -> Text {
-    match image::listing::list(image, text) {
+    match listing::disassembler::list(image, text) {
         Listing::Is(length) => Text {
             number: 0,
             index: 0,

@@ -22,11 +22,11 @@ use Rattle.image.specs.Assembling.{Walk, finished, stopped, Assembled, accepted
 use Rattle.image.specs.Listing.{textOf, written, listing}
 use Rattle.image.specs.Meaning.{instructionsOf, settingsOf, imageOf}
 use Rattle.image.specs.Lent.{over, assembled, refusal, answerOf, imageAfter, listed, unlisted, listAnswerOf, textAfter}
-use Rattle.image.specs.Contracts.{Lists}
+use Rattle.listing.specs.Contracts.{Lists}
 use Rattle.image.specs.Zkasm.{most-input, table-room, image-room, refusalText, outputOf, programOutput}
-use Rattle.image.specs.declared.listing.Listing.the-variants.{Is}
+use Rattle.listing.specs.declared.disassembler.Listing.the-variants.{Is}
 use Rattle.image.proofs.Images.{image-length}
-use Rattle.image.proofs.Labels.{take-over, length-over}
+use Rattle.assembling.proofs.Labels.{take-over, length-over}
 use Rattle.image.proofs.Walking.{MeansIf, reading-means}
 use Rattle.zkasm.specs.Contracts.{Prints}
 use Rattle.zkasm.proofs.Rooms.{never-23}

@@ -28,7 +28,7 @@ use Rattle.image.proofs.ConfigLines.{settings-pass}
 use Rattle.image.proofs.Listed.{AllDecoded, words-of-image, settings-of-image, image-listed}
 use Rattle.image.proofs.Walking.{MeansIf, reading-means}
 use Rattle.image.proofs.Fitting.{source-fits, fit-words, fit-decoded}
-use Rattle.image.proofs.Texts.{line-length, settings-length, word-line}
+use Rattle.listing.proofs.Texts.{line-length, settings-length, word-line}
 use Rattle.guarantees.proofs.NameSets.{present-naming}
 
 -- ---- an input has at most one line more than bytes, and a line at most one instruction

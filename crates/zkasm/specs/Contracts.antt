@@ -6,9 +6,9 @@ use lib.ListN.{length, take}
 use Rattle.text.specs.Names.{present}
 use Rattle.image.specs.Assembling.{assembling}
 use Rattle.image.specs.Lent.{over, answerOf, imageAfter}
-use Rattle.image.specs.Contracts.{answerMeant}
+use Rattle.assembling.specs.Contracts.{answerMeant}
 use Rattle.image.specs.Zkasm.{table-room}
-use Rattle.image.specs.declared.assembler.Assembled.{Assembled}
+use Rattle.assembling.specs.declared.assembler.Assembled.{Assembled}
 
 -- Assembling an input with the program's label table.
 pub record Assembles (input old new : List ℕ) (r : Assembled) : Type 0 where

@@ -5,8 +5,8 @@ ghost use lib.ListN.{length};
 ghost use Rattle.image.specs.Listing.{textOf, written, listing};
 ghost use Rattle.image.specs.Zkasm.{most-input, image-room, text-room, refusalText, programOutput};
 ghost use Rattle.zkasm.specs.Contracts.{Assembles, Prints};
-use image::assembler::Assembled;
-use image::listing::Listing;
+use assembling::assembler::Assembled;
+use listing::disassembler::Listing;
 
 // `refused N line L`
 fn write_refusal(out: &mut [u8], number: u8, line: usize) -> usize
@@ -25,7 +25,7 @@ fn write_listing(image: &[u8], out: &mut [u8]) -> usize
     requires { ⌜ listing (now image) (length (now out)) ≡ written (textOf (now image)) ⌝ ∗ ⌜ length (textOf (now image)) ≤ length (now out) ⌝ }
     ensures { λ r. ⌜ Prints (textOf (now (image .entry))) (now (out .entry)) (now (out .exit)) r ⌝ }
 {
-    match image::listing::list(image, out) {
+    match listing::disassembler::list(image, out) {
         Listing::Is(length) => length,
         // no such image is refused
         _ => 0,
@@ -39,7 +39,7 @@ fn assemble(input: &[u8], image: &mut [u8]) -> Assembled
     let mut starts = [0u32; 1024];
     let mut lengths = [0u32; 1024];
     let mut addresses = [0u32; 1024];
-    image::assembler::assemble(input, &mut starts, &mut lengths, &mut addresses, image)
+    assembling::assembler::assemble(input, &mut starts, &mut lengths, &mut addresses, image)
 }
 
 // What is printed for an input that is not too long, by way of an image buffer.

@@ -1,10 +1,12 @@
 -- `image::program::open` meets its contract.
 use mathlib.Core.Path.{_≡_, sym, ap, _∙_}
+use Prim.Native.Nat.{ℕ, _%_}
 use native.Mathlib.Omega.{arith}
 use borrow.Author.Needs.{needs}
 use Rattle.image.specs.Program.{Header, headerOf}
-use Rattle.image.specs.Contracts.{faultMeant, headerFault}
-use Rattle.image.proofs.Heads.{opening-short, opening-header, opening-length, opening-good, opened-parts}
+use Rattle.image.specs.Opening.{headerFault}
+use Rattle.image.specs.Contracts.{faultMeant}
+use Rattle.image.proofs.Heads.{opening-short, opening-header, opening-code, opening-length, opening-good, opened-parts}
 use Rattle.image.proofs.program.open.Statement.{statement}
 use Rattle.image.proofs.program.open.Tie as tie
 
@@ -29,11 +31,11 @@ cast-code-end c = search needs
 add-code-end : tie.Need-add-code-end
 add-code-end c = search needs
 
-cast-if2 : tie.Need-cast-if2
-cast-if2 c = search needs
+cast-if3 : tie.Need-cast-if3
+cast-if3 c = search needs
 
-add-if2 : tie.Need-add-if2
-add-if2 c = search needs
+add-if3 : tie.Need-add-if3
+add-if3 c = search needs
 
 -- what the header that was read is refused for
 refused-for : (c : tie.After-validate) → headerFault (headerOf (c .before .before .before .before .args .image .now)) ≡ faultMeant (c .validate .result)
@@ -41,30 +43,41 @@ refused-for c = sym (c .validate .ensures ∙ ap headerFault (c .before .read-he
 
 returns-2 : tie.Need-returns-2
 returns-2 c =
-    let t = c .before .before .before in
+    let t = c .before .before in
+    let v = t .before .before in
+    let r = v .before in
+    let b = r .before .before .before .args .image .now in
+    let n = ap (λ (x : Header). x .code-size) (r .read-header .ensures) in
+    sym (opening-code b (omega arith) (rw (t .enum-told .given .1) at (refused-for v)) (λ e. c .if2 .taken (ap (λ (m : ℕ). m % 4) n ∙ e)))
+
+returns-3 : tie.Need-returns-3
+returns-3 c =
+    let f = c .before .before .before in
+    let t = f .before .before in
     let v = t .before .before in
     let r = v .before in
     let b = r .before .before .before .args .image .now in
     let n = ap (λ (x : Header). x .code-size) (r .read-header .ensures) in
     let m = ap (λ (x : Header). x .data-size) (r .read-header .ensures) in
-    sym (opening-length b (omega arith) (rw (t .enum-told .given .1) at (refused-for v)) (λ e. c .if2 .taken (omega (arith, n, m, e))))
+    sym (opening-length b (omega arith) (rw (t .enum-told .given .1) at (refused-for v)) (sym (ap (λ (m : ℕ). m % 4) n) ∙ f .if2 .left) (λ e. c .if3 .taken (omega (arith, n, m, e))))
 
-returns-3 : tie.Need-returns-3
-returns-3 c =
+returns-4 : tie.Need-returns-4
+returns-4 c =
     let n = c .before in
     let v = n .before .before in
     sym (opening-header (v .before .before .before .before .args .image .now) (omega arith) (n .n .given .0 .0) (rw (n .n .given .1) at (refused-for v)))
 
-returns-4 : tie.Need-returns-4
-returns-4 c =
-    let t = c .before .before .before in
+returns-5 : tie.Need-returns-5
+returns-5 c =
+    let f = c .before .before .before in
+    let t = f .before .before in
     let v = t .before .before in
     let r = v .before in
     let b = r .before .before .before .args .image .now in
     let n = ap (λ (x : Header). x .code-size) (r .read-header .ensures) in
     let m = ap (λ (x : Header). x .data-size) (r .read-header .ensures) in
     opened-parts b (r .read-header .result) (r .read-header .ensures)
-    ∙ sym (opening-good b (omega arith) (rw (t .enum-told .given .1) at (refused-for v)) (omega (arith, n, m, c .if2 .left)))
+    ∙ sym (opening-good b (omega arith) (rw (t .enum-told .given .1) at (refused-for v)) (sym (ap (λ (m : ℕ). m % 4) n) ∙ f .if2 .left) (omega (arith, n, m, c .if3 .left)))
 
 pub open-spec : {M : Type 1} → statement M
 open-spec =
@@ -75,10 +88,11 @@ open-spec =
     validate-requires
     enum-known-n
     enum-told
+    returns-2
     cast-code-end
     add-code-end
-    cast-if2
-    add-if2
-    returns-2
+    cast-if3
+    add-if3
     returns-3
-    returns-4)
+    returns-4
+    returns-5)

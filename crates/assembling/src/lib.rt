@@ -1,0 +1,2 @@
+// Assembling: the image of a source.
+pub mod assembler;

@@ -1,0 +1,2 @@
+// Listing: the text of an image.
+pub mod disassembler;
