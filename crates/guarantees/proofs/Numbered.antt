@@ -18,8 +18,8 @@ use Rattle.instruction.specs.Table.{Place, reg, num, comma-place, opening-place
 use Rattle.instruction.specs.Operands.{Instruction, readNumber, readIdentifier, readRegister, markByte, Operands, withRegister, withNumber, readPlace, readOperands, made, readRow, readMnemonic, readInstruction, behind}
 use Rattle.instruction.specs.Words.{unusedFrom, taken, instructionOf}
 use Rattle.image.specs.Settings.{Settings, settings, settingsFault, limb-bits-key, data-limbs-key, addr-limbs-key, set, checked, configuredBy, configuredWith, configured}
-use Rattle.image.specs.Program.{magic, version, header-size, headerOf, codeOf, imageLength}
-use Rattle.image.specs.Opening.{openingFault}
+use Rattle.image.specs.Program.{Header, magic, version, header-size, headerOf, codeOf, imageLength}
+use Rattle.image.specs.Opening.{headerFault, openingFault}
 use Rattle.image.specs.Listing.{wordsOf, textOf, Refusal, refusal, isUsual, wordsFault, listingFault, Listing, written, rejected as unwritten, listing}
 use Rattle.image.specs.Assembling.{State, start, Step, next, stop, Kind, empty, labelled, config, ignored, plain, kindOf, isKnown, withLabel, enter, withSettings, most-words, withInstruction, afterLabel, stepOn, step, Walk, finished, stopped, walk, Assembled, accepted, rejected, refusing, readTo, most-bytes, reading, fitted, assembling}
 use Rattle.guarantees.specs.Calls.{Numbered, Opens}
@@ -295,32 +295,30 @@ settings-numbered : (most : ℕ) (s : Settings) → OfFault (Opens most) (settin
 settings-numbered most =
     of-fault (Opens most) (inl (omega arith, omega arith)) (inl (omega arith, omega arith)) (inl (omega arith, omega arith)) (inl (omega arith, omega arith))
 
+header-numbered : (most : ℕ) → 28 ≤ most → (h : Header) → OfFault (Opens most) (headerFault h)
+unfolding headerFault
+header-numbered most m h = go (eqb (h .magic) magic) (eqb (h .version) version)
+  where
+    go : (a b : Bool) → OfFault (Opens most) (elim a [ false ↦ some 25 | true ↦ elim b [ false ↦ some 26 | true ↦ settingsFault (h .setup) ] ])
+    go false b = inr (omega arith, omega arith)
+    go true false = inr (omega arith, omega arith)
+    go true true = settings-numbered most (h .setup)
+
 pub opening-numbered : (most : ℕ) → 28 ≤ most → (b : List ℕ) → OfFault (Opens most) (openingFault b)
 unfolding openingFault
 opening-numbered most h b =
-    go (ltb (length b) header-size) (eqb (headerOf b .magic) magic) (eqb (headerOf b .version) version) (settingsFault (headerOf b .setup)) (settings-numbered most (headerOf b .setup))
+    go (ltb (length b) header-size) (headerFault (headerOf b)) (header-numbered most h (headerOf b))
     (eqb (headerOf b .code-size % 4) 0) (eqb (length b) (header-size + headerOf b .code-size + headerOf b .data-size))
   where
-    go : (a m v : Bool) (o : Option ℕ) → OfFault (Opens most) o → (c d : Bool) → OfFault (Opens most) (elim a [
+    go : (a : Bool) (o : Option ℕ) → OfFault (Opens most) o → (c d : Bool) → OfFault (Opens most) (elim a [
       | true ↦ some 24
-      | false ↦ elim m [
-        | false ↦ some 25
-        | true ↦ elim v [
-          | false ↦ some 26
-          | true ↦ elim o [
-            | some n ↦ some n
-            | none ↦ elim c [ false ↦ some 27 | true ↦ elim d [ false ↦ some 28 | true ↦ none ] ]
-          ]
-        ]
-      ]
+      | false ↦ elim o [ some n ↦ some n | none ↦ elim c [ false ↦ some 27 | true ↦ elim d [ false ↦ some 28 | true ↦ none ] ] ]
     ])
-    go true m v o k c d = inr (omega arith, omega arith)
-    go false false v o k c d = inr (omega arith, omega arith)
-    go false true false o k c d = inr (omega arith, omega arith)
-    go false true true (some n) k c d = k
-    go false true true none k false d = inr (omega arith, omega arith)
-    go false true true none k true false = inr (omega arith, omega arith)
-    go false true true none k true true = tt
+    go true o k c d = inr (omega arith, omega arith)
+    go false (some n) k c d = k
+    go false none k false d = inr (omega arith, omega arith)
+    go false none k true false = inr (omega arith, omega arith)
+    go false none k true true = tt
 
 -- Two refusals that are equal have one number, and a value is none.
 abbrev numberOf : Result Instruction → ℕ
