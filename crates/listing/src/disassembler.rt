@@ -10,10 +10,10 @@ ghost use Rattle.coding.specs.Contracts.{Written};
 ghost use Rattle.image.specs.Listing.{wordsOf, lineText, settingsText, wordText, isUsual};
 ghost use Rattle.image.specs.Contracts.{settingsMeant, headerMeant};
 ghost use Rattle.listing.specs.Contracts.{lengthMeant, lineLength, WholeWords, Measures, Usual, Lists};
+use coding::encoder::Decoded;
 use image::config::Config;
 use image::program::Opened;
 use image::program::ProgramHeader;
-use coding::encoder::Decoded;
 
 pub enum Listing {
     // the length of the text

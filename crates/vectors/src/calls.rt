@@ -5,9 +5,9 @@ use crate::answer::Text;
 use crate::record::Label;
 use assembling::assembler::Assembled;
 use image::config::Config;
-use listing::disassembler::Listing;
 use image::program::Opened;
 use image::program::ProgramHeader;
+use listing::disassembler::Listing;
 
 // What stands in an entry of the table before it is lent: no start, length or address of a label.
 const FILLER: u32 = 0xA5A5A5A5;
