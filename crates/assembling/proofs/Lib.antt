@@ -1,5 +1,3 @@
-pub mod Steps
-pub mod Passes
-pub mod Labels
+pub mod Called
+pub mod Shared
 pub mod Walks
-pub mod Answers

@@ -1,285 +1,176 @@
--- Laws of the first walk: what the lines before a place have come to, and what the line there leads to.
-use Prim.Native.Nat.{ℕ, suc, _+_, _*_, _≤_, _<_}
-use mathlib.Core.Path.{_≡_, refl, sym, ap, _∙_}
+-- Laws of the first walk over a label table: how it begins, goes on from a label to the next, and what it comes to.
+use Prim.Native.Nat.{ℕ, zero, suc, _+_, _-_, _≤_, _<_}
+use mathlib.Core.Path.{_≡_, refl, sym, ap, ap₂, subst, _∙_}
 use native.Mathlib.Omega.{arith}
-use native.Mathlib.Numerals.{add-one}
 use mathlib.Core.Bool.{Bool, true, false}
-use mathlib.Core.List.{List, [], _∷_, _++_}
-use lib.ListN.{length, take, drop, set, length-take, length-drop, length-append}
-use borrow.Author.Tests.{lt-ltb, le-ltb}
-use Rattle.text.specs.Names.{present}
-use Rattle.text.specs.Lines.{lines, indent, readLine}
-use Rattle.text.specs.Places.{restAt, endAt}
-use Rattle.text.proofs.Lines.{line-at, last-line}
-use Rattle.instruction.specs.Operands.{Instruction}
-use Rattle.image.specs.Settings.{begin}
-use Rattle.image.specs.Program.{entry}
-use Rattle.image.specs.Assembling.{State, start, Step, next, stop, isKnown, withLabel, enter, step, finished, stopped, walk}
-use Rattle.image.specs.Meaning.{instructionOn}
+use mathlib.Core.List.{List, [], _∷_, _++_, map, map-append}
+use lib.ListN.{length, take, drop, getD, set, length-take, length-map, length-append, length-drop}
+use lib.Seq.{getD-take, set-out}
+use lib.Dec.{ltb}
+use borrow.Author.Tests.{ltb-true, ltb-false}
+use Rattle.text.specs.Bytes.{same, find, isSome}
+use Rattle.text.proofs.Tests.{by-test}
+use Rattle.image.specs.Assembling.{isKnown}
+use Rattle.image.specs.Assembling.{Label as Meant}
 use Rattle.image.specs.Lent.{over}
-use Rattle.image.specs.Contracts.{settingsMeant, faultMeant}
-use Rattle.assembling.specs.Contracts.{entering, onward, Comes, anyNamed, Placed, roomOf, Table, Enters, no-label, known-label, no-room, new-label, leftBy, Came}
-use Rattle.image.specs.declared.config.Config.{Config}
+use Rattle.image.specs.Contracts.{faultMeant}
 use Rattle.image.specs.declared.config.Checked.{Checked}
 use Rattle.image.specs.declared.config.Checked.the-variants.{Good, Refused}
-use Rattle.assembling.specs.declared.assembler.Step.{Step as Stepped}
-use Rattle.assembling.specs.declared.assembler.Entered.{Entered}
-use Rattle.assembling.specs.declared.assembler.Walked.the-variants.{Finished, Stopped}
-use Rattle.assembling.proofs.Passes.{line-split}
-use Rattle.assembling.proofs.Labels.{Spelled, spelled-more, starts-long, lengths-long, addresses-long, same-room, table-known, table-placed, table-more}
+use Rattle.labels.specs.Contracts.{entryOf, InText, spelled, noLabel, Placed, anyNamed, entryFault, Enters, Spelled}
+use Rattle.labels.specs.declared.label.Label.{Label}
+use Rattle.passes.specs.Contracts.{Stands, Begins, withEntry, labelAt, GoesOn, Ready, Finishes}
+use Rattle.passes.specs.declared.first_pass.Pass.{Pass}
+use Rattle.passes.specs.declared.second_pass.Assembled.{Assembled}
+use Rattle.passes.proofs.Answers.{stands-ready, stands-answers}
+use Rattle.image.specs.Contracts.{settingsMeant}
+use Rattle.image.proofs.Over.{take-over, length-over, over-more}
+use Rattle.assembling.specs.Contracts.{Standing, Assembles}
 
--- A check that is good is not refused.
-good-not : {X : Type 0} {n : ℕ} → _≡_ {A = Checked} (Refused n) Good → X
-good-not z = let y : _≡_ {A = ℕ} 0 1 = cc in absurd (omega arith)
+-- ---- labels and their entries
 
-module _ (s starts₀ lengths₀ addresses₀ : List ℕ) where
-  abbrev room : ℕ
-  room = roomOf starts₀ lengths₀ addresses₀
+spelled-more : (s : List ℕ) (ls : List Meant) (l : Meant) → Spelled s ls → spelled s (entryOf l) ≡ l .spelling → InText s (entryOf l) → Spelled s (ls ++ (l ∷ []))
+spelled-more s [] l h e k = (e, k, tt)
+spelled-more s (m ∷ ls) l h e k = (h .0, h .1, spelled-more s ls l (h .2) e k)
 
-  -- What the lines before a place have come to.
-  pub record Walks (starts lengths addresses : List ℕ) (labels words : ℕ) (c : Config) (line at : ℕ) : Type 0 where
-    pub state : State
-    pub on : walk present room line at state (lines (drop at s)) ≡ walk present room 1 0 start (lines s)
-    pub setup-is : state .setup ≡ settingsMeant c
-    pub words-are : length (state .instructions) ≡ words
-    pub labels-are : length (state .labels) ≡ labels
-    pub few : words ≤ 32768
-    pub in-text : at ≤ length s
-    pub line-few : line ≤ at + 1
-    pub fits : labels ≤ room
-    pub table : Table (state .labels) starts₀ lengths₀ addresses₀ starts lengths addresses
-    pub spelled : Spelled s (state .labels)
+-- A spelling is one of theirs if it is found among the entries.
+any-is : (s u : List ℕ) (ls : List Meant) → Spelled s ls → anyNamed s (map entryOf ls) u ≡ isKnown ls u
+unfolding anyNamed isKnown find isSome
+any-is s u [] h = refl
+any-is s u (l ∷ ls) h =
+    by-test (same (l .spelling) u)
+    (λ e. rw (anyNamed, find, h .0, e))
+    (λ e. rw (anyNamed, find, h .0, e) (any-is s u ls (h .2)))
 
-  pub walks-none : (c : Config) → settingsMeant c ≡ begin → Walks starts₀ lengths₀ addresses₀ 0 0 c 1 0
-  unfolding start over
-  walks-none c e =
+spelled-at : (s : List ℕ) (ls : List Meant) (i : ℕ) → Spelled s ls → i < length ls → InText s (getD (map entryOf ls) i noLabel)
+spelled-at s [] i h k = absurd (omega arith)
+spelled-at s (l ∷ ls) zero h k = h .1
+spelled-at s (l ∷ ls) (suc i) h k = spelled-at s ls i (h .2) (omega arith)
+
+module _ (s : List ℕ) (old table : List Label) (ls : List Meant) (e : table ≡ over (map entryOf ls) old) where
+  firsts-are : take (length ls) table ≡ map entryOf ls
+  firsts-are = rw (e, ← length-map ls entryOf) (take-over (map entryOf ls) old)
+
+  table-known : (u : List ℕ) → Spelled s ls → anyNamed s (take (length ls) table) u ≡ isKnown ls u
+  table-known u h = rw firsts-are (any-is s u ls h)
+
+  table-long : length ls ≤ length old → length table ≡ length old
+  table-long fits = ap length e ∙ length-over (map entryOf ls) old (rw (length-map ls entryOf) fits)
+
+  table-placed : length ls ≤ length old → Spelled s ls → Placed s table (length ls)
+  table-placed fits h =
       record {
-        state = start;
-        on = refl;
-        setup-is = sym e;
-        words-are = refl;
-        labels-are = refl;
-        few = omega arith;
-        in-text = omega arith;
-        line-few = omega arith;
-        fits = omega arith;
-        table = record { starts-hold = refl; lengths-hold = refl; addresses-hold = refl };
-        spelled = tt;
+        in-table = rw (table-long fits) fits;
+        in-text = λ i k. rw (← getD-take (length ls) table i noLabel k, firsts-are) (spelled-at s ls i h k);
       }
 
-  module _ {starts lengths addresses : List ℕ} {labels words : ℕ} {c : Config} {line at : ℕ} (w : Walks starts lengths addresses labels words c line at) where
-    pub walks-placed : Placed s starts lengths labels
-    walks-placed = rw (← w .labels-are) (table-placed (w .table) (rw (w .labels-are) (w .fits)) s (w .spelled))
+  -- A label more is an entry more.
+  table-more : (l : Meant) → length ls < length old → set table (length ls) (entryOf l) ≡ over (map entryOf (ls ++ (l ∷ []))) old
+  table-more l h =
+      rw (e, map-append entryOf ls (l ∷ []), ← length-map ls entryOf) (over-more (map entryOf ls) old (entryOf l) (rw (length-map ls entryOf) h))
 
-    -- What the line there leads to, by its label.
-    record After (starts′ lengths′ addresses′ : List ℕ) (r : Stepped) (e : Entered) : Type 0 where
-      state′ : State
-      same-words : state′ .instructions ≡ w .state .instructions
-      came : step room (w .state) (at + indent (restAt s at)) (readLine present (restAt s at))
-          ≡ onward (faultMeant (e .fault)) (instructionOn (readLine present (restAt s at))) (settingsMeant (r .config)) (next state′)
-      labels-now : length (state′ .labels) ≡ e .labels
-      fits-now : e .labels ≤ room
-      table-now : Table (state′ .labels) starts₀ lengths₀ addresses₀ starts′ lengths′ addresses′
-      spelled-now : Spelled s (state′ .labels)
-      good-behind : e .fault ≡ Good → r .fault ≡ Good
+-- ---- the walk
 
-    module _ (r : Stepped) (h : Comes s at words (settingsMeant c) r) where
-      step-is : step room (w .state) (at + indent (restAt s at)) (readLine present (restAt s at))
-          ≡ onward (faultMeant (r .fault)) (instructionOn (readLine present (restAt s at))) (settingsMeant (r .config)) (entering s r room (w .state))
-      step-is = h .steps room (w .state) (w .setup-is) (w .words-are)
+-- How it begins.
+pub standing-begin : {s : List ℕ} {p : Pass} (old : List Label) → Begins s p → Standing s old old p
+unfolding over
+standing-begin old b =
+    record { labels = []; stands = b .stands (length old); sound = b .sound; table-is = refl; fits = omega arith; spelled = tt }
 
-      abbrev label : List ℕ
-      label = take (r .length) (drop (r .start) s)
+module _ {s : List ℕ} {old table : List Label} {p : Pass} (w : Standing s old table p) where
+  pub standing-long : length table ≡ length old
+  standing-long = table-long s old table (w .labels) (w .table-is) (w .fits)
 
-      known-is : (b : Bool) → anyNamed s (take labels starts) (take labels lengths) label ≡ b → isKnown (w .state .labels) label ≡ b
-      known-is b e =
-          sym (table-known (w .table) (rw (w .labels-are) (w .fits)) s label (w .spelled)) ∙ rw (w .labels-are) e
+  -- What entering a label asks for.
+  pub standing-placed : Placed s table (p .labels)
+  standing-placed = rw (w .stands .count) (table-placed s old table (w .labels) (w .table-is) (w .fits) (w .spelled))
 
-      -- the label's length is that of its spelling
-      label-long : length label ≡ r .length
-      label-long = length-take (r .length) (drop (r .start) s) ∙ omega (arith, length-drop (r .start) s, h .in-text)
+  module _ (found : p .found ≡ true) where
+    pub standing-in-text : InText s (p .label)
+    standing-in-text = w .sound found .in-text
 
-      rooms : roomOf starts lengths addresses ≡ room
-      rooms = same-room (w .table) (rw (w .labels-are) (w .fits))
+    abbrev name : List ℕ
+    name = spelled s (p .label)
 
-      -- a line without a label enters none
-      not-labelled : r .labelled ≡ false → entering s r room (w .state) ≡ next (w .state)
-      unfolding entering
-      not-labelled a = rw (entering, a)
+    name-long : length name ≡ p .label .length
+    name-long = length-take (p .label .length) (drop (p .label .start) s) ∙ omega (arith, length-drop (p .label .start) s, standing-in-text)
 
-      by-known : r .labelled ≡ true → isKnown (w .state .labels) label ≡ true
-          → onward (faultMeant (r .fault)) (instructionOn (readLine present (restAt s at))) (settingsMeant (r .config)) (entering s r room (w .state)) ≡ stop 4 (w .state)
-      unfolding entering enter onward
-      by-known a k = rw (entering, a, enter, k)
+    entry-is : entryOf (labelAt s p) ≡ p .label
+    entry-is = λ i. record { start = p .label .start; length = name-long i; address = p .label .address }
 
-      by-full : r .labelled ≡ true → isKnown (w .state .labels) label ≡ false → room ≤ length (w .state .labels)
-          → onward (faultMeant (r .fault)) (instructionOn (readLine present (restAt s at))) (settingsMeant (r .config)) (entering s r room (w .state)) ≡ stop 5 (w .state)
-      unfolding entering enter onward
-      by-full a k f = rw (entering, a, enter, k, le-ltb (length (w .state .labels)) room f)
+    known-is : anyNamed s (take (p .labels) table) name ≡ isKnown (w .labels) name
+    known-is = rw (w .stands .count) (table-known s old table (w .labels) (w .table-is) name (w .spelled))
 
-      by-new : r .labelled ≡ true → isKnown (w .state .labels) label ≡ false → length (w .state .labels) < room
-          → entering s r room (w .state) ≡ next (withLabel (w .state) (r .start) label)
-      unfolding entering enter
-      by-new a k f = rw (entering, a, enter, k, lt-ltb (length (w .state .labels)) room f)
+    -- The label is entered, or refused, and the walk goes on.
+    module _ {table′ : List Label} {e : Checked} {r : Pass} (x : Enters s table (p .labels) (p .label) table′ e) (g : GoesOn s p e r) where
+      fault-is : faultMeant e ≡ entryFault (isKnown (w .labels) name) (ltb (length (w .labels)) (length old))
+      fault-is = x .answer ∙ rw (known-is, w .stands .count, standing-long)
 
-      new-words : withLabel (w .state) (r .start) label .instructions ≡ w .state .instructions
-      unfolding withLabel
-      new-words = refl
+      holds-is : table′ ≡ elim (isKnown (w .labels) name) [ true ↦ table | false ↦ set table (length (w .labels)) (p .label) ]
+      holds-is = x .holds ∙ ap₂ (λ (b : Bool) (n : ℕ). elim b [ true ↦ table | false ↦ set table n (p .label) ]) known-is (w .stands .count)
 
-      new-count : length (withLabel (w .state) (r .start) label .labels) ≡ labels + 1
-      unfolding withLabel
-      new-count = length-append (w .state .labels) _ ∙ ap (λ n. n + 1) (w .labels-are)
+      stands-on : Stands s (length old) (withEntry e (w .labels) (labelAt s p)) r
+      stands-on = g .stands (length old) (w .labels) (w .stands) found fault-is
 
-      new-spelled : Spelled s (withLabel (w .state) (r .start) label .labels)
-      unfolding withLabel
-      new-spelled = spelled-more s (w .state .labels) _ (w .spelled) (ap (λ (n : ℕ). take n (drop (r .start) s)) label-long) (rw label-long (h .in-text))
-
-      new-table : (n m k : ℕ) → length (w .state .labels) ≡ n → length label ≡ m → length (w .state .instructions) ≡ k → n < room
-          → Table (withLabel (w .state) (r .start) label .labels) starts₀ lengths₀ addresses₀ (set starts n (r .start)) (set lengths n m) (set addresses n (0x1000 + 4 * k))
-      unfolding withLabel entry
-      new-table n m k a b d f =
-          rw (← a, ← b, ← d)
-          (table-more (w .table) (rw (w .labels-are) (w .fits)) (record { spelling = label; start = r .start; address = 0x1000 + 4 * length (w .state .instructions) }) (rw a f))
-
-      -- nothing is entered
-      kept : (f : Checked) → (f ≡ Good → r .fault ≡ Good)
-          → onward (faultMeant (r .fault)) (instructionOn (readLine present (restAt s at))) (settingsMeant (r .config)) (entering s r room (w .state))
-          ≡ onward (faultMeant f) (instructionOn (readLine present (restAt s at))) (settingsMeant (r .config)) (next (w .state))
-          → After starts lengths addresses r (record { fault = f; labels = labels })
-      kept f g q =
+      refused-on : (n : ℕ) → e ≡ Refused n → table′ ≡ table → Standing s old table′ r
+      refused-on n f h =
           record {
-            state′ = w .state;
-            same-words = refl;
-            came = step-is ∙ q;
-            labels-now = w .labels-are;
-            fits-now = w .fits;
-            table-now = w .table;
-            spelled-now = w .spelled;
-            good-behind = g;
+            labels = w .labels;
+            stands = subst (λ (k : Checked). Stands s (length old) (withEntry k (w .labels) (labelAt s p)) r) f stands-on;
+            sound = g .sound;
+            table-is = h ∙ w .table-is;
+            fits = w .fits;
+            spelled = w .spelled;
           }
 
-      unlabelled : r .labelled ≡ false → After starts lengths addresses r (record { fault = r .fault; labels = labels })
-      unlabelled a = kept (r .fault) (λ g. g) (ap (onward (faultMeant (r .fault)) (instructionOn (readLine present (restAt s at))) (settingsMeant (r .config))) (not-labelled a))
+      entered-on : e ≡ Good → length (w .labels) < length old → table′ ≡ set table (length (w .labels)) (p .label) → Standing s old table′ r
+      entered-on f l h =
+          record {
+            labels = w .labels ++ (labelAt s p ∷ []);
+            stands = subst (λ (k : Checked). Stands s (length old) (withEntry k (w .labels) (labelAt s p)) r) f stands-on;
+            sound = g .sound;
+            table-is = h ∙ ap (set table (length (w .labels))) (sym entry-is) ∙ table-more s old table (w .labels) (w .table-is) (labelAt s p) l;
+            fits = omega (arith, l, length-append (w .labels) (labelAt s p ∷ []));
+            spelled = spelled-more s (w .labels) (labelAt s p) (w .spelled) (ap (spelled s) entry-is) (subst (InText s) (sym entry-is) standing-in-text);
+          }
 
-      entered : {starts′ lengths′ addresses′ : List ℕ} {e : Entered} → Enters s starts lengths addresses starts′ lengths′ addresses′ labels words r e
-          → After starts′ lengths′ addresses′ r e
-      unfolding onward
-      entered (no-label a x y z q) = rw (x, y, z, q) (unlabelled a)
-      entered (known-label a k x y z q) = rw (x, y, z, q) (kept (Refused 4) (λ g. good-not g) (by-known a (known-is true k)))
-      entered (no-room a k f x y z q) = rw (x, y, z, q) (kept (Refused 5) (λ g. good-not g) (by-full a (known-is false k) (rw (rooms, ← w .labels-are) at f)))
-      entered (new-label a k f x y z q) =
-          rw (x, y, z, q)
-          (record {
-            state′ = withLabel (w .state) (r .start) label;
-            same-words = new-words;
-            came = step-is ∙ ap (onward (faultMeant (r .fault)) (instructionOn (readLine present (restAt s at))) (settingsMeant (r .config))) (by-new a (known-is false k) (rw (rooms, ← w .labels-are) at f));
-            labels-now = new-count;
-            fits-now = omega (arith, rw rooms at f);
-            table-now = new-table labels (r .length) words (w .labels-are) label-long (w .words-are) (rw rooms at f);
-            spelled-now = new-spelled;
-            good-behind = λ g. g;
-          })
+      pub standing-on : Standing s old table′ r
+      unfolding entryFault
+      standing-on = go (isKnown (w .labels) name) (ltb (length (w .labels)) (length old)) refl e refl fault-is holds-is
+        where
+          go : (a b : Bool) → ltb (length (w .labels)) (length old) ≡ b → (k : Checked) → e ≡ k → faultMeant k ≡ entryFault a b
+              → table′ ≡ elim a [ true ↦ table | false ↦ set table (length (w .labels)) (p .label) ] → Standing s old table′ r
+          go true b l (Refused n) f q h = refused-on n f h
+          go true b l Good f q h = let y : _≡_ {A = ℕ} 0 1 = cc in absurd (omega arith)
+          go false true l Good f q h = entered-on f (ltb-true (length (w .labels)) (length old) l) h
+          go false true l (Refused n) f q h = let y : _≡_ {A = ℕ} 0 1 = cc in absurd (omega arith)
+          go false false l (Refused n) f q h = refused-on n f (h ∙ full l)
+            where
+              full : ltb (length (w .labels)) (length old) ≡ false → set table (length (w .labels)) (p .label) ≡ table
+              full z = set-out table (length (w .labels)) (p .label) (omega (arith, ltb-false (length (w .labels)) (length old) z, standing-long))
+          go false false l Good f q h = let y : _≡_ {A = ℕ} 0 1 = cc in absurd (omega arith)
 
-      module _ {starts′ lengths′ addresses′ : List ℕ} {e : Entered} (x : Enters s starts lengths addresses starts′ lengths′ addresses′ labels words r e) where
-        -- where the first walk comes to from here, by what the line comes to
-        goes : (d : Step) → step room (w .state) (at + indent (restAt s at)) (readLine present (restAt s at)) ≡ d
-            → (rest : List (List ℕ)) → lines (drop at s) ≡ restAt s at ∷ rest
-            → walk present room 1 0 start (lines s) ≡ elim d [ next st ↦ walk present room (suc line) (at + suc (length (restAt s at))) st rest | stop n st ↦ stopped n line st ]
-        unfolding walk
-        goes d q rest l = sym (w .on) ∙ ap (walk present room line at (w .state)) l ∙ rw (walk, q)
+  -- It ends.
+  module _ (ended : p .found ≡ false) where
+    pub standing-ready : p .fault ≡ Good → Ready s (p .words) (settingsMeant (p .config))
+    standing-ready f = stands-ready (w .stands) ended f
 
-        -- the slices are as long as they were
-        few-labels : length (entered x .state′ .labels) ≤ room
-        few-labels = rw (entered x .labels-now) (entered x .fits-now)
+    pub standing-ends : {image image′ : List ℕ} {r : Assembled} → Finishes s p image image′ r → Assembles s old image table image′ r
+    standing-ends f =
+        let a = stands-answers (w .stands) ended f in
+        record { answer = a .answer; table-holds = w .table-is ∙ ap (λ (ls : List Meant). over (map entryOf ls) old) (a .labels-are); image-holds = a .image-holds }
 
-        pub same-starts : length starts′ ≡ length starts₀
-        same-starts = starts-long (entered x .table-now) few-labels
+-- What is left, counted in lines.
+abbrev pub left : List ℕ → Pass → ℕ
+left s p = elim (p .found) [ true ↦ length s + 2 - p .line | false ↦ 0 ]
 
-        pub same-lengths : length lengths′ ≡ length lengths₀
-        same-lengths = lengths-long (entered x .table-now) few-labels
+pub nearer : {s : List ℕ} {old table : List Label} {p r : Pass} {e : Checked} → Standing s old table p → p .found ≡ true → GoesOn s p e r → left s r < left s p
+nearer {s} {old} {table} {p} {r} w found g = by-test (r .found) more done
+  where
+    fits : p .line ≤ length s + 1
+    fits = w .sound found .line-fits
 
-        pub same-addresses : length addresses′ ≡ length addresses₀
-        same-addresses = addresses-long (entered x .table-now) few-labels
+    more : r .found ≡ true → left s r < left s p
+    more f = let b = g .behind f in rw (found, f) (omega (arith, fits, b))
 
-        -- what it comes to, by whether it is refused
-        abbrev outcome : Checked → Step
-        outcome k = onward (faultMeant k) (instructionOn (readLine present (restAt s at))) (settingsMeant (r .config)) (next (entered x .state′))
-
-        -- The line is refused.
-        module _ (n : ℕ) (f : e .fault ≡ Refused n) where
-          stops : walk present room 1 0 start (lines s) ≡ stopped n line (entered x .state′)
-          unfolding onward
-          stops =
-              let (rest, l) = line-split s at (w .in-text) in
-              goes (stop n (entered x .state′)) (entered x .came ∙ ap (λ (k : Checked). outcome k) f) rest l
-
-          pub walks-stop : Came (Stopped n line (e .labels)) (walk present room 1 0 start (lines s))
-          walks-stop = rw stops (refl, refl, sym (entered x .labels-now))
-
-          pub stop-table : Table (leftBy (walk present room 1 0 start (lines s)) .labels) starts₀ lengths₀ addresses₀ starts′ lengths′ addresses′
-          stop-table = rw stops (entered x .table-now)
-
-        -- It is not.
-        module _ (f : e .fault ≡ Good) where
-          abbrev grown : State
-          grown =
-              record {
-                labels = entered x .state′ .labels;
-                instructions = entered x .state′ .instructions ++ instructionOn (readLine present (restAt s at));
-                setup = settingsMeant (r .config);
-              }
-
-          goes-on : step room (w .state) (at + indent (restAt s at)) (readLine present (restAt s at)) ≡ next grown
-          unfolding onward
-          goes-on = entered x .came ∙ ap (λ (k : Checked). outcome k) f
-
-          behind : r .fault ≡ Good
-          behind = entered x .good-behind f
-
-          ends : r .end ≡ endAt s at
-          ends = h .ends behind
-
-          grown-words : length (grown .instructions) ≡ r .words
-          grown-words =
-              let a = length-append (entered x .state′ .instructions) (instructionOn (readLine present (restAt s at))) in
-              let b = ap (λ (l : List Instruction). length l) (entered x .same-words) in
-              omega (arith, a, b, h .counts behind, w .words-are)
-
-          -- The line ends where it begins, or behind that.
-          pub goes-behind : at ≤ r .end
-          unfolding endAt
-          goes-behind = omega (arith, ends)
-
-          -- The last line.
-          module _ (z : length s ≤ r .end) where
-            finishes : walk present room 1 0 start (lines s) ≡ finished grown
-            unfolding walk
-            finishes = goes (next grown) goes-on [] (last-line s at (w .in-text) (rw (← ends) z))
-
-            pub walks-end : Came (Finished (r .words) (e .labels) (r .config)) (walk present room 1 0 start (lines s))
-            walks-end = rw finishes (sym grown-words, sym (entered x .labels-now), refl)
-
-            pub end-table : Table (leftBy (walk present room 1 0 start (lines s)) .labels) starts₀ lengths₀ addresses₀ starts′ lengths′ addresses′
-            end-table = rw finishes (entered x .table-now)
-
-          -- Another line behind it.
-          pub walks-on : r .end < length s → Walks starts′ lengths′ addresses′ (e .labels) (r .words) (r .config) (line + 1) (r .end + 1)
-          unfolding endAt
-          walks-on z =
-              let l = line-at s at (w .in-text) (rw (← ends) z) in
-              let a : at + suc (length (restAt s at)) ≡ r .end + 1 = omega (arith, ends) in
-              let b : suc (endAt s at) ≡ r .end + 1 = omega (arith, ends) in
-              let g = goes (next grown) goes-on _ l in
-              record {
-                state = grown;
-                on = sym (rw (a, b, ← add-one line) at g);
-                setup-is = refl;
-                words-are = grown-words;
-                labels-are = entered x .labels-now;
-                few = h .most behind (w .few);
-                in-text = omega arith;
-                line-few = omega (arith, w .line-few, goes-behind);
-                fits = entered x .fits-now;
-                table = entered x .table-now;
-                spelled = entered x .spelled-now;
-              }
+    done : r .found ≡ false → left s r < left s p
+    done f = rw (found, f) (omega (arith, fits))

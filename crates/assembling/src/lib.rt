@@ -1,2 +1,2 @@
-// Assembling: the image of a source.
+// Assembling: the image of a source, and its labels in a lent table.
 pub mod assembler;

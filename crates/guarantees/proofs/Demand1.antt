@@ -13,7 +13,7 @@ use Rattle.image.specs.Assembling.{Assembled as Reading, accepted, rejected, as
 use Rattle.image.specs.Listing.{Listing as Written, written, rejected as unwritten, listing}
 use Rattle.image.specs.Lent.{Answer, answerOf, entered, imageAfter, ListAnswer, listAnswerOf, textAfter}
 use Rattle.image.specs.Contracts.{openedMeant}
-use Rattle.assembling.specs.Contracts.{answerMeant, roomOf}
+use Rattle.passes.specs.Contracts.{answerMeant}
 use Rattle.listing.specs.Contracts.{listingMeant}
 use Rattle.guarantees.specs.Calls.{Opens, IsNumbered, IsOpening, IsListing, IsRefusal, IsUnlisted, labelCount, Demand1}
 use Rattle.guarantees.proofs.Numbered.{OfFault, OfAnswer, OfListing, assembling-numbered, opening-numbered, listing-numbered}
@@ -58,20 +58,18 @@ is-listing (unwritten r) x e h = subst IsListing (sym e) h
 pub demand-1 : Demand1
 demand-1 =
     record {
-      numbered = λ source starts lengths addresses image starts′ lengths′ addresses′ image′ r h.
-          let room = roomOf starts lengths addresses in
+      numbered = λ source table image table′ image′ r h.
+          let room = length table in
           is-numbered (assembling present source room (length image)) (answerMeant r) (h .answer) (assembling-numbered present source room (length image));
       opening-numbered = λ image r h. is-opening image (openedMeant image r) h;
       listing-numbered = λ image text text′ r h. is-listing (listing image (length text)) (listingMeant r) (h .answer) (listing-numbered image (length text));
-      image-kept = λ source starts lengths addresses image starts′ lengths′ addresses′ image′ r h k.
-          image-left source image image′ (assembling present source (roomOf starts lengths addresses) (length image)) (answerMeant r) (h .answer) (h .image-holds) k;
-      table-holds = λ source starts lengths addresses image starts′ lengths′ addresses′ image′ r h.
-          let a = assembling present source (roomOf starts lengths addresses) (length image) in
+      image-kept = λ source table image table′ image′ r h k.
+          image-left source image image′ (assembling present source (length table) (length image)) (answerMeant r) (h .answer) (h .image-holds) k;
+      table-holds = λ source table image table′ image′ r h.
+          let a = assembling present source (length table) (length image) in
           record {
             as-many = labels-entered a (answerMeant r) (h .answer);
-            starts-ahead = h .table .starts-hold;
-            lengths-ahead = h .table .lengths-hold;
-            addresses-ahead = h .table .addresses-hold;
+            ahead = h .table-holds;
           };
       text-kept = λ image text text′ r h k. text-left text text′ (listing image (length text)) (listingMeant r) (h .answer) (h .text) k;
     }

@@ -70,6 +70,6 @@ present-naming =
       numbered = λ n l. number-is n (tokenOf present Register (114 ∷ decimal n)) (below (λ n. isNumberOf n (tokenOf present Register (114 ∷ decimal n))) 16 present-numbered n l);
     }
 
-pub present-set : NameSet
+unfoldable pub present-set : NameSet
 unfolding keys computing
 present-set = record { names = present; naming = present-naming; mnemonics-free = refl; keys-free = refl }

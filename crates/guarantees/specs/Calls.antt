@@ -5,7 +5,7 @@ use Prim.Native.Nat.{ℕ, _≤_}
 use mathlib.Core.Path.{_≡_}
 use mathlib.Core.Logic.{_↔_, _⊎_}
 use mathlib.Core.List.{List, map}
-use lib.ListN.{length}
+use lib.ListN.{length, take}
 use Rattle.text.specs.Bytes.{Result, value, refused}
 use Rattle.text.specs.Names.{present}
 use Rattle.image.specs.Assembling.{Label, assembling}
@@ -14,11 +14,16 @@ use Rattle.image.specs.Listing.{textOf}
 use Rattle.image.specs.Meaning.{instructionsOf, settingsOf, imageOf, Accepted, Listed}
 use Rattle.image.specs.Lent.{over, Answer, assembled, refusal, entered, ListAnswer, listed, unlisted}
 use Rattle.image.specs.Contracts.{openedMeant}
-use Rattle.assembling.specs.Contracts.{answerMeant, roomOf, Assembles}
+use Rattle.labels.specs.Contracts.{entryOf}
+use Rattle.passes.specs.Contracts.{answerMeant}
+use Rattle.assembling.specs.Contracts.{Assembles}
 use Rattle.listing.specs.Contracts.{listingMeant, Lists}
-use Rattle.assembling.specs.declared.assembler.Assembled.{Assembled}
+use Rattle.labels.specs.declared.label.Label.{Label as Entry}
+use Rattle.passes.specs.declared.second_pass.Assembled.{Assembled}
 use Rattle.image.specs.declared.program.Opened.{Opened}
 use Rattle.listing.specs.declared.disassembler.Listing.{Listing}
+use Rattle.guarantees.specs.NameSets.{NameSet}
+use Rattle.guarantees.specs.Promises.{AreBytes}
 
 -- "1 source over 1,048,576 bytes", and so on to "23 image buffer too short".
 abbrev pub Numbered : ℕ → Type 0
@@ -55,40 +60,46 @@ labelCount (assembled words labels s) = labels
 labelCount (refusal number rust-line true-line labels needed) = labels
 
 -- The label table holds labels, as many as the answer says, ahead of its untouched entries.
-pub record TableHolds (labels : List Label) (count : ℕ) (starts lengths addresses starts′ lengths′ addresses′ : List ℕ) : Type 0 where
+pub record TableHolds (labels : List Label) (count : ℕ) (table table′ : List Entry) : Type 0 where
   pub as-many : length labels ≡ count
-  pub starts-ahead : starts′ ≡ over (map (λ l. l .start) labels) starts
-  pub lengths-ahead : lengths′ ≡ over (map (λ l. length (l .spelling)) labels) lengths
-  pub addresses-ahead : addresses′ ≡ over (map (λ l. l .address) labels) addresses
+  pub ahead : table′ ≡ over (map entryOf labels) table
 
 pub record Demand1 : Type 0 where
   -- The answer to a call is a finished result or one numbered refusal.
-  pub numbered : (source starts lengths addresses image starts′ lengths′ addresses′ image′ : List ℕ) (r : Assembled)
-      → Assembles source starts lengths addresses image starts′ lengths′ addresses′ image′ r → IsNumbered (answerMeant r)
+  pub numbered : (source : List ℕ) (table : List Entry) (image : List ℕ) (table′ : List Entry) (image′ : List ℕ) (r : Assembled)
+      → Assembles source table image table′ image′ r → IsNumbered (answerMeant r)
   pub opening-numbered : (image : List ℕ) (r : Opened) → openedMeant image r ≡ opening image → IsOpening (openedMeant image r)
   pub listing-numbered : (image text text′ : List ℕ) (r : Listing) → Lists image text text′ r → IsListing (listingMeant r)
   -- After a refusal the image buffer holds what it held before.
-  pub image-kept : (source starts lengths addresses image starts′ lengths′ addresses′ image′ : List ℕ) (r : Assembled)
-      → Assembles source starts lengths addresses image starts′ lengths′ addresses′ image′ r → IsRefusal (answerMeant r) → image′ ≡ image
+  pub image-kept : (source : List ℕ) (table : List Entry) (image : List ℕ) (table′ : List Entry) (image′ : List ℕ) (r : Assembled)
+      → Assembles source table image table′ image′ r → IsRefusal (answerMeant r) → image′ ≡ image
   -- After every call the label table holds the labels entered so far, ahead of its untouched entries.
-  pub table-holds : (source starts lengths addresses image starts′ lengths′ addresses′ image′ : List ℕ) (r : Assembled)
-      → Assembles source starts lengths addresses image starts′ lengths′ addresses′ image′ r
-      → TableHolds (entered (assembling present source (roomOf starts lengths addresses) (length image))) (labelCount (answerMeant r)) starts lengths addresses starts′ lengths′ addresses′
+  pub table-holds : (source : List ℕ) (table : List Entry) (image : List ℕ) (table′ : List Entry) (image′ : List ℕ) (r : Assembled)
+      → Assembles source table image table′ image′ r
+      → TableHolds (entered (assembling present source (length table) (length image))) (labelCount (answerMeant r)) table table′
   -- After a refusal the text buffer holds what it held before.
   pub text-kept : (image text text′ : List ℕ) (r : Listing) → Lists image text text′ r → IsUnlisted (listingMeant r) → text′ ≡ text
 
 -- What demand 3 speaks of is what calls do: a call is not refused exactly when its source is accepted, or its image listed, and then
 -- it answers and fills what is read off source and image.
 pub record Calls : Type 0 where
-  pub accepted-call : (source starts lengths addresses image starts′ lengths′ addresses′ image′ : List ℕ) (r : Assembled)
-      → Assembles source starts lengths addresses image starts′ lengths′ addresses′ image′ r
-      → (IsRefusal (answerMeant r) → ⊥) ↔ Accepted present source (roomOf starts lengths addresses) (length image)
-  pub fills-image : (source starts lengths addresses image starts′ lengths′ addresses′ image′ : List ℕ) (r : Assembled)
-      → Assembles source starts lengths addresses image starts′ lengths′ addresses′ image′ r
-      → Accepted present source (roomOf starts lengths addresses) (length image)
-      → (answerMeant r ≡ assembled (length (instructionsOf present source)) (labelCount (answerMeant r)) (settingsOf present source))
+  -- The names that calls read by are one of the sets that demand 3 ranges over.
+  pub present-is : (N : NameSet) × (N .names ≡ present)
+  pub accepted-call : (source : List ℕ) (table : List Entry) (image : List ℕ) (table′ : List Entry) (image′ : List ℕ) (r : Assembled)
+      → Assembles source table image table′ image′ r
+      → (IsRefusal (answerMeant r) → ⊥) ↔ Accepted present source (length table) (length image)
+  pub fills-image : (source : List ℕ) (table : List Entry) (image : List ℕ) (table′ : List Entry) (image′ : List ℕ) (r : Assembled)
+      → Assembles source table image table′ image′ r
+      → Accepted present source (length table) (length image)
+      → (answerMeant r
+      ≡ assembled (length (instructionsOf present source)) (length (entered (assembling present source (length table) (length image)))) (settingsOf present source))
       × (image′ ≡ over (imageOf present source) image)
   pub listed-call : (image text text′ : List ℕ) (r : Listing) → Lists image text text′ r
       → (IsUnlisted (listingMeant r) → ⊥) ↔ Listed image (length text)
   pub fills-text : (image text text′ : List ℕ) (r : Listing) → Lists image text text′ r → Listed image (length text)
       → (listingMeant r ≡ listed (length (textOf image))) × (text′ ≡ over (textOf image) text)
+  -- The text that a call has written for bytes, given to another call, is assembled to those bytes, with any label table and any image
+  -- buffer no shorter than they are.
+  pub text-again : (bs text text′ : List ℕ) (r : Listing) → AreBytes bs → Lists bs text text′ r → (IsUnlisted (listingMeant r) → ⊥)
+      → (table : List Entry) (image : List ℕ) (table′ : List Entry) (image′ : List ℕ) (r′ : Assembled) → length bs ≤ length image
+      → Assembles (take (length (textOf bs)) text′) table image table′ image′ r′ → (IsRefusal (answerMeant r′) → ⊥) × (image′ ≡ over bs image)

@@ -15,7 +15,6 @@ use Rattle.coding.specs.Contracts.{put, Written}
 use Rattle.coding.proofs.Writing.{put-none, written-byte, written-append}
 use Rattle.image.specs.Settings.{settingsFault}
 use Rattle.image.specs.Program.{Header, magic, version, header-size, numberAt, headerOf, codeOf, dataOf}
-use Rattle.image.specs.Lent.{over}
 use Rattle.image.specs.Opening.{headerFault, openingFault, opening}
 use Rattle.image.specs.Contracts.{headerMeant, openedMeant}
 use Rattle.image.specs.declared.program.ProgramHeader.{ProgramHeader}
@@ -78,11 +77,6 @@ little-four v h =
     let a : v / 65536 % 256 ≡ v / 256 / 256 % 256 = omega arith in
     let b : v / 16777216 ≡ v / 256 / 256 / 256 % 256 = omega arith in
     ap₂ (λ (x y : ℕ). v % 256 ∷ v / 256 % 256 ∷ x ∷ y ∷ []) a b
-
--- A text that is written at the front of a buffer.
-pub written-over : {old : List ℕ} {s : List ℕ} {q : ℕ} {new : List ℕ} → Written old 0 s q new → new ≡ over s old
-unfolding put over
-written-over {old} {s} w = let e : 0 + length s ≡ length s = omega arith in w .holds ∙ ap (λ (n : ℕ). s ++ drop n old) e
 
 -- ---- bytes read
 

@@ -8,3 +8,4 @@ pub mod Round
 pub mod Fitting
 pub mod Checks
 pub mod Heads
+pub mod Over

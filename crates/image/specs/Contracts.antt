@@ -54,7 +54,7 @@ headerMeant h =
       stack-size = h .«stack_size»;
     }
 
--- The bytes of settings in a header, and of no flags.
+-- The bytes of settings in a header, and that of the flags, 0.
 abbrev pub settingBytes : Settings → List ℕ
 settingBytes s = s .limb-bits ∷ s .data-limbs ∷ s .addr-limbs ∷ 0 ∷ []
 

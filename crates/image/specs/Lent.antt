@@ -1,7 +1,7 @@
 -- What a call answers, and what it leaves in the slices that are lent to it. Quotations are document 01's.
 use Prim.Native.Nat.{ℕ}
 use mathlib.Core.Option.{Option}
-use mathlib.Core.List.{List, _++_, map}
+use mathlib.Core.List.{List, _++_}
 use lib.ListN.{length, drop}
 use Rattle.text.specs.Names.{Name}
 use Rattle.image.specs.Settings.{Settings}
@@ -25,22 +25,10 @@ unfoldable pub answerOf : Assembled → Answer
 answerOf (accepted st) = assembled (length (st .instructions)) (length (st .labels)) (st .setup)
 answerOf (rejected r) = refusal (r .number) (r .rust-line) (r .true-line) (length (r .labels)) (r .needed)
 
--- "entries of start, length, address"
-pub record Entry : Type 0 where
-  pub start : ℕ
-  pub size : ℕ
-  pub address : ℕ
-
-unfoldable pub entryOf : Label → Entry
-entryOf l = record { start = l .start; size = length (l .spelling); address = l .address }
-
+-- The labels entered so far, after a refusal too: "Labels stand in the order entered".
 unfoldable pub entered : Assembled → List Label
 entered (accepted st) = st .labels
 entered (rejected r) = r .labels
-
--- "Labels stand in the order entered", after a refusal too.
-unfoldable pub tableAfter : Assembled → List Entry → List Entry
-tableAfter a old = over (map entryOf (entered a)) old
 
 -- After a refusal the image buffer holds what it held before (demand 1).
 unfoldable pub imageAfter : List Name → List ℕ → Assembled → List ℕ → List ℕ

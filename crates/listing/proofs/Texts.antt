@@ -151,7 +151,7 @@ pub record Measuring (b : List ℕ) (n at : ℕ) : Type 0 where
   pub words : length (wordsOf (drop 32 b)) ≡ stands .count + length (wordsOf (drop at b))
   pub fault : wordsFault 0 (wordsOf (drop 32 b)) ≡ wordsFault (stands .count) (wordsOf (drop at b))
   pub size : length (flatMap wordText (wordsOf (drop 32 b))) ≡ n + length (flatMap wordText (wordsOf (drop at b)))
-  pub most : n ≤ 76 * stands .count
+  pub most : n ≤ 40 * stands .count
 
 -- Nothing is measured at first,
 pub measuring-none : (b : List ℕ) → WholeWords b → Measuring b 0 32
@@ -163,7 +163,7 @@ module _ {b : List ℕ} {n at : ℕ} (m : Measuring b n at) (c : WholeWords b) (
   next-word = words-from b at (room-for-word (m .stands) c more)
 
   -- an instruction's word is measured
-  pub measuring-more : (k : ℕ) → lineLength (instructionOf (numberAt at 4 b)) ≡ value k → k ≤ 76 → Measuring b (n + k) (at + 4)
+  pub measuring-more : (k : ℕ) → lineLength (instructionOf (numberAt at 4 b)) ≡ value k → k ≤ 40 → Measuring b (n + k) (at + 4)
   unfolding wordsFault flatMap
   measuring-more k h small =
       let w = numberAt at 4 b in

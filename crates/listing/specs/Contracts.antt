@@ -35,7 +35,7 @@ pub record WholeWords (b : List ℕ) : Type 0 where
 
 -- The lengths of the lines of all words, added; or the first faulty word.
 abbrev pub Measures : List ℕ → Measured → Type 0
-Measures ws (IsMeasured n) = (wordsFault 0 ws ≡ none) × (n ≡ length (flatMap wordText ws)) × (n ≤ 76 * length ws)
+Measures ws (IsMeasured n) = (wordsFault 0 ws ≡ none) × (n ≡ length (flatMap wordText ws)) × (n ≤ 40 * length ws)
 Measures ws (FaultyWord n i) = wordsFault 0 ws ≡ some (refusal n (some i) none)
 
 -- An image that is refused, if at all, for one of its words; and its settings.

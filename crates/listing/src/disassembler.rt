@@ -61,7 +61,7 @@ fn is_usual(header: ProgramHeader) -> bool
 // The length of a word's line: 30, 31.
 fn word_length(word: u32, mnemonics: &[u64; 50], forms: &[u8; 50]) -> WordLength
     requires { ⌜ now mnemonics ≡ mnemonicKeys ⌝ ∗ ⌜ now forms ≡ formNumbers ⌝ }
-    ensures { λ r. ⌜ lengthMeant r ≡ lineLength (instructionOf word) ⌝ ∗ ⌜ ((n : ℕ) → r ≡ WordLength.Is n → n ≤ 76) ⌝ }
+    ensures { λ r. ⌜ lengthMeant r ≡ lineLength (instructionOf word) ⌝ ∗ ⌜ ((n : ℕ) → r ≡ WordLength.Is n → n ≤ 40) ⌝ }
 {
     match coding::encoder::decode(word, forms) {
         Decoded::Refused(n) => WordLength::Refused(n),

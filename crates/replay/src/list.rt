@@ -1,8 +1,11 @@
 // Reading a list: records, and in a record a line of text and numbers. A place past the list's end holds 0.
-ghost use Prim.Native.Nat.{_≤_, _<_};
+ghost use Prim.Native.Nat.{_+_, _*_, _≤_, _<_};
 ghost use lib.ListN.{length, take};
+ghost use lib.Seq.{sets};
+ghost use mathlib.Core.List.{[], _∷_, _++_};
 ghost use mathlib.Core.Path.{_≡_};
-use std::num::wrapping_add_u64;
+ghost use Rattle.replay.specs.List.{byteAt, hasTag, isRecordEnd, nextRecord, digitValue, fitted, numberAt};
+ghost use Rattle.replay.specs.List.{hexDigit, hexByteAt, unescapedAt, lineFor, pieceFor};
 use std::num::wrapping_add_usize;
 
 // A number, and the place behind the byte that ends it.
@@ -24,27 +27,31 @@ pub struct Spelled {
     pub next: usize,
 }
 
-pub fn byte_at(list: &[u8], at: usize) -> u8 {
+pub fn byte_at(list: &[u8], at: usize) -> u8
+    ensures { λ r. ⌜ r ≡ byteAt (now (list .entry)) at ⌝ }
+{
     if at < list.len() { list[at] } else { 0 }
 }
 
 // Whether a line with this tag stands at a place.
-pub fn has_tag(list: &[u8], at: usize, tag: u8) -> bool {
+pub fn has_tag(list: &[u8], at: usize, tag: u8) -> bool
+    ensures { λ r. ⌜ r ≡ hasTag (now (list .entry)) at tag ⌝ }
+{
     byte_at(list, at) == tag && byte_at(list, wrapping_add_usize(at, 1)) == b' '
 }
 
 // Whether a record ends before a place: at an empty line, or at the list's end, but not where it was read past that.
-pub fn is_record_end(list: &[u8], at: usize) -> bool {
-    if at < list.len() {
-        list[at] == b'\n'
-    } else {
-        at == list.len()
-    }
+pub fn is_record_end(list: &[u8], at: usize) -> bool
+    ensures { λ r. ⌜ r ≡ isRecordEnd (now (list .entry)) at ⌝ }
+{
+    byte_at(list, at) == b'\n' || at == list.len()
 }
 
-// Where the next record begins: behind an empty line.
+// Where the next record begins: behind an empty line. The second promise follows from the first, and is what a loop over records
+// asks for.
 pub fn next_record(list: &[u8], from: usize) -> usize
     requires { ⌜ from < length (now list) ⌝ }
+    ensures { λ r. ⌜ r ≡ nextRecord (now (list .entry)) from ⌝ }
     ensures { λ r. ⌜ from < r ⌝ }
 {
     let mut last = 0;
@@ -60,13 +67,15 @@ pub fn next_record(list: &[u8], from: usize) -> usize
     at
 }
 
-pub fn wide(x: u8) -> u64 {
+pub fn wide(x: u8) -> u64
+    ensures { λ r. ⌜ r ≡ x ⌝ }
+{
     x as u64
 }
 
 // The value of a digit, and 16 for what is none.
 fn digit_value(b: u8) -> u8
-    ensures { λ r. ⌜ r ≤ 16 ⌝ }
+    ensures { λ r. ⌜ r ≡ digitValue b ⌝ }
 {
     match b {
         b'0'..=b'9' => b - b'0',
@@ -75,30 +84,34 @@ fn digit_value(b: u8) -> u8
     }
 }
 
-// A number with a digit behind it; the list's numbers are below 2^64.
-fn extended(value: u64, digit: u8, is_hex: bool) -> u64 {
-    if is_hex {
-        if 0xFFFFFFFFFFFFFFF < value {
-            return 0;
-        }
-        return wrapping_add_u64(value * 16, wide(digit));
+// A number with a digit behind it; the largest of 64 bits where that does not fit.
+fn extended(value: u64, radix: u64, digit: u64) -> u64
+    requires { ⌜ 0 < radix ⌝ }
+    ensures { λ r. ⌜ r ≡ fitted (value * radix + digit) ⌝ }
+{
+    let most: u64 = 0xFFFF_FFFF_FFFF_FFFF;
+    if most / radix < value {
+        return most;
     }
-    if 1844674407370955161 < value {
-        return 0;
+    let shifted = value * radix;
+    if most - shifted < digit {
+        return most;
     }
-    wrapping_add_u64(value * 10, wide(digit))
+    shifted + digit
 }
 
-fn number_in(list: &[u8], from: usize, is_hex: bool) -> Number {
-    let radix = if is_hex { 16 } else { 10 };
+fn number_in(list: &[u8], from: usize, radix: u64) -> Number
+    requires { ⌜ 0 < radix ⌝ }
+    ensures { λ r. ⌜ r ≡ numberAt radix (now (list .entry)) from ⌝ }
+{
     let mut value: u64 = 0;
     let mut at = from;
     while at < list.len() {
-        let digit = digit_value(list[at]);
+        let digit = wide(digit_value(list[at]));
         if radix <= digit {
             break;
         }
-        value = extended(value, digit, is_hex);
+        value = extended(value, radix, digit);
         at += 1;
     }
     Number {
@@ -107,16 +120,21 @@ fn number_in(list: &[u8], from: usize, is_hex: bool) -> Number {
     }
 }
 
-pub fn number_at(list: &[u8], from: usize) -> Number {
-    number_in(list, from, false)
+pub fn number_at(list: &[u8], from: usize) -> Number
+    ensures { λ r. ⌜ r ≡ numberAt 10 (now (list .entry)) from ⌝ }
+{
+    number_in(list, from, 10)
 }
 
 // A number in hex, lower case.
-pub fn hex_at(list: &[u8], from: usize) -> Number {
-    number_in(list, from, true)
+pub fn hex_at(list: &[u8], from: usize) -> Number
+    ensures { λ r. ⌜ r ≡ numberAt 16 (now (list .entry)) from ⌝ }
+{
+    number_in(list, from, 16)
 }
 
 fn hex_digit(b: u8) -> u8
+    ensures { λ r. ⌜ r ≡ hexDigit b ⌝ }
     ensures { λ r. ⌜ r < 16 ⌝ }
 {
     let value = digit_value(b);
@@ -124,7 +142,9 @@ fn hex_digit(b: u8) -> u8
 }
 
 // A byte of two digits in hex, lower case.
-pub fn hex_byte_at(list: &[u8], at: usize) -> Spelled {
+pub fn hex_byte_at(list: &[u8], at: usize) -> Spelled
+    ensures { λ r. ⌜ r ≡ hexByteAt (now (list .entry)) at ⌝ }
+{
     let high = hex_digit(byte_at(list, at));
     let low = hex_digit(byte_at(list, wrapping_add_usize(at, 1)));
     Spelled {
@@ -134,7 +154,9 @@ pub fn hex_byte_at(list: &[u8], at: usize) -> Spelled {
 }
 
 // A byte that stands for itself, or is escaped.
-pub fn unescaped_at(list: &[u8], at: usize) -> Spelled {
+pub fn unescaped_at(list: &[u8], at: usize) -> Spelled
+    ensures { λ r. ⌜ r ≡ unescapedAt (now (list .entry)) at ⌝ }
+{
     let byte = byte_at(list, at);
     let next = wrapping_add_usize(at, 1);
     if byte == b'\\' {
@@ -144,9 +166,11 @@ pub fn unescaped_at(list: &[u8], at: usize) -> Spelled {
 }
 
 // Puts a record's line into the room, behind two bytes that it leaves, and byte 10 behind it. A line that is too long is cut,
-// and then differs. The second promise follows from the first, and is what `&room[..end]` asks for.
+// and then differs. The last two promises follow from the others, and are what a use of the line asks for, as `&room[..end]`.
 pub fn line_at(list: &[u8], from: usize, room: &mut [u8]) -> Piece
     requires { ⌜ 2 < length (now room) ⌝ }
+    ensures { λ r. ⌜ r ≡ pieceFor (length (now (room .entry))) (now (list .entry)) from ⌝ }
+    ensures { λ _. ⌜ now (room .exit) ≡ sets (now (room .entry)) 2 (lineFor (length (now (room .entry))) (now (list .entry)) from ++ (10 ∷ [])) ⌝ }
     ensures { λ r. ⌜ (r .start ≤ r .end) × (r .end < length (now (room .exit))) ⌝ }
     ensures { λ r. ⌜ r .end ≡ length (take (r .end) (now (room .exit))) ⌝ }
 {

@@ -1,8 +1,13 @@
-// Counts, and how they are written.
+// Counts, and how they are written. A function that writes promises nothing: no contract can say what the C library moves.
+ghost use mathlib.Core.Path.{_≡_};
+ghost use lib.ListN.{replicate};
+ghost use Rattle.replay.specs.Tally.{oneMore, counted};
 use std::num::wrapping_add_u64;
 
 // No run counts to 2^64.
-pub fn more(n: u64) -> u64 {
+pub fn more(n: u64) -> u64
+    ensures { λ r. ⌜ r ≡ oneMore n ⌝ }
+{
     wrapping_add_u64(n, 1)
 }
 
@@ -23,14 +28,18 @@ pub struct Refusals {
 }
 
 impl Refusals {
-    pub fn new() -> Refusals {
+    pub fn new() -> Refusals
+        ensures { λ r. ⌜ r ≡ record { counts = replicate 33 0 } ⌝ }
+    {
         Refusals { counts: [0u64; 33] }
     }
 
-    pub fn with(mut self, number: u64) -> Refusals {
+    pub fn with(mut self, number: u64) -> Refusals
+        ensures { λ r. ⌜ r ≡ record { counts = counted (self .counts) number } ⌝ }
+    {
+        let mut counts = self.counts;
         let at = number as usize;
         if at < 33 {
-            let mut counts = self.counts;
             counts[at] = more(counts[at]);
             self.counts = counts;
         }

@@ -10,3 +10,4 @@ pub mod Values
 pub mod Fronts
 pub mod Stepping
 pub mod Recording
+pub mod Within

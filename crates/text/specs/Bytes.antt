@@ -59,7 +59,7 @@ nameStart b = letter b || eqb b 95
 unfoldable pub namePart : ℕ → Bool
 namePart b = nameStart b || digit b
 
--- A byte above 127 is refused by 2.
+-- A byte that is not above 127: "2 a byte above 127".
 unfoldable pub ascii : ℕ → Bool
 ascii b = leb b 127
 

@@ -32,6 +32,7 @@ use Rattle.text.specs.declared.parser.RegisterName.the-variants.{Is, NoS
 use Rattle.text.specs.declared.parser.Extracted.{Extracted}
 use Rattle.text.specs.declared.parser.Extracted.the-variants.{Number as Extract, NoNumber}
 use Rattle.text.specs.declared.parser.Line.{Line}
+use Rattle.text.specs.declared.reader.Reader.{Reader}
 
 -- ---- classes and runs
 
@@ -212,6 +213,18 @@ pub record Stepped (s : List ℕ) (from : ℕ) (r : Scan) : Type 0 where
   pub finds : Finds s (past s from) r
   pub means : tokens present (leftAt s from) ≡ after s r
   pub leads : Leads s from r
+
+-- ---- the reader
+
+-- Where it reads on: behind a token, and else where it was.
+abbrev pub placeAfter : Scan → ℕ → ℕ
+placeAfter (Found t next) from = next
+placeAfter Bad from = from
+placeAfter (End e) from = from
+
+-- What it holds once it has answered.
+abbrev pub moved : Reader → Scan → Reader
+moved d r = record { line = d .line; position = placeAfter r (d .position) }
 
 -- ---- the record of a line
 

@@ -3,4 +3,5 @@ pub mod bytes;
 pub mod lexer;
 pub mod number;
 pub mod parser;
+pub mod reader;
 pub mod register;

@@ -145,7 +145,7 @@ pub fn tokenize(text: &[u8], from: usize) -> Line
     let mut count: usize = 0;
     let mut at = crate::bytes::run_end(text, from, Class::Margin);
     loop {
-        match crate::lexer::next_token(text, at) {
+        match crate::reader::token_at(text, at) {
             Scan::End(stop) => {
                 let end = crate::bytes::run_end(text, stop, Class::Inside);
                 return Line {

@@ -1,19 +1,27 @@
 // What is called of the crates under test, and its answers as the list has them.
+ghost use Prim.Native.Nat.{_≤_};
 use crate::answer::Answer;
 use crate::answer::Header;
 use crate::answer::Text;
 use crate::record::Label;
-use assembling::assembler::Assembled;
 use image::config::Config;
 use image::program::Opened;
 use image::program::ProgramHeader;
+use labels::label::Label as Entry;
 use listing::disassembler::Listing;
+use passes::second_pass::Assembled;
 
 // What stands in an entry of the table before it is lent: no start, length or address of a label.
-const FILLER: u32 = 0xA5A5A5A5;
+const FILLER: u64 = 0xA5A5A5A5A5A5A5A5;
 
 // How many entries the table has; eight of them are never lent.
 const ENTRIES: usize = 1032;
+
+// What assembling answers, and the whole table afterwards.
+struct Asked {
+    assembled: Assembled,
+    table: [Entry; 1032],
+}
 
 fn long(x: u32) -> u64 {
     x as u64
@@ -68,29 +76,23 @@ fn entry_at(list: &[u8], at: usize, is_entered: bool) -> Label {
         return crate::record::label_at(list, at);
     }
     Label {
-        start: long(FILLER),
-        length: long(FILLER),
-        address: long(FILLER),
+        start: FILLER,
+        length: FILLER,
+        address: FILLER,
         next: at,
     }
 }
 
 // Whether the table has the first `count` labels of the list at `at`, and nothing else was entered.
-fn has_labels(
-    starts: &[u32; 1032],
-    lengths: &[u32; 1032],
-    addresses: &[u32; 1032],
-    list: &[u8],
-    at: usize,
-    count: u64,
-) -> bool {
+fn has_labels(table: [Entry; 1032], list: &[u8], at: usize, count: u64) -> bool {
     let mut next = at;
     let mut i: usize = 0;
     while i < ENTRIES {
+        let held = table[i];
         let entry = entry_at(list, next, (i as u64) < count);
-        if long(starts[i]) != entry.start
-            || long(lengths[i]) != entry.length
-            || long(addresses[i]) != entry.address
+        if held.start as u64 != entry.start
+            || held.length as u64 != entry.length
+            || held.address != entry.address
         {
             return false;
         }
@@ -100,29 +102,40 @@ fn has_labels(
     true
 }
 
-// Whether a source is answered so with a table of `table` entries, and the table then has the list's labels from `at` on.
+fn blank_table() -> [Entry; 1032] {
+    let blank = Entry {
+        start: FILLER as usize,
+        length: FILLER as usize,
+        address: FILLER,
+    };
+    [blank; 1032]
+}
+
+// Assembles with the first `room` entries of a table.
+fn ask(source: &[u8], room: usize, image: &mut [u8]) -> Asked
+    requires { ⌜ room ≤ 1032 ⌝ }
+{
+    let mut table = blank_table();
+    let assembled = assembling::assembler::assemble(source, &mut table[..room], image);
+    Asked { assembled, table }
+}
+
+// Whether a source is answered so with a table of `room` entries, and the table then has the list's labels from `at` on.
 pub(crate) fn is_assembled(
     source: &[u8],
-    table: usize,
+    room: usize,
     image: &mut [u8],
     wanted: Answer,
     list: &[u8],
     at: usize,
 ) -> bool {
-    if ENTRIES < table {
+    if ENTRIES < room {
         return false;
     }
-    let mut starts = [FILLER; 1032];
-    let mut lengths = [FILLER; 1032];
-    let mut addresses = [FILLER; 1032];
-    let answer = answer_of(assembling::assembler::assemble(
-        source,
-        &mut starts[..table],
-        &mut lengths[..table],
-        &mut addresses[..table],
-        image,
-    ));
-    answer.is(wanted) && has_labels(&starts, &lengths, &addresses, list, at, wanted.labels)
+    let asked = ask(source, room, image);
+    let assembled = asked.assembled;
+    let table = asked.table;
+    answer_of(assembled).is(wanted) && has_labels(table, list, at, wanted.labels)
 }
 
 fn header_of(header: ProgramHeader) -> Header {

@@ -26,7 +26,7 @@ use Rattle.listing.specs.Contracts.{Lists}
 use Rattle.image.specs.Zkasm.{most-input, table-room, image-room, refusalText, outputOf, programOutput}
 use Rattle.listing.specs.declared.disassembler.Listing.the-variants.{Is}
 use Rattle.image.proofs.Images.{image-length}
-use Rattle.assembling.proofs.Labels.{take-over, length-over}
+use Rattle.image.proofs.Over.{take-over, length-over}
 use Rattle.image.proofs.Walking.{MeansIf, reading-means}
 use Rattle.zkasm.specs.Contracts.{Prints}
 use Rattle.zkasm.proofs.Rooms.{never-23}

@@ -6,12 +6,12 @@ use lib.ListN.{length, take}
 use Rattle.text.specs.Names.{present}
 use Rattle.image.specs.Assembling.{assembling}
 use Rattle.image.specs.Lent.{over, answerOf, imageAfter}
-use Rattle.assembling.specs.Contracts.{answerMeant}
 use Rattle.image.specs.Zkasm.{table-room}
-use Rattle.assembling.specs.declared.assembler.Assembled.{Assembled}
+use Rattle.passes.specs.Contracts.{answerMeant}
+use Rattle.passes.specs.declared.second_pass.Assembled.{Assembled}
 
 -- Assembling an input with the program's label table.
-pub record Assembles (input old new : List ℕ) (r : Assembled) : Type 0 where
+pub record AssemblesInput (input old new : List ℕ) (r : Assembled) : Type 0 where
   pub answer : answerMeant r ≡ answerOf (assembling present input table-room (length old))
   pub image-holds : new ≡ imageAfter present input (assembling present input table-room (length old)) old
 

@@ -4,9 +4,10 @@ ghost use Prim.Native.Nat.{_≤_};
 ghost use lib.ListN.{length};
 ghost use Rattle.image.specs.Listing.{textOf, written, listing};
 ghost use Rattle.image.specs.Zkasm.{most-input, image-room, text-room, refusalText, programOutput};
-ghost use Rattle.zkasm.specs.Contracts.{Assembles, Prints};
-use assembling::assembler::Assembled;
+ghost use Rattle.zkasm.specs.Contracts.{AssemblesInput, Prints};
+use labels::label::Label;
 use listing::disassembler::Listing;
+use passes::second_pass::Assembled;
 
 // `refused N line L`
 fn write_refusal(out: &mut [u8], number: u8, line: usize) -> usize
@@ -32,14 +33,21 @@ fn write_listing(image: &[u8], out: &mut [u8]) -> usize
     }
 }
 
+fn blank_table() -> [Label; 1024] {
+    let blank = Label {
+        start: 0,
+        length: 0,
+        address: 0,
+    };
+    [blank; 1024]
+}
+
 // An input assembled, with a table of 1,024 labels.
 fn assemble(input: &[u8], image: &mut [u8]) -> Assembled
-    ensures { λ r. ⌜ Assembles (now (input .entry)) (now (image .entry)) (now (image .exit)) r ⌝ }
+    ensures { λ r. ⌜ AssemblesInput (now (input .entry)) (now (image .entry)) (now (image .exit)) r ⌝ }
 {
-    let mut starts = [0u32; 1024];
-    let mut lengths = [0u32; 1024];
-    let mut addresses = [0u32; 1024];
-    assembling::assembler::assemble(input, &mut starts, &mut lengths, &mut addresses, image)
+    let mut table = blank_table();
+    assembling::assembler::assemble(input, &mut table, image)
 }
 
 // What is printed for an input that is not too long, by way of an image buffer.

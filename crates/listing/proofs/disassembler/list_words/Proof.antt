@@ -12,7 +12,7 @@ use Rattle.image.specs.Contracts.{settingsMeant}
 use Rattle.listing.specs.Contracts.{Measures}
 use Rattle.listing.specs.declared.disassembler.Listing.the-variants.{Faulty}
 use Rattle.listing.specs.declared.disassembler.Measured.the-variants.{Is}
-use Rattle.image.proofs.Heads.{written-over}
+use Rattle.image.proofs.Over.{written-over}
 use Rattle.listing.proofs.Texts.{whole-words, lists-not, lists-short, lists-text, usual-text, usual-fault}
 use Rattle.listing.proofs.disassembler.list_words.Statement.{statement}
 use Rattle.listing.proofs.disassembler.list_words.Tie as tie

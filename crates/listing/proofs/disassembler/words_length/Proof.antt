@@ -50,8 +50,8 @@ returns c =
 enum-known-n : tie.Need-enum-known-n Inv-loop μ-loop
 enum-known-n c = search needs
 
--- and at most 76
-short : (c : tie.After-n Inv-loop μ-loop) → c .n .given .0 .0 ≤ 76
+-- and at most 40
+short : (c : tie.After-n Inv-loop μ-loop) → c .n .given .0 .0 ≤ 40
 short c = c .before .before .word-length .ensures .1 (c .n .given .0 .0) (c .n .given .1)
 
 add-length : tie.Need-add-length Inv-loop μ-loop

@@ -28,8 +28,8 @@ loop-holds c =
     let b = c .before .before .before in
     rw (c .before .filler .ensures) (reading-begin (b .args .text .now) (b .args .from) (c .run-end .result) (b .pre) (c .run-end .ensures))
 
-next-token-requires : tie.Need-next-token-requires Inv-loop μ-loop
-next-token-requires c κs = c .loop .inv .place
+token-at-requires : tie.Need-token-at-requires Inv-loop μ-loop
+token-at-requires c κs = c .loop .inv .place
 
 enum-known-stop : tie.Need-enum-known-stop Inv-loop μ-loop
 enum-known-stop c = search needs
@@ -37,7 +37,7 @@ enum-known-stop c = search needs
 -- the end of what is to be read
 stopped : (c : tie.After-stop Inv-loop μ-loop) → let b = c .before .before .before in
     Stepped (b .before .before .before .before .args .text .now) (b .loop .at) (End (c .stop .given .0 .0))
-stopped c = rw (c .stop .given .1) at (c .before .before .next-token .ensures)
+stopped c = rw (c .stop .given .1) at (c .before .before .token-at .ensures)
 
 run-end-requires-2 : tie.Need-run-end-requires-2 Inv-loop μ-loop
 run-end-requires-2 c κs = stopped (c .before) .leads .1
@@ -61,7 +61,7 @@ returns-2 c =
     let b = k .before .before .before in
     let a = b .before .before .before .before .args in
     rw (c .spoiled .ensures)
-    (reading-bad (a .text .now) (a .from) (b .loop .tokens) (b .loop .count) (b .loop .at) (b .loop .inv) (rw (k .enum-told .given .1) at (k .before .before .next-token .ensures)))
+    (reading-bad (a .text .now) (a .from) (b .loop .tokens) (b .loop .count) (b .loop .at) (b .loop .inv) (rw (k .enum-told .given .1) at (k .before .before .token-at .ensures)))
 
 enum-known-token : tie.Need-enum-known-token Inv-loop μ-loop
 enum-known-token c = search needs
@@ -69,7 +69,7 @@ enum-known-token c = search needs
 -- the token found, and the place behind it
 step : (c : tie.After-token Inv-loop μ-loop) → let b = c .before .before .before in
     Stepped (b .before .before .before .before .args .text .now) (b .loop .at) (Found (c .token .given .0 .0) (c .token .given .0 .1 .0))
-step c = rw (c .token .given .1) at (c .before .before .next-token .ensures)
+step c = rw (c .token .given .1) at (c .before .before .token-at .ensures)
 
 mul-tokens : tie.Need-mul-tokens Inv-loop μ-loop
 mul-tokens c = search needs
@@ -107,7 +107,7 @@ tokenize-spec =
     filler-requires
     run-end-requires
     loop-holds
-    next-token-requires
+    token-at-requires
     enum-known-stop
     run-end-requires-2
     returns

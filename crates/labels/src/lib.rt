@@ -1,0 +1,2 @@
+// The label table: a lent slice of labels.
+pub mod label;

@@ -1,0 +1,4 @@
+pub mod Steps
+pub mod Passes
+pub mod Scanning
+pub mod Answers

@@ -1,0 +1,50 @@
+-- `passes::line::read_label` meets its contract.
+use Prim.Native.Nat.{_<_}
+use mathlib.Core.Path.{_≡_, sym}
+use native.Mathlib.Omega.{arith}
+use mathlib.Core.List.{List}
+use lib.ListN.{length, getD}
+use borrow.Author.Needs.{needs}
+use Rattle.text.specs.Contracts.{filler}
+use Rattle.text.specs.declared.lexer.Kind.the-variants.{Identifier}
+use Rattle.text.specs.declared.lexer.Token.{Token}
+use Rattle.reading.proofs.Line.{getD-any}
+use Rattle.passes.proofs.Steps.{two-tokens, comes-label, comes-labelled}
+use Rattle.passes.proofs.line.read_label.Statement.{statement}
+use Rattle.passes.proofs.line.read_label.Tie as tie
+
+-- the token that the code reads
+first : (ts : List Token) → length ts ≡ 9 → getD ts 0 (record { kind = Identifier; start = 0; length = 0 }) ≡ getD ts 0 filler
+first ts n = getD-any ts 0 (record { kind = Identifier; start = 0; length = 0 }) filler (omega arith)
+
+array-copy-out-label : tie.Need-array-copy-out-label
+array-copy-out-label c = search needs
+
+returns : tie.Need-returns
+returns c =
+    let b = c .before .before .before .before .before in
+    let a = b .args in
+    let k = sym (b .pre .1 .1 .0) in
+    rw (first (a .line .tokens) (b .pre .0 .kept .nine))
+    (comes-label (a .source .now) (a .line) (a .words) (a .config) (b .pre .0) (two-tokens (a .source .now) (a .line .tokens) (a .line .count) _ k) k (c .if1 .taken))
+
+instruction-fault-requires : tie.Need-instruction-fault-requires
+instruction-fault-requires c κs = let p = c .before .before .before .before .before .pre in (p .0, (omega arith, p .1 .1 .1))
+
+add-t19 : tie.Need-add-t19
+add-t19 c = let h = c .before .before .before .before .before .before .pre .1 .0 in omega (arith, h)
+
+returns-2 : tie.Need-returns-2
+returns-2 c =
+    let e = c .before in
+    let b = e .before .before .before .before .before in
+    let a = b .args in
+    let k = sym (b .pre .1 .1 .0) in
+    let m = two-tokens (a .source .now) (a .line .tokens) (a .line .count) _ k in
+    let h : 2 < a .line .count = omega (arith, m, e .if1 .left) in
+    rw (first (a .line .tokens) (b .pre .0 .kept .nine))
+    (comes-labelled (a .source .now) (a .line) (a .words) (a .config) (b .pre .0) m k (c .instruction-fault .result) h (c .instruction-fault .ensures))
+
+pub read-label-spec : {M : Type 1} → statement M
+read-label-spec =
+    tie.close (tie.spec array-copy-out-label returns instruction-fault-requires add-t19 returns-2)

@@ -1,0 +1,228 @@
+// The first walk: from label to label it finds settings, the count of words and the first refusal. Entering the labels is left to the
+// caller, who holds the label table.
+ghost use mathlib.Core.Path.{_≡_};
+ghost use Prim.Native.Nat.{_≤_};
+ghost use lib.ListN.{length, take};
+ghost use Rattle.text.specs.Lines.{lines};
+ghost use Rattle.image.specs.Assembling.{rustLine};
+ghost use Rattle.image.specs.Contracts.{settingsMeant};
+ghost use Rattle.labels.specs.Contracts.{noLabel};
+ghost use Rattle.passes.specs.Contracts.{Tables, Sound, Stops, Ends, labelledPass, ScanFrom, Scans, Begins, GoesOn};
+use crate::line::Step;
+use image::config::Checked;
+use image::config::Config;
+use labels::label::Label;
+use text::bytes::Class;
+
+// Where the first walk stands: at a line whose label is to be entered, or at its end.
+pub struct Pass {
+    // whether a label is to be entered, and the label
+    pub found: bool,
+    pub label: Label,
+    // the labels entered before
+    pub labels: usize,
+    // what the line is refused for behind its label, or why the walk has ended
+    pub fault: Checked,
+    pub rust_line: usize,
+    pub line: usize,
+    // the words and settings up to the end of the line, and where it ends
+    pub words: usize,
+    pub config: Config,
+    pub end: usize,
+}
+
+// The number of the line that a place stands in.
+fn line_number(source: &[u8], place: usize) -> usize
+    requires { ⌜ place ≤ length (now source) ⌝ }
+    ensures { λ r. ⌜ r ≡ length (lines (take place (now (source .entry)))) ⌝ }
+{
+    let mut line: usize = 1;
+    let mut i: usize = 0;
+    while i < place {
+        if source[i] == b'\n' {
+            line += 1;
+        }
+        i += 1;
+    }
+    line
+}
+
+// The Rust's line of a refusal at a line.
+fn rust_line(number: u8, line: usize) -> usize
+    ensures { λ r. ⌜ r ≡ rustLine number line ⌝ }
+{
+    match number {
+        3 | 8 | 18 => 0,
+        _ => line,
+    }
+}
+
+fn no_label() -> Label
+    ensures { λ r. ⌜ r ≡ noLabel ⌝ }
+{
+    Label {
+        start: 0,
+        length: 0,
+        address: 0,
+    }
+}
+
+// The walk ends with a refusal.
+fn stopped(number: u8, rust_line: usize, line: usize, labels: usize) -> Pass
+    ensures { λ r. ⌜ Stops number «rust_line» line labels r ⌝ }
+{
+    Pass {
+        found: false,
+        label: no_label(),
+        labels,
+        fault: Checked::Refused(number),
+        rust_line,
+        line,
+        words: 0,
+        config: Config::begin(),
+        end: 0,
+    }
+}
+
+// The walk ends with the refusal of a line.
+fn stopped_at(number: u8, line: usize, labels: usize) -> Pass
+    ensures { λ r. ⌜ Stops number (rustLine number line) line labels r ⌝ }
+{
+    stopped(number, rust_line(number, line), line, labels)
+}
+
+// The walk ends behind the last line.
+fn finished(labels: usize, words: usize, config: Config) -> Pass
+    ensures { λ r. ⌜ Ends labels words config r ⌝ }
+{
+    Pass {
+        found: false,
+        label: no_label(),
+        labels,
+        fault: Checked::Good,
+        rust_line: 0,
+        line: 0,
+        words,
+        config,
+        end: 0,
+    }
+}
+
+// The walk goes on from the line that begins at `from` to the next label or the end.
+fn scan(
+    source: &[u8],
+    from: usize,
+    first: usize,
+    labels: usize,
+    before: usize,
+    settings: Config,
+    mnemonics: &[u64; 50],
+    forms: &[u8; 50],
+    slots: &[u8; 293],
+) -> Pass
+    requires { ⌜ ScanFrom (now source) from first labels before ⌝ ∗ ⌜ Tables (now mnemonics) (now forms) (now slots) ⌝ }
+    ensures { λ r. ⌜ Scans (now (source .entry)) from first labels before (settingsMeant settings) r ⌝ }
+{
+    let mut at = from;
+    let mut line = first;
+    let mut words = before;
+    let mut config = settings;
+    loop {
+        let step = crate::line::read_line(source, at, words, config, mnemonics, forms, slots);
+        if step.labelled {
+            return at_label(step, words, line, labels);
+        }
+        let fault = step.fault;
+        if let Checked::Refused(number) = fault {
+            return stopped_at(number, line, labels);
+        }
+        words = step.words;
+        config = step.config;
+        let end = step.end;
+        if source.len() <= end {
+            return finished(labels, words, config);
+        }
+        at = end + 1;
+        line += 1;
+    }
+}
+
+// A label is to be entered, behind so many words.
+fn at_label(step: Step, words: usize, line: usize, labels: usize) -> Pass
+    requires { ⌜ words ≤ 32768 ⌝ }
+    ensures { λ r. ⌜ r ≡ labelledPass step words line labels ⌝ }
+{
+    let fault = step.fault;
+    let config = step.config;
+    let label = Label {
+        start: step.start,
+        length: step.length,
+        address: 0x1000 + 4 * (words as u64),
+    };
+    Pass {
+        found: true,
+        label,
+        labels,
+        fault,
+        rust_line: 0,
+        line,
+        words: step.words,
+        config,
+        end: step.end,
+    }
+}
+
+// The walk from a source's first line to the first label or the end: 1, 2, then the lines.
+pub fn begin(source: &[u8], mnemonics: &[u64; 50], forms: &[u8; 50], slots: &[u8; 293]) -> Pass
+    requires { ⌜ Tables (now mnemonics) (now forms) (now slots) ⌝ }
+    ensures { λ r. ⌜ Begins (now (source .entry)) r ⌝ }
+{
+    if 1048576 < source.len() {
+        return stopped(1, 0, 0, 0);
+    }
+    let clean = text::bytes::run_end(source, 0, Class::Ascii);
+    if clean < source.len() {
+        return stopped(2, 0, line_number(source, clean), 0);
+    }
+    scan(source, 0, 1, 0, 0, Config::begin(), mnemonics, forms, slots)
+}
+
+// The walk behind a label that has been entered, or refused: the label's refusal, that of its line, or the lines behind it.
+pub fn go_on(
+    source: &[u8],
+    pass: Pass,
+    entered: Checked,
+    mnemonics: &[u64; 50],
+    forms: &[u8; 50],
+    slots: &[u8; 293],
+) -> Pass
+    requires { ⌜ Sound (now source) pass ⌝ ∗ ⌜ Tables (now mnemonics) (now forms) (now slots) ⌝ }
+    ensures { λ r. ⌜ GoesOn (now (source .entry)) pass entered r ⌝ }
+{
+    let line = pass.line;
+    if let Checked::Refused(number) = entered {
+        return stopped_at(number, line, pass.labels);
+    }
+    let labels = pass.labels + 1;
+    let fault = pass.fault;
+    if let Checked::Refused(number) = fault {
+        return stopped_at(number, line, labels);
+    }
+    let words = pass.words;
+    let config = pass.config;
+    let end = pass.end;
+    if source.len() <= end {
+        return finished(labels, words, config);
+    }
+    scan(
+        source,
+        end + 1,
+        line + 1,
+        labels,
+        words,
+        config,
+        mnemonics,
+        forms,
+        slots,
+    )
+}

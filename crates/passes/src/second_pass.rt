@@ -1,0 +1,185 @@
+// The second walk writes the words; and what assembling answers.
+ghost use mathlib.Core.Path.{_≡_};
+ghost use mathlib.Core.List.{map, flatMap};
+ghost use mathlib.Core.Option.{some};
+ghost use Prim.Native.Nat.{_+_, _≤_};
+ghost use lib.ListN.{length};
+ghost use Rattle.text.specs.Numbers.{little};
+ghost use Rattle.instruction.specs.Operands.{readInstruction, behind};
+ghost use Rattle.instruction.specs.Words.{wordOf};
+ghost use Rattle.instruction.specs.Contracts.{opcodeNumbers};
+ghost use Rattle.coding.specs.Contracts.{Written};
+ghost use Rattle.image.specs.Meaning.{oneOf, instructionOn};
+ghost use Rattle.image.specs.Contracts.{recordMeant, settingsMeant};
+ghost use Rattle.image.specs.declared.config.Checked.the-variants.{Good};
+ghost use Rattle.passes.specs.Contracts.{Tables, Told, codedMeant, Readable, codeBytes, Ready, Fills, Finishes};
+use crate::first_pass::Pass;
+use crate::line::LineKind;
+use image::config::Checked;
+use image::config::Config;
+use reading::assembler::Parsed;
+use text::parser::Line;
+
+pub enum Assembled {
+    Is {
+        words: usize,
+        labels: usize,
+        config: Config,
+    },
+    Refused {
+        number: u8,
+        rust_line: usize,
+        line: usize,
+        labels: usize,
+    },
+    // 23: the length that is needed
+    TooShort {
+        labels: usize,
+        needed: usize,
+    },
+}
+
+enum Coded {
+    Word(u32),
+    Nothing,
+}
+
+// The word of the instruction that begins at a token.
+fn word_at(
+    source: &[u8],
+    line: Line,
+    at: usize,
+    mnemonics: &[u64; 50],
+    opcodes: &[u8; 50],
+    forms: &[u8; 50],
+    slots: &[u8; 293],
+) -> Coded
+    requires { ⌜ Told (now source) line ⌝ ∗ ⌜ at ≤ 2 ⌝ ∗ ⌜ Tables (now mnemonics) (now forms) (now slots) ⌝ ∗ ⌜ now opcodes ≡ opcodeNumbers ⌝ }
+    ensures { λ r. ⌜ codedMeant r ≡ map wordOf (oneOf (readInstruction (behind at (recordMeant (now (source .entry)) line)))) ⌝ }
+{
+    match reading::assembler::parse_instruction(source, line, at, mnemonics, forms, slots) {
+        Parsed::Refused(_) => Coded::Nothing,
+        Parsed::Is(instruction) => Coded::Word(coding::encoder::encode(
+            instruction,
+            opcodes,
+            forms,
+        )),
+    }
+}
+
+fn line_word(
+    source: &[u8],
+    line: Line,
+    mnemonics: &[u64; 50],
+    opcodes: &[u8; 50],
+    forms: &[u8; 50],
+    slots: &[u8; 293],
+) -> Coded
+    requires { ⌜ Told (now source) line ⌝ ∗ ⌜ Tables (now mnemonics) (now forms) (now slots) ⌝ ∗ ⌜ now opcodes ≡ opcodeNumbers ⌝ }
+    ensures { λ r. ⌜ codedMeant r ≡ map wordOf (instructionOn (some (recordMeant (now (source .entry)) line))) ⌝ }
+{
+    match crate::line::line_kind(source, line) {
+        LineKind::Label => word_at(source, line, 2, mnemonics, opcodes, forms, slots),
+        LineKind::Plain => word_at(source, line, 0, mnemonics, opcodes, forms, slots),
+        _ => Coded::Nothing,
+    }
+}
+
+// A line's word, if it has one, written at a place.
+fn write_coded(image: &mut [u8], place: usize, coded: Coded) -> usize
+    requires { ⌜ place + length (flatMap (little 4) (codedMeant coded)) ≤ length (now image) ⌝ }
+    ensures { λ r. ⌜ Written (now (image .entry)) place (flatMap (little 4) (codedMeant coded)) r (now (image .exit)) ⌝ }
+{
+    match coded {
+        Coded::Nothing => place,
+        Coded::Word(word) => image::program::write_u32(image, place, word),
+    }
+}
+
+// The words of all lines, behind the header.
+fn second_pass(
+    source: &[u8],
+    image: &mut [u8],
+    mnemonics: &[u64; 50],
+    opcodes: &[u8; 50],
+    forms: &[u8; 50],
+    slots: &[u8; 293],
+) -> usize
+    requires { ⌜ Readable (now source) ⌝ ∗ ⌜ 32 + length (codeBytes (now source)) ≤ length (now image) ⌝ ∗ ⌜ Tables (now mnemonics) (now forms) (now slots) ⌝ ∗ ⌜ now opcodes ≡ opcodeNumbers ⌝ }
+    ensures { λ r. ⌜ Written (now (image .entry)) 32 (codeBytes (now (source .entry))) r (now (image .exit)) ⌝ }
+{
+    let mut place: usize = 32;
+    let mut at: usize = 0;
+    loop {
+        let line = text::parser::tokenize(source, at);
+        let coded = line_word(source, line, mnemonics, opcodes, forms, slots);
+        place = write_coded(image, place, coded);
+        let end = line.end;
+        if source.len() <= end {
+            return place;
+        }
+        at = end + 1;
+    }
+}
+
+// The image of a source that the first walk has finished: 23, or the header and the words.
+fn write_image(
+    source: &[u8],
+    image: &mut [u8],
+    words: usize,
+    labels: usize,
+    config: Config,
+    mnemonics: &[u64; 50],
+    forms: &[u8; 50],
+    slots: &[u8; 293],
+) -> Assembled
+    requires { ⌜ Ready (now source) words (settingsMeant config) ⌝ ∗ ⌜ Tables (now mnemonics) (now forms) (now slots) ⌝ }
+    ensures { λ r. ⌜ Fills (now (source .entry)) words labels (settingsMeant config) (now (image .entry)) (now (image .exit)) r ⌝ }
+{
+    let needed = 32 + 4 * words;
+    if image.len() < needed {
+        return Assembled::TooShort { labels, needed };
+    }
+    let opcodes = instruction::opcode::opcodes();
+    image::program::write_header(image, config, 4 * (words as u32));
+    second_pass(source, image, mnemonics, &opcodes, forms, slots);
+    Assembled::Is {
+        words,
+        labels,
+        config,
+    }
+}
+
+// What a finished first walk comes to: its refusal, or the image.
+pub fn finish(
+    source: &[u8],
+    image: &mut [u8],
+    pass: Pass,
+    mnemonics: &[u64; 50],
+    forms: &[u8; 50],
+    slots: &[u8; 293],
+) -> Assembled
+    requires { ⌜ (pass .fault ≡ Good → Ready (now source) (pass .words) (settingsMeant (pass .config))) ⌝ ∗ ⌜ Tables (now mnemonics) (now forms) (now slots) ⌝ }
+    ensures { λ r. ⌜ Finishes (now (source .entry)) pass (now (image .entry)) (now (image .exit)) r ⌝ }
+{
+    let labels = pass.labels;
+    let fault = pass.fault;
+    if let Checked::Refused(number) = fault {
+        return Assembled::Refused {
+            number,
+            rust_line: pass.rust_line,
+            line: pass.line,
+            labels,
+        };
+    }
+    write_image(
+        source,
+        image,
+        pass.words,
+        labels,
+        pass.config,
+        mnemonics,
+        forms,
+        slots,
+    )
+}

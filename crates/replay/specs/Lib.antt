@@ -1,0 +1,2 @@
+pub mod List
+pub mod Tally
