@@ -8,8 +8,8 @@ use lib.ListN.{length, take, drop, getD, set, length-take, length-map, length-ap
 use lib.Seq.{getD-take, set-out}
 use lib.Dec.{ltb}
 use borrow.Author.Tests.{ltb-true, ltb-false}
-use Rattle.text.specs.Bytes.{same, find, isSome}
-use Rattle.text.proofs.Tests.{by-test}
+use Rattle.spelling.specs.Bytes.{same, find, isSome}
+use Rattle.spelling.proofs.Tests.{by-test}
 use Rattle.image.specs.Assembling.{isKnown}
 use Rattle.image.specs.Assembling.{Label as Meant}
 use Rattle.image.specs.Lent.{over}

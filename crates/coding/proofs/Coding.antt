@@ -6,7 +6,7 @@ use mathlib.Core.Option.{none, some}
 use mathlib.Core.List.{List}
 use lib.ListN.{getD}
 use lib.Dec.{ltb}
-use Rattle.text.specs.Bytes.{value, refused}
+use Rattle.spelling.specs.Bytes.{value, refused}
 use Rattle.instruction.specs.Table.{places, row, rowCoded}
 use Rattle.instruction.specs.Operands.{Instruction as Meant}
 use Rattle.instruction.specs.Words.{fields, wordOf, registersIn, numberIn, unusedFrom, taken, instructionOf}

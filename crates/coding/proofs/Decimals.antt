@@ -5,8 +5,8 @@ use Prim.Native.Nat.{ℕ, zero, suc, _+_, _-_, _/_, _%_, _≤_, _<_}
 use native.Mathlib.Omega.{arith}
 use lib.ListN.{length, set, length-append, length-set}
 use borrow.Author.Tests.{lt-ltb, le-ltb}
-use Rattle.text.specs.Numbers.{minus, decimalIn, decimal, signedDecimal}
-use Rattle.text.proofs.Tests.{split}
+use Rattle.spelling.specs.Numbers.{minus, decimalIn, decimal, signedDecimal}
+use Rattle.spelling.proofs.Tests.{split}
 use Rattle.coding.specs.Contracts.{put, Written}
 use Rattle.coding.proofs.Writing.{put-byte, put-before}
 

@@ -10,8 +10,8 @@ use mathlib.Core.List.{[], _∷_}
 use lib.IntN.{ℤ, pos, negsuc}
 use lib.Pow.{pow-pos}
 use borrow.Author.Tests.{lt-ltb, le-ltb}
-use Rattle.text.specs.Numbers.{minus, meantBy}
-use Rattle.text.specs.Contracts.{Reduced}
+use Rattle.spelling.specs.Numbers.{minus, meantBy}
+use Rattle.spelling.specs.Contracts.{Reduced}
 use Rattle.instruction.specs.Table.{places}
 use Rattle.instruction.specs.Words.{reduced, fields, fieldAt, registersIn, numberIn, unusedFrom}
 use Rattle.instruction.specs.Contracts.{formAt, registersFor, numberFor}

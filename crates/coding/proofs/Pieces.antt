@@ -4,9 +4,9 @@ use mathlib.Core.List.{List, [], _∷_, _++_, append-assoc, append-nil}
 use Prim.Native.Nat.{ℕ, _+_, _≤_, _<_}
 use native.Mathlib.Omega.{arith}
 use lib.ListN.{length, getD, length-append, List·getD-eq-default}
-use Rattle.text.specs.Numbers.{signedDecimal}
-use Rattle.text.specs.Contracts.{indexOf, wholeMeant}
-use Rattle.text.proofs.Tests.{split}
+use Rattle.spelling.specs.Numbers.{signedDecimal}
+use Rattle.spelling.specs.Contracts.{indexOf, wholeMeant}
+use Rattle.spelling.proofs.Tests.{split}
 use Rattle.instruction.specs.Table.{R, I, Shift, Load, Store, Branch, Jump, System, places}
 use Rattle.instruction.specs.Text.{registerText, numberText, placesText, operandsText, instructionText}
 use Rattle.instruction.specs.Contracts.{rowAt, formAt, formNumbers, registersFor, numberFor, partsMeant}

@@ -6,8 +6,8 @@ use native.Mathlib.Numerals.{add-one}
 use native.Mathlib.Omega.{arith}
 use lib.ListN.{length, take, drop, getD, set, drop-of-length-le}
 use lib.Seq.{length-take-le, take-suc, take-all, drop-cons}
-use Rattle.text.specs.Contracts.{packed}
-use Rattle.text.proofs.Tests.{split}
+use Rattle.spelling.specs.Contracts.{packed}
+use Rattle.spelling.proofs.Tests.{split}
 use Rattle.instruction.proofs.Columns.{Short}
 use Rattle.coding.specs.Contracts.{Written}
 use Rattle.coding.proofs.Writing.{written-none, written-byte, written-append, written-length}

@@ -3,7 +3,7 @@
 use mathlib.Core.Path.{_≡_, refl, sym, ap, _∙_}
 use mathlib.Core.Logic.{_↔_}
 use Prim.Native.Nat.{ℕ}
-use Rattle.text.specs.Bytes.{value}
+use Rattle.spelling.specs.Bytes.{value}
 use Rattle.instruction.specs.Operands.{Instruction as Meant}
 use Rattle.instruction.specs.Words.{wordOf, instructionOf}
 use Rattle.instruction.specs.Fits.{reducedTo}

@@ -5,10 +5,10 @@ use mathlib.Core.Bool.{true}
 use mathlib.Core.List.{List, [], _∷_, _++_}
 use lib.ListN.{length, take, drop}
 use lib.IntN.{ℤ}
-use Rattle.text.specs.Bytes.{Result, value, refused}
-use Rattle.text.specs.Numbers.{meantBy}
-use Rattle.text.specs.Contracts.{indexOf, wholeMeant}
-use Rattle.text.specs.declared.register.Register.{Register}
+use Rattle.spelling.specs.Bytes.{Result, value, refused}
+use Rattle.spelling.specs.Numbers.{meantBy}
+use Rattle.spelling.specs.Contracts.{indexOf, wholeMeant}
+use Rattle.spelling.specs.declared.register.Register.{Register}
 use Rattle.instruction.specs.Table.{Form, places}
 use Rattle.instruction.specs.Operands.{Instruction as Meant}
 use Rattle.instruction.specs.Text.{registerText, operandsText}

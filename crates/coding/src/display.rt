@@ -3,8 +3,8 @@
 ghost use mathlib.Core.Path.{_≡_};
 ghost use Prim.Native.Nat.{_+_, _≤_, _<_};
 ghost use lib.ListN.{length};
-ghost use Rattle.text.specs.Numbers.{decimal, signedDecimal};
-ghost use Rattle.text.specs.Contracts.{indexOf, wholeMeant};
+ghost use Rattle.spelling.specs.Numbers.{decimal, signedDecimal};
+ghost use Rattle.spelling.specs.Contracts.{indexOf, wholeMeant};
 ghost use Rattle.instruction.specs.Table.{R, I, Load, Jump};
 ghost use Rattle.instruction.specs.Text.{registerText, instructionText};
 ghost use Rattle.instruction.specs.Contracts.{mnemonicKeys, formNumbers, rowAt, formAt, partsMeant, instructionMeant};
@@ -12,8 +12,8 @@ ghost use Rattle.coding.specs.Contracts.{nextText, firstText, pairText, 
 use instruction::instruction::Instruction;
 use instruction::instruction::Operands;
 use instruction::instruction::Parts;
-use text::number::Whole;
-use text::register::Register;
+use spelling::number::Whole;
+use spelling::register::Register;
 
 // How many digits a number has.
 pub fn decimal_length(n: u64) -> usize

@@ -2,7 +2,7 @@
 ghost use mathlib.Core.Path.{_≡_};
 ghost use Prim.Native.Nat.{suc, _+_, _*_, _/_, _%_, _^_, _≤_, _<_};
 ghost use lib.Dec.{ltb};
-ghost use Rattle.text.specs.Contracts.{indexOf, wholeMeant, Reduced};
+ghost use Rattle.spelling.specs.Contracts.{indexOf, wholeMeant, Reduced};
 ghost use Rattle.instruction.specs.Table.{places};
 ghost use Rattle.instruction.specs.Words.{wordOf, fields as fieldSum, unusedFrom, registersIn, numberIn, instructionOf};
 ghost use Rattle.instruction.specs.Contracts.{formAt, formNumbers, opcodeNumbers, instructionMeant, numberFor, operandsMeant};
@@ -10,8 +10,8 @@ ghost use Rattle.coding.specs.Contracts.{decodedMeant, Power, Signed};
 use instruction::instruction::Instruction;
 use instruction::instruction::Operands;
 use instruction::opcode::Row;
-use text::number::Whole;
-use text::register::Register;
+use spelling::number::Whole;
+use spelling::register::Register;
 
 fn wide(x: u8) -> u32
     ensures { λ r. ⌜ r ≡ x ⌝ }

@@ -4,7 +4,7 @@ use mathlib.Core.Path.{_≡_, refl, sym, ap, _∙_, subst}
 use mathlib.Core.Bool.{true, true≢false}
 use mathlib.Core.List.{List}
 use lib.ListN.{length, take}
-use Rattle.text.specs.Names.{present}
+use Rattle.spelling.specs.Names.{present}
 use Rattle.image.specs.Assembling.{Assembled as Reading, accepted, rejected, assembling}
 use Rattle.image.specs.Listing.{textOf, Listing as Written, written, rejected as unwritten, listing}
 use Rattle.image.specs.Meaning.{instructionsOf, settingsOf, imageOf, isAccepted, Accepted, isWritten}

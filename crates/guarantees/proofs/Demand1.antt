@@ -5,8 +5,8 @@ use mathlib.Core.Option.{Option, none, some}
 use mathlib.Core.Path.{_≡_, sym, ap, subst}
 use mathlib.Core.List.{List}
 use lib.ListN.{length}
-use Rattle.text.specs.Bytes.{Result, value, refused}
-use Rattle.text.specs.Names.{present}
+use Rattle.spelling.specs.Bytes.{Result, value, refused}
+use Rattle.spelling.specs.Names.{present}
 use Rattle.image.specs.Program.{header-size, headerOf, codeOf, dataOf}
 use Rattle.image.specs.Opening.{Opened, openingFault, opening}
 use Rattle.image.specs.Assembling.{Assembled as Reading, accepted, rejected, assembling}

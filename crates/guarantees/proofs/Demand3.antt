@@ -9,10 +9,10 @@ use lib.ListN.{length, length-map}
 use lib.Dec.{leb, eqb}
 use lib.IntN.{ℤ}
 use borrow.Author.Tests.{leb-true, le-leb, eqb-true, not-true}
-use Rattle.text.specs.Bytes.{bytes, letter, digit, between, nameStart, namePart, every, same, isSome, each}
-use Rattle.text.specs.Names.{Name}
+use Rattle.spelling.specs.Bytes.{bytes, letter, digit, between, nameStart, namePart, every, same, isSome, each}
+use Rattle.spelling.specs.Names.{Name}
+use Rattle.spelling.proofs.Tests.{both, or-elim, no-both}
 use Rattle.text.specs.Tokens.{isIdentifier, isRegister}
-use Rattle.text.proofs.Tests.{both, or-elim, no-both}
 use Rattle.text.proofs.Lines.{visible}
 use Rattle.instruction.specs.Operands.{Instruction}
 use Rattle.instruction.specs.Table.{places, Row, row, table}

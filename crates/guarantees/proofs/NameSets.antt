@@ -7,11 +7,11 @@ use mathlib.Core.Option.{Option, none, some}
 use mathlib.Core.List.{_∷_}
 use lib.Dec.{eqb}
 use borrow.Author.Tests.{eqb-true}
-use Rattle.text.specs.Numbers.{decimal}
-use Rattle.text.specs.Names.{present}
+use Rattle.spelling.specs.Numbers.{decimal}
+use Rattle.spelling.specs.Names.{present}
+use Rattle.spelling.proofs.Tests.{both, split}
 use Rattle.text.specs.Tokens.{Token, identifier, register, number, hex, binary, directive, comma, colon, opening, closing, Register, tokenOf}
 use Rattle.text.specs.NameSets.{Naming}
-use Rattle.text.proofs.Tests.{both, split}
 use Rattle.guarantees.specs.NameSets.{keys, NameSet}
 use Rattle.guarantees.proofs.Computing.{computing}
 

@@ -6,8 +6,8 @@ use mathlib.Core.Path.{_≡_}
 use mathlib.Core.Logic.{_↔_, _⊎_}
 use mathlib.Core.List.{List, map}
 use lib.ListN.{length, take}
-use Rattle.text.specs.Bytes.{Result, value, refused}
-use Rattle.text.specs.Names.{present}
+use Rattle.spelling.specs.Bytes.{Result, value, refused}
+use Rattle.spelling.specs.Names.{present}
 use Rattle.image.specs.Assembling.{Label, assembling}
 use Rattle.image.specs.Opening.{opening, Opened as Parts}
 use Rattle.image.specs.Listing.{textOf}

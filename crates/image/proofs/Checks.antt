@@ -10,8 +10,8 @@ use lib.IntN.{ℤ}
 use denote.Enum.Declared.{tagOf}
 use types.Run.{OneOf, miss}
 use borrow.Author.Tests.{eq-eqb, ne-eqb}
-use Rattle.text.specs.Bytes.{value, refused, between, same}
-use Rattle.text.specs.Numbers.{residue}
+use Rattle.spelling.specs.Bytes.{value, refused, between, same}
+use Rattle.spelling.specs.Numbers.{residue}
 use Rattle.text.specs.Lines.{Line as Record}
 use Rattle.text.specs.Contracts.{kindMeant, numberOf, spelling, meant}
 use Rattle.text.specs.declared.lexer.Kind.{Kind}

@@ -8,13 +8,13 @@ use mathlib.Core.List.{List, [], _∷_, _++_, append-nil}
 use lib.ListN.{length, drop, length-append}
 use lib.Dec.{eqb}
 use lib.IntN.{ℤ, pos}
-use Rattle.text.specs.Bytes.{Result, value, refused, bytes, between, letter, digit, nameStart, namePart, every, same, each}
-use Rattle.text.specs.Numbers.{residue, decimal, signedDecimal}
-use Rattle.text.specs.Names.{Name}
+use Rattle.spelling.specs.Bytes.{Result, value, refused, bytes, between, letter, digit, nameStart, namePart, every, same, each}
+use Rattle.spelling.specs.Numbers.{residue, decimal, signedDecimal}
+use Rattle.spelling.specs.Names.{Name}
+use Rattle.spelling.proofs.Strings.{every-append, ends}
+use Rattle.spelling.proofs.Numbers.{residue-small, decimal-length}
 use Rattle.text.specs.Tokens.{Token, identifier, number, directive, isIdentifier, isRegister, infront, tokens}
 use Rattle.text.specs.Lines.{Line, lines, kept, lineOf, readLine}
-use Rattle.text.proofs.Strings.{every-append, ends}
-use Rattle.text.proofs.Numbers.{residue-small, decimal-length}
 use Rattle.text.proofs.Tokens.{tokens-nil, Within64, reads-directive, reads-space, reads-identifier, reads-decimal}
 use Rattle.text.proofs.Lines.{visible, closed-append, Trimmed, decimal-visible, decimal-closed, high-plain, read-visible}
 use Rattle.instruction.specs.Operands.{readIdentifier, readNumber}

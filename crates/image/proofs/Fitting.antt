@@ -7,12 +7,12 @@ use mathlib.Core.Option.{Option, none, some}
 use mathlib.Core.List.{List, [], _∷_, _++_, map, flatMap}
 use lib.Dec.{eqb}
 use borrow.Author.Tests.{not-true}
-use Rattle.text.specs.Bytes.{Result, value, refused, each}
-use Rattle.text.specs.Names.{Name}
+use Rattle.spelling.specs.Bytes.{Result, value, refused, each}
+use Rattle.spelling.specs.Names.{Name}
+use Rattle.spelling.proofs.Tests.{both}
 use Rattle.text.specs.Tokens.{Token, identifier, isRegister}
 use Rattle.text.specs.Lines.{Line, lines, lineOf, readLine}
 use Rattle.text.specs.NameSets.{Naming}
-use Rattle.text.proofs.Tests.{both}
 use Rattle.instruction.specs.Table.{table}
 use Rattle.instruction.specs.Operands.{Instruction, readInstruction, behind, markByte}
 use Rattle.instruction.specs.Words.{wordOf}

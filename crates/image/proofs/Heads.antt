@@ -9,8 +9,8 @@ use mathlib.Core.List.{List, [], _∷_, _++_}
 use lib.ListN.{length, take, drop, set, getD, length-set, length-drop}
 use lib.Seq.{take-suc, take-all, getD-drop}
 use borrow.Author.Tests.{eq-eqb, ne-eqb, lt-ltb, le-ltb}
-use Rattle.text.specs.Bytes.{value, refused}
-use Rattle.text.specs.Numbers.{little, unlittle}
+use Rattle.spelling.specs.Bytes.{value, refused}
+use Rattle.spelling.specs.Numbers.{little, unlittle}
 use Rattle.coding.specs.Contracts.{put, Written}
 use Rattle.coding.proofs.Writing.{put-none, written-byte, written-append}
 use Rattle.image.specs.Settings.{settingsFault}

@@ -7,12 +7,11 @@ use mathlib.Core.Option.{some}
 use mathlib.Core.List.{List, [], _∷_, _++_, flatMap, append-nil, append-assoc}
 use lib.ListN.{length, length-append}
 use borrow.Author.Tests.{le-leb, lt-ltb}
-use Rattle.text.specs.Bytes.{value, bytes, ascii, between, every, same, before, after, each}
-use Rattle.text.specs.Names.{Name}
+use Rattle.spelling.specs.Bytes.{value, bytes, ascii, between, every, same, before, after, each, inside}
+use Rattle.spelling.specs.Names.{Name}
+use Rattle.spelling.proofs.Strings.{every-append, every-mono}
 use Rattle.text.specs.Tokens.{isIdentifier, tokens, tokensPast}
 use Rattle.text.specs.Lines.{Line, lines, indent, content, trim, trimEnd, cut, kept, lineOf, recordOf, readLine}
-use Rattle.text.proofs.Strings.{every-append, every-mono}
-use Rattle.text.specs.Places.{inside}
 use Rattle.text.proofs.Lines.{lines-cons, visible, visible-inside, visible-ascii}
 use Rattle.instruction.specs.Operands.{Instruction, readInstruction}
 use Rattle.instruction.specs.Words.{instructionOf}

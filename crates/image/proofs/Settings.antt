@@ -5,8 +5,8 @@ use native.Mathlib.Omega.{arith}
 use mathlib.Core.Bool.{true}
 use mathlib.Core.Option.{none}
 use lib.Dec.{eqb}
-use Rattle.text.specs.Bytes.{between}
-use Rattle.text.proofs.Tests.{between-true}
+use Rattle.spelling.specs.Bytes.{between}
+use Rattle.spelling.proofs.Tests.{between-true}
 use Rattle.image.specs.Settings.{Settings, settings, begin, settingsFault}
 use Rattle.image.proofs.Faults.{passed}
 

@@ -8,8 +8,8 @@ use mathlib.Core.List.{List, [], _∷_, _++_, flatMap, append-nil, append-assoc}
 use lib.ListN.{length, length-append}
 use lib.Dec.{leb, ltb}
 use borrow.Author.Tests.{ltb-true, leb-true}
-use Rattle.text.specs.Bytes.{Result, value, refused, ascii, every, before}
-use Rattle.text.specs.Names.{Name}
+use Rattle.spelling.specs.Bytes.{Result, value, refused, ascii, every, before}
+use Rattle.spelling.specs.Names.{Name}
 use Rattle.text.specs.Tokens.{Token}
 use Rattle.text.specs.Lines.{Line, lines, indent, readLine}
 use Rattle.instruction.specs.Operands.{Instruction, readInstruction, behind}

@@ -5,8 +5,8 @@ use mathlib.Core.Path.{_≡_}
 use mathlib.Core.Bool.{Bool, true, false}
 use mathlib.Core.Option.{Option, none, some}
 use mathlib.Core.List.{List, [], _∷_, map, flatMap}
-use Rattle.text.specs.Bytes.{Result, value, refused}
-use Rattle.text.specs.Names.{Name}
+use Rattle.spelling.specs.Bytes.{Result, value, refused}
+use Rattle.spelling.specs.Names.{Name}
 use Rattle.text.specs.Lines.{Line, lines, readLine}
 use Rattle.instruction.specs.Operands.{Instruction, readInstruction, behind}
 use Rattle.instruction.specs.Words.{wordOf}

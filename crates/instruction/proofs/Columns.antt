@@ -7,11 +7,11 @@ use native.Mathlib.Omega.{arith}
 use lib.ListN.{length, List·getD-map, getD}
 use lib.Dec.{leb, ltb}
 use borrow.Author.Tests.{leb-true, ltb-true}
-use Rattle.text.specs.Bytes.{bytes, every, each}
-use Rattle.text.specs.Contracts.{packed, keyOf}
-use Rattle.text.proofs.Tests.{both}
-use Rattle.text.proofs.Strings.{every-head, every-tail}
-use Rattle.text.proofs.Keys.{isKeyed, key-short}
+use Rattle.spelling.specs.Bytes.{bytes, every, each}
+use Rattle.spelling.specs.Contracts.{packed, keyOf}
+use Rattle.spelling.proofs.Tests.{both}
+use Rattle.spelling.proofs.Strings.{every-head, every-tail}
+use Rattle.spelling.proofs.Keys.{isKeyed, key-short}
 use Rattle.instruction.specs.Table.{Form, R, I, Shift, Load, Store, Branch, Jump, System, row, table}
 use Rattle.instruction.specs.Contracts.{rowAt, formAt, formNumber, mnemonicKeys, formNumbers, opcodeNumbers}
 

@@ -9,10 +9,10 @@ use mathlib.Core.List.{List, [], _∷_, map}
 use lib.ListN.{length, getD, length-map}
 use lib.Dec.{leb, ltb, eqb}
 use borrow.Author.Tests.{ltb-true, leb-true, eqb-true, eqb-false, eq-eqb, ne-eqb, not-true}
-use Rattle.text.specs.Bytes.{bytes, every, same, find, each}
-use Rattle.text.specs.Contracts.{packed, keyOf}
-use Rattle.text.proofs.Tests.{by-test, both, or-elim}
-use Rattle.text.proofs.Keys.{Below, isKeyed, byKey, found-by-key}
+use Rattle.spelling.specs.Bytes.{bytes, every, same, find, each}
+use Rattle.spelling.specs.Contracts.{packed, keyOf}
+use Rattle.spelling.proofs.Tests.{by-test, both, or-elim}
+use Rattle.spelling.proofs.Keys.{Below, isKeyed, byKey, found-by-key}
 use Rattle.instruction.specs.Table.{System, Row, row, table, rowNamed, rowCoded}
 use Rattle.instruction.specs.Contracts.{rowAt, mnemonicKeys, slotRow, slotRowsFrom, slotRows}
 use Rattle.instruction.specs.Fits.{InTable}

@@ -5,9 +5,9 @@ use native.Mathlib.Omega.{arith}
 use mathlib.Core.Bool.{true}
 use lib.Dec.{ltb}
 use borrow.Author.Tests.{ltb-true}
-use Rattle.text.specs.Contracts.{indexOf}
-use Rattle.text.specs.declared.register.Register.{Register}
-use Rattle.text.specs.declared.register.Register.the-variants.{R0, R1, R2, R3, R4, R5, R6, R7, R8, R9, R10, R11, R12, R13, R14, R15}
+use Rattle.spelling.specs.Contracts.{indexOf}
+use Rattle.spelling.specs.declared.register.Register.{Register}
+use Rattle.spelling.specs.declared.register.Register.the-variants.{R0, R1, R2, R3, R4, R5, R6, R7, R8, R9, R10, R11, R12, R13, R14, R15}
 use Rattle.instruction.specs.Table.{Form, R, I, Shift, Load, Store, Branch, Jump, System, places}
 use Rattle.instruction.specs.Contracts.{rowAt, keep, registersFor, numberFor, partsMeant, partsOf}
 use Rattle.instruction.specs.declared.instruction.Instruction.{Instruction}

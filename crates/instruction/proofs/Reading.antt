@@ -7,13 +7,13 @@ use mathlib.Core.List.{List, [], _∷_, map}
 use lib.ListN.{length, take}
 use lib.Dec.{ltb, eqb}
 use borrow.Author.Tests.{ltb-true}
-use Rattle.text.specs.Bytes.{Result, value, refused, blank, lower, same, find, isSome, each}
-use Rattle.text.specs.Names.{Name, named}
+use Rattle.spelling.specs.Bytes.{Result, value, refused, blank, lower, same, find, isSome, each}
+use Rattle.spelling.specs.Names.{Name, named}
+use Rattle.spelling.proofs.Tests.{by-test, both, and-both}
+use Rattle.spelling.proofs.Strings.{found}
 use Rattle.text.specs.Tokens.{Class, Register, Identifier, Number, Hex, Binary, Directive, Mark, Match, longest, Token, register, number, comma, colon, opening, closing, within, numberToken, patternToken, registerToken, markToken, tokenOf, Sized, sized, matched, front, infront, tokensPast, tokens}
 use Rattle.text.specs.Lines.{Line, content, kept, lineOf, recordOf, readLine}
 use Rattle.text.specs.NameSets.{isNumbered, Naming}
-use Rattle.text.proofs.Tests.{by-test, both, and-both}
-use Rattle.text.proofs.Strings.{found}
 use Rattle.instruction.specs.Table.{Place, reg, num, comma-place, opening-place, closing-place, rowNamed}
 use Rattle.instruction.specs.Operands.{Instruction, readRegister, readNumber, readIdentifier, markByte, Operands, noOperands, withRegister, withNumber, readPlace, readOperands, made, readRow, readMnemonic, readInstruction, behind}
 use Rattle.instruction.specs.Fits.{placesOf, Regs, numberField, hasNumber, Fits}

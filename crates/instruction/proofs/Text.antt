@@ -12,15 +12,15 @@ use lib.Dec.{leb, eqb}
 use lib.IntN.{ℤ, pos, negsuc}
 use lib.Pow.{pow-add, pow-mono}
 use borrow.Author.Tests.{leb-true, lt-ltb, le-ltb, eq-eqb}
-use Rattle.text.specs.Bytes.{value, bytes, between, letter, digit, nameStart, namePart, edge, every, find, isSome, each}
-use Rattle.text.specs.Numbers.{meantBy, decimalIn, decimal, signedDecimal}
-use Rattle.text.specs.Names.{Name}
+use Rattle.spelling.specs.Bytes.{value, bytes, between, letter, digit, nameStart, namePart, edge, every, find, isSome, each}
+use Rattle.spelling.specs.Numbers.{meantBy, decimalIn, decimal, signedDecimal}
+use Rattle.spelling.specs.Names.{Name}
+use Rattle.spelling.proofs.Tests.{split, both, between-true}
+use Rattle.spelling.proofs.Strings.{every-head, every-append, every-mono, ends}
+use Rattle.spelling.proofs.Numbers.{decimal-digits, decimal-length}
 use Rattle.text.specs.Tokens.{isIdentifier, isRegister, Token, identifier, register, number, comma, opening, closing, infront, tokens}
 use Rattle.text.specs.Lines.{Line, kept, lineOf, readLine}
 use Rattle.text.specs.NameSets.{Naming}
-use Rattle.text.proofs.Tests.{split, both, between-true}
-use Rattle.text.proofs.Strings.{every-head, every-append, every-mono, ends}
-use Rattle.text.proofs.Numbers.{decimal-digits, decimal-length}
 use Rattle.text.proofs.Tokens.{Within64, tokens-nil, reads-identifier, reads-register, reads-decimal, reads-comma, reads-opening, reads-closing, reads-space}
 use Rattle.text.proofs.Lines.{visible, high-visible, high-plain, decimal-visible, Closed, closed-append, closed-every, decimal-closed, Trimmed, read-visible}
 use Rattle.instruction.specs.Table.{Place, reg, num, comma-place, opening-place, closing-place, I, places, Row, row, table, rowCoded}

@@ -3,9 +3,9 @@ ghost use mathlib.Core.Path.{_≡_};
 ghost use Prim.Native.Nat.{_<_};
 ghost use mathlib.Core.Bool.{false};
 ghost use Rattle.instruction.specs.Contracts.{rowAt, parts, keep, noNumber, partsOf, instructionMeant, partsMeant};
-ghost use Rattle.text.specs.declared.register.Register.the-variants.{R0};
-use text::number::Whole;
-use text::register::Register;
+ghost use Rattle.spelling.specs.declared.register.Register.the-variants.{R0};
+use spelling::number::Whole;
+use spelling::register::Register;
 
 pub enum Instruction {
     // arithmetic

@@ -8,7 +8,7 @@ use mathlib.Core.List.{List}
 use lib.Dec.{ltb}
 use lib.ListN.{length, take, drop, getD, set, length-take, drop-of-length-le}
 use lib.Seq.{drop-cons, getD-take}
-use Rattle.text.specs.Bytes.{same}
+use Rattle.spelling.specs.Bytes.{same}
 use Rattle.image.specs.declared.config.Checked.the-variants.{Good, Refused}
 use Rattle.labels.specs.declared.label.Label.{Label}
 use Rattle.labels.specs.Contracts.{spelled, noLabel, anyNamed, entryFault, Enters}

@@ -6,7 +6,7 @@ use mathlib.Core.Option.{Option, none, some}
 use mathlib.Core.List.{List, [], _∷_}
 use lib.ListN.{length, take, drop, getD, set}
 use lib.Dec.{ltb}
-use Rattle.text.specs.Bytes.{same}
+use Rattle.spelling.specs.Bytes.{same}
 use Rattle.image.specs.Assembling.{Label as Meant}
 use Rattle.image.specs.Contracts.{faultMeant}
 use Rattle.image.specs.declared.config.Checked.{Checked}

@@ -2,7 +2,7 @@
 ghost use mathlib.Core.Path.{_≡_};
 ghost use lib.ListN.{length, take, set};
 ghost use lib.Dec.{ltb};
-ghost use Rattle.text.specs.Bytes.{same};
+ghost use Rattle.spelling.specs.Bytes.{same};
 ghost use Rattle.labels.specs.Contracts.{InText, spelled, Placed, anyNamed, Enters};
 use image::config::Checked;
 
@@ -22,7 +22,7 @@ fn same_spelling(source: &[u8], a: Label, b: Label) -> bool
     let a_end = a_start + a.length;
     let b_start = b.start;
     let b_end = b_start + b.length;
-    text::bytes::same(&source[a_start..a_end], &source[b_start..b_end])
+    spelling::bytes::same(&source[a_start..a_end], &source[b_start..b_end])
 }
 
 // Whether one of the first `count` labels of a table is spelled as a label is.

@@ -8,8 +8,8 @@ use mathlib.Core.List.{List, [], _∷_, _++_, flatMap, append-nil, append-assoc}
 use lib.ListN.{length, take, drop, length-append, length-drop, drop-of-length-le}
 use lib.Seq.{drop-drop}
 use borrow.Author.Tests.{le-leb, lt-leb}
-use Rattle.text.specs.Bytes.{Result, value, refused, bytes}
-use Rattle.text.specs.Numbers.{unlittle, decimal}
+use Rattle.spelling.specs.Bytes.{Result, value, refused, bytes}
+use Rattle.spelling.specs.Numbers.{unlittle, decimal}
 use Rattle.instruction.specs.Operands.{Instruction}
 use Rattle.instruction.specs.Words.{instructionOf}
 use Rattle.instruction.specs.Text.{instructionText}

@@ -4,7 +4,7 @@ use mathlib.Core.Path.{_≡_}
 use mathlib.Core.Option.{none, some}
 use mathlib.Core.List.{List, flatMap}
 use lib.ListN.{length, drop}
-use Rattle.text.specs.Bytes.{Result, value, refused}
+use Rattle.spelling.specs.Bytes.{Result, value, refused}
 use Rattle.instruction.specs.Operands.{Instruction}
 use Rattle.instruction.specs.Text.{instructionText}
 use Rattle.image.specs.Settings.{Settings}

@@ -3,7 +3,7 @@ ghost use mathlib.Core.Path.{_≡_};
 ghost use mathlib.Core.List.{_++_, flatMap};
 ghost use Prim.Native.Nat.{ℕ, _+_, _≤_};
 ghost use lib.ListN.{length, drop};
-ghost use Rattle.text.specs.Numbers.{decimal};
+ghost use Rattle.spelling.specs.Numbers.{decimal};
 ghost use Rattle.instruction.specs.Words.{instructionOf};
 ghost use Rattle.instruction.specs.Contracts.{mnemonicKeys, formNumbers};
 ghost use Rattle.coding.specs.Contracts.{Written};

@@ -9,12 +9,12 @@ use lib.ListN.{length, take, length-map}
 use lib.Seq.{take-all}
 use lib.Dec.{leb}
 use borrow.Author.Tests.{le-leb, lt-leb}
-use Rattle.text.specs.Bytes.{ascii, every, run}
-use Rattle.text.specs.Numbers.{little}
-use Rattle.text.specs.Names.{present}
+use Rattle.spelling.specs.Bytes.{ascii, every, run}
+use Rattle.spelling.specs.Numbers.{little}
+use Rattle.spelling.specs.Names.{present}
+use Rattle.spelling.proofs.Strings.{take-run, every-run, past-run}
 use Rattle.text.specs.Lines.{lines, indent, readLine}
 use Rattle.text.specs.Lines.{Line as Record}
-use Rattle.text.proofs.Strings.{take-run, every-run, past-run}
 use Rattle.instruction.specs.Words.{wordOf}
 use Rattle.coding.specs.Contracts.{Written}
 use Rattle.coding.proofs.Writing.{written-append}

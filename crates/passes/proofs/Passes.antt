@@ -9,16 +9,16 @@ use lib.ListN.{length, take, drop, getD, length-take, length-append}
 use lib.Dec.{eqb}
 use borrow.Author.Tests.{eq-eqb, ne-eqb}
 use native.Mathlib.Numerals.{add-one}
-use Rattle.text.specs.Bytes.{Result, value, refused}
-use Rattle.text.specs.Numbers.{little}
-use Rattle.text.specs.Names.{present}
+use Rattle.spelling.specs.Bytes.{Result, value, refused}
+use Rattle.spelling.specs.Numbers.{little}
+use Rattle.spelling.specs.Names.{present}
 use Rattle.text.specs.Lines.{extended, lines, readLine}
 use Rattle.text.specs.Lines.{Line as Record}
 use Rattle.text.specs.Places.{restAt, endAt}
 use Rattle.text.specs.Contracts.{firsts, LineRead}
 use Rattle.text.specs.declared.parser.Line.{Line}
 use Rattle.instruction.specs.Operands.{Instruction, readInstruction, behind}
-use Rattle.text.proofs.Tests.{split, by-test}
+use Rattle.spelling.proofs.Tests.{split, by-test}
 use Rattle.text.proofs.Lines.{line-at, last-line}
 use Rattle.instruction.specs.Words.{wordOf}
 use Rattle.coding.specs.Contracts.{Written}

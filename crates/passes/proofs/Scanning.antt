@@ -9,10 +9,10 @@ use mathlib.Core.List.{List, [], _∷_, _++_}
 use lib.ListN.{length, take, drop, length-append}
 use lib.Dec.{ltb}
 use borrow.Author.Tests.{lt-ltb, le-ltb}
-use Rattle.text.specs.Names.{present}
+use Rattle.spelling.specs.Names.{present}
+use Rattle.spelling.proofs.Tests.{split}
 use Rattle.text.specs.Lines.{lines, indent, readLine}
 use Rattle.text.specs.Places.{restAt, endAt}
-use Rattle.text.proofs.Tests.{split}
 use Rattle.text.proofs.Lines.{line-at, last-line}
 use Rattle.instruction.specs.Operands.{Instruction}
 use Rattle.image.specs.Settings.{Settings}

@@ -9,8 +9,9 @@ use lib.ListN.{length, take, drop, getD, length-take, length-map, drop-of-length
 use lib.Seq.{drop-cons, getD-take}
 use lib.Dec.{ltb, eqb}
 use borrow.Author.Tests.{ltb-true, lt-ltb, le-ltb}
-use Rattle.text.specs.Bytes.{Result, value, refused, bytes, same}
-use Rattle.text.specs.Names.{present}
+use Rattle.spelling.specs.Bytes.{Result, value, refused, bytes, same}
+use Rattle.spelling.specs.Names.{present}
+use Rattle.spelling.proofs.Tests.{split}
 use Rattle.text.specs.Tokens.{identifier, register, number, hex, binary, directive, comma, colon, opening, closing}
 use Rattle.text.specs.Tokens.{Token as Meant}
 use Rattle.text.specs.Lines.{indent, readLine}
@@ -21,7 +22,6 @@ use Rattle.text.specs.declared.lexer.Kind.{Kind as TokenKind}
 use Rattle.text.specs.declared.lexer.Kind.the-variants.{Directive}
 use Rattle.text.specs.declared.lexer.Token.{Token}
 use Rattle.text.specs.declared.parser.Line.{Line}
-use Rattle.text.proofs.Tests.{split}
 use Rattle.text.proofs.Fronts.{part-cons, names-ok}
 use Rattle.text.proofs.Left.{found-solid}
 use Rattle.instruction.specs.Operands.{Instruction, markByte, readInstruction, behind}

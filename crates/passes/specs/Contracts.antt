@@ -6,9 +6,9 @@ use mathlib.Core.Option.{Option, none, some}
 use mathlib.Core.List.{List, [], _∷_, _++_, map, flatMap}
 use lib.ListN.{length, take, drop, getD}
 use lib.Dec.{leb, ltb}
-use Rattle.text.specs.Bytes.{Result, value, refused}
-use Rattle.text.specs.Numbers.{little}
-use Rattle.text.specs.Names.{present}
+use Rattle.spelling.specs.Bytes.{Result, value, refused}
+use Rattle.spelling.specs.Numbers.{little}
+use Rattle.spelling.specs.Names.{present}
 use Rattle.text.specs.Lines.{lines, indent, readLine}
 use Rattle.text.specs.Places.{restAt, endAt}
 use Rattle.text.specs.Contracts.{filler, spelling}

@@ -62,7 +62,7 @@ pub(crate) fn line_kind(source: &[u8], line: Line) -> LineKind
             // behind the point
             let start = first.start + 1;
             let end = first.start + first.length;
-            if text::bytes::same(&source[start..end], b"config") {
+            if spelling::bytes::same(&source[start..end], b"config") {
                 return LineKind::Config;
             }
             LineKind::Ignored

@@ -4,7 +4,7 @@ ghost use mathlib.Core.List.{map, flatMap};
 ghost use mathlib.Core.Option.{some};
 ghost use Prim.Native.Nat.{_+_, _≤_};
 ghost use lib.ListN.{length};
-ghost use Rattle.text.specs.Numbers.{little};
+ghost use Rattle.spelling.specs.Numbers.{little};
 ghost use Rattle.instruction.specs.Operands.{readInstruction, behind};
 ghost use Rattle.instruction.specs.Words.{wordOf};
 ghost use Rattle.instruction.specs.Contracts.{opcodeNumbers};

@@ -9,15 +9,16 @@ use lib.ListN.{length, take, drop, getD, length-take, length-map, drop-of-length
 use lib.Seq.{take-nil, drop-cons, take-append-le, getD-take, getD-drop}
 use lib.Dec.{eqb}
 use borrow.Author.Tests.{eq-eqb, ne-eqb}
-use Rattle.text.specs.Bytes.{Result, value, refused, lower, find}
+use Rattle.spelling.specs.Bytes.{Result, value, refused, lower, find}
+use Rattle.spelling.specs.Contracts.{keyOf}
+use Rattle.spelling.proofs.Tests.{split}
+use Rattle.spelling.proofs.Keys.{Below}
 use Rattle.text.specs.Tokens.{Token}
 use Rattle.text.specs.Lines.{Line}
-use Rattle.text.specs.Contracts.{keyOf, kindMeant, filler, firsts, meant, spelling}
+use Rattle.text.specs.Contracts.{kindMeant, filler, firsts, meant, spelling}
 use Rattle.text.specs.declared.lexer.Kind.{Kind}
 use Rattle.text.specs.declared.lexer.Kind.the-variants.{Identifier}
 use Rattle.text.specs.declared.lexer.Token.{Token as KeptToken}
-use Rattle.text.proofs.Tests.{split}
-use Rattle.text.proofs.Keys.{Below}
 use Rattle.instruction.specs.Table.{Place, Form, R, I, Shift, Load, Store, Branch, Jump, System, places, Row, table, rowNamed}
 use Rattle.instruction.specs.Operands.{Instruction, readIdentifier, readOperands, made, readRow, readMnemonic, readInstruction, behind}
 use Rattle.instruction.specs.Contracts.{rowAt, formAt, formNumber, partsMeant}

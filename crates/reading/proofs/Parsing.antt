@@ -7,17 +7,18 @@ use mathlib.Core.List.{List, map}
 use lib.ListN.{getD, List·getD-map}
 use lib.Dec.{eqb}
 use borrow.Author.Tests.{eq-eqb, ne-eqb}
-use Rattle.text.specs.Bytes.{Result, refused, between, lower}
+use Rattle.spelling.specs.Bytes.{Result, refused, between, lower}
+use Rattle.spelling.specs.Contracts.{indexOf, wholeMeant}
+use Rattle.spelling.specs.declared.number.Whole.{Whole}
+use Rattle.spelling.specs.declared.register.Register.{Register as Named}
+use Rattle.spelling.proofs.Tests.{by-test, between-true}
+use Rattle.spelling.proofs.Keys.{Below}
 use Rattle.text.specs.Tokens.{Token}
-use Rattle.text.specs.Contracts.{indexOf, wholeMeant, kindMeant, numberOf, extractMeant}
+use Rattle.text.specs.Contracts.{kindMeant, numberOf, extractMeant}
 use Rattle.text.specs.declared.lexer.Kind.{Kind}
 use Rattle.text.specs.declared.lexer.Kind.the-variants.{Identifier, Register, NoRegister, Number, Negative, Hex, Binary, Directive, Comma, Colon, LParen, RParen}
-use Rattle.text.specs.declared.number.Whole.{Whole}
-use Rattle.text.specs.declared.register.Register.{Register as Named}
 use Rattle.text.specs.declared.parser.Extracted.{Extracted}
 use Rattle.text.specs.declared.parser.Extracted.the-variants.{Number as Extract, NoNumber}
-use Rattle.text.proofs.Tests.{by-test, between-true}
-use Rattle.text.proofs.Keys.{Below}
 use Rattle.instruction.specs.Table.{Place, reg, num, comma-place, opening-place, closing-place}
 use Rattle.instruction.specs.Operands.{Operands, readRegister, readNumber, markByte, withRegister, withNumber, readPlace}
 use Rattle.reading.specs.Contracts.{registerMeant, behindRegister}

@@ -3,9 +3,10 @@ use Prim.Native.Nat.{ℕ, _+_, _≤_}
 use mathlib.Core.Path.{_≡_}
 use mathlib.Core.List.{List, [], _∷_}
 use lib.ListN.{length, getD}
-use Rattle.text.specs.Bytes.{Result, value, refused}
+use Rattle.spelling.specs.Bytes.{Result, value, refused}
+use Rattle.spelling.specs.Contracts.{indexOf}
 use Rattle.text.specs.Tokens.{Token}
-use Rattle.text.specs.Contracts.{indexOf, kindMeant, filler}
+use Rattle.text.specs.Contracts.{kindMeant, filler}
 use Rattle.text.specs.declared.lexer.Token.{Token as KeptToken}
 use Rattle.text.specs.declared.parser.Line.{Line}
 use Rattle.instruction.specs.Table.{Place}

@@ -4,8 +4,9 @@ ghost use mathlib.Core.Bool.{Bool};
 ghost use mathlib.Core.List.{List, [], _∷_, map};
 ghost use Prim.Native.Nat.{ℕ, _+_, _-_, _≤_, _<_};
 ghost use lib.ListN.{length, drop};
-ghost use Rattle.text.specs.Bytes.{Result, lower};
-ghost use Rattle.text.specs.Contracts.{keyOf, kindMeant, firsts};
+ghost use Rattle.spelling.specs.Bytes.{Result, lower};
+ghost use Rattle.spelling.specs.Contracts.{keyOf};
+ghost use Rattle.text.specs.Contracts.{kindMeant, firsts};
 ghost use Rattle.instruction.specs.Table.{reg, num, comma-place, opening-place, closing-place, R, Jump, places};
 ghost use Rattle.instruction.specs.Operands.{readRegister, markByte, readPlace, readRow, readInstruction, behind};
 ghost use Rattle.instruction.specs.Operands.{Operands as MeantOperands};
@@ -14,12 +15,12 @@ ghost use Rattle.reading.specs.Contracts.{registerMeant, behindRegister,
 use instruction::instruction::Instruction;
 use instruction::instruction::Operands;
 use instruction::opcode::Row;
+use spelling::number::Whole;
+use spelling::register::Register;
 use text::lexer::Kind;
 use text::lexer::Token;
-use text::number::Whole;
 use text::parser::Extracted;
 use text::parser::Line;
-use text::register::Register;
 
 pub enum Parsed {
     Is(Instruction),
@@ -260,7 +261,7 @@ fn lower_key(spelling: &[u8]) -> u64
     let mut i = spelling.len();
     while 0 < i {
         i -= 1;
-        key = key * 256 + text::number::wide(text::bytes::to_lower(spelling[i]));
+        key = key * 256 + spelling::number::wide(spelling::bytes::to_lower(spelling[i]));
     }
     key
 }

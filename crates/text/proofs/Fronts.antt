@@ -12,18 +12,19 @@ use lib.Seq.{drop-cons}
 use lib.Dec.{eqb}
 use lib.IntN.{pos}
 use borrow.Author.Tests.{eqb-true, ne-eqb, lt-ltb, le-ltb, le-leb, lt-leb}
-use Rattle.text.specs.Bytes.{bytes, between, letter, digit, hexDigit, binaryDigit, mark, nameStart, namePart, every, before, run, isSome, each}
-use Rattle.text.specs.Numbers.{valueOf, minus}
-use Rattle.text.specs.Names.{Name, name, named, numbered, conventional, present}
+use Rattle.spelling.specs.Bytes.{bytes, between, letter, digit, hexDigit, binaryDigit, mark, nameStart, namePart, every, before, run, isSome, each}
+use Rattle.spelling.specs.Numbers.{valueOf, minus}
+use Rattle.spelling.specs.Names.{Name, name, named, numbered, conventional, present}
+use Rattle.spelling.specs.Contracts.{nameMeant, nameNumber}
+use Rattle.spelling.specs.declared.name.RegisterName.{RegisterName}
+use Rattle.spelling.specs.declared.name.RegisterName.the-variants.{Is, NoSuch, Other}
+use Rattle.spelling.proofs.Tests.{split, by-test}
+use Rattle.spelling.proofs.Strings.{take-run, run-le}
 use Rattle.text.specs.Tokens.{isIdentifier, isRegister, Class, Number, Hex, Binary, Directive, Mark, longest, Token, identifier, register, number, hex, binary, directive, within, numberToken, patternToken, registerToken, markToken, tokenOf, sized, matched, front}
-use Rattle.text.specs.Contracts.{kindMeant, nameMeant, nameNumber, At}
+use Rattle.text.specs.Contracts.{kindMeant, At}
 use Rattle.text.specs.declared.lexer.Kind.{Kind}
 use Rattle.text.specs.declared.lexer.Kind.the-variants.{Identifier as IdentifierKind, Register as RegisterKind, NoRegister}
 use Rattle.text.specs.declared.lexer.Scan.the-variants.{Found}
-use Rattle.text.specs.declared.parser.RegisterName.{RegisterName}
-use Rattle.text.specs.declared.parser.RegisterName.the-variants.{Is, NoSuch, Other}
-use Rattle.text.proofs.Tests.{split, by-test}
-use Rattle.text.proofs.Strings.{take-run, run-le}
 use Rattle.text.proofs.Scanning.{matching, wordClass, atLeastOne, radixOr, digitScan, dotScan, scan, longest-scan, digit-from, digit-not-start}
 use Rattle.text.proofs.Tokens.{front-scan}
 

@@ -1,12 +1,7 @@
-pub mod Tests
-pub mod Strings
-pub mod Numbers
 pub mod Scanning
 pub mod Tokens
 pub mod Lines
 pub mod Left
-pub mod Keys
-pub mod Values
 pub mod Fronts
 pub mod Stepping
 pub mod Recording

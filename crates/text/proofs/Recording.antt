@@ -10,18 +10,18 @@ use mathlib.Core.List.{List, [], _∷_, _++_, map, map-append, append-assoc, app
 use mathlib.Core.Option.{Option, none, some}
 use lib.ListN.{length, take, drop, getD, set, replicate, length-drop, length-set, length-take, length-map, drop-of-length-le}
 use lib.Seq.{take-all, take-append-le, take-suc-set, drop-set-lt, getD-set-same, getD-set-other, drop-drop, getD-drop}
-use Rattle.text.specs.Bytes.{blank, run}
-use Rattle.text.specs.Names.{present}
+use Rattle.spelling.specs.Bytes.{blank, run, inside, margin}
+use Rattle.spelling.specs.Names.{present}
+use Rattle.spelling.proofs.Tests.{split, not-true, no-both}
+use Rattle.spelling.proofs.Strings.{run-no, run-end, run-stop}
 use Rattle.text.specs.Tokens.{infront, tokens}
 use Rattle.text.specs.Tokens.{Token as Meant}
 use Rattle.text.specs.Lines.{indent, kept, lineOf, recordOf, readLine}
 use Rattle.text.specs.Lines.{Line as Record}
-use Rattle.text.specs.Places.{inside, restAt, leftAt, endAt, margin}
+use Rattle.text.specs.Places.{restAt, leftAt, endAt}
 use Rattle.text.specs.Contracts.{meant, Stepped, firsts, filler, placeOf, IsNext, spoiled, LineRead}
 use Rattle.text.specs.declared.lexer.Token.{Token}
 use Rattle.text.specs.declared.lexer.Scan.the-variants.{Found, Bad, End}
-use Rattle.text.proofs.Tests.{split, not-true, no-both}
-use Rattle.text.proofs.Strings.{run-no, run-end, run-stop}
 use Rattle.text.proofs.Left.{blank-margin, content-at, indent-at}
 use Rattle.text.proofs.Stepping.{margin-on}
 

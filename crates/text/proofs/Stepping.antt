@@ -8,15 +8,15 @@ use mathlib.Core.List.{List, [], _∷_}
 use mathlib.Core.Option.{none, some}
 use lib.ListN.{length, take, drop, getD, length-drop}
 use lib.Seq.{getD-drop}
-use Rattle.text.specs.Bytes.{blank, mark, before, run, every}
-use Rattle.text.specs.Names.{present}
+use Rattle.spelling.specs.Bytes.{blank, mark, before, run, every, inside, margin}
+use Rattle.spelling.specs.Names.{present}
+use Rattle.spelling.proofs.Strings.{run-le, run-no, run-end, run-stop, take-run, every-run, every-mono}
 use Rattle.text.specs.Tokens.{Token, markToken, front, infront, tokens, sized}
-use Rattle.text.specs.Places.{inside, leftAt, endAt, margin}
+use Rattle.text.specs.Places.{leftAt, endAt}
 use Rattle.text.specs.Contracts.{kindMeant, meant, NoWord, At, Leads, past, Finds, Stepped}
 use Rattle.text.specs.declared.lexer.Kind.{Kind}
 use Rattle.text.specs.declared.lexer.Scan.{Scan}
 use Rattle.text.specs.declared.lexer.Scan.the-variants.{Found, Bad, End}
-use Rattle.text.proofs.Strings.{run-le, run-no, run-end, run-stop, take-run, every-run, every-mono}
 use Rattle.text.proofs.Left.{solid, mark-solid, solid-plain, margin-inside, blank-inside, blanks-at, found-at, found-solid, solid-bad, nothing-left, none-read, bad-left, bad-at, end-on}
 use Rattle.text.proofs.Fronts.{names-ok, mark-front, mark-none}
 

@@ -1,6 +1,3 @@
-pub mod Bytes
-pub mod Numbers
-pub mod Names
 pub mod Tokens
 pub mod Lines
 pub mod NameSets

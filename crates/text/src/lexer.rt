@@ -3,12 +3,12 @@ ghost use mathlib.Core.Path.{_≡_};
 ghost use mathlib.Core.Bool.{true, false};
 ghost use Prim.Native.Nat.{_+_, _-_, _≤_, _<_};
 ghost use lib.ListN.{length, getD};
-ghost use Rattle.text.specs.Bytes.{nameStart, digit, mark, blank};
+ghost use Rattle.spelling.specs.Bytes.{nameStart, digit, mark, blank};
 ghost use Rattle.text.specs.Contracts.{At, Stepped, IsDecimal, NoWord};
-use crate::bytes::Class;
-use crate::number::Value;
-use crate::parser::RegisterName;
-use crate::register::Register;
+use spelling::bytes::Class;
+use spelling::name::RegisterName;
+use spelling::number::Value;
+use spelling::register::Register;
 
 // A number's kinds keep its magnitude; the spelling of a name is the token's part of the text.
 pub enum Kind {
@@ -59,8 +59,8 @@ fn word(text: &[u8], at: usize) -> Scan
     requires { ⌜ at < length (now text) ⌝ ∗ ⌜ nameStart (getD (now text) at 0) ≡ true ⌝ }
     ensures { λ r. ⌜ At (now (text .entry)) at r ⌝ }
 {
-    let end = crate::bytes::run_end(text, at + 1, Class::NamePart);
-    match crate::parser::parse_register(&text[at..end]) {
+    let end = spelling::bytes::run_end(text, at + 1, Class::NamePart);
+    match spelling::name::parse_register(&text[at..end]) {
         RegisterName::Is(register) => found(Kind::Register(register), at, end),
         RegisterName::NoSuch => found(Kind::NoRegister, at, end),
         RegisterName::Other => found(Kind::Identifier, at, end),
@@ -72,7 +72,7 @@ fn decimal(text: &[u8], at: usize, end: usize) -> Scan
     requires { ⌜ IsDecimal (now text) at end ⌝ }
     ensures { λ r. ⌜ At (now (text .entry)) at r ⌝ }
 {
-    match crate::number::value_of(&text[at..end], 10, 1844674407370955161) {
+    match spelling::number::value_of(&text[at..end], 10, 1844674407370955161) {
         Value::TooLarge => Scan::Bad,
         Value::Fits(value) => {
             if value < 9223372036854775808 {
@@ -90,11 +90,11 @@ fn minus(text: &[u8], at: usize) -> Scan
     ensures { λ r. ⌜ At (now (text .entry)) at r ⌝ }
 {
     let begin = at + 1;
-    let end = crate::bytes::run_end(text, begin, Class::Digit);
+    let end = spelling::bytes::run_end(text, begin, Class::Digit);
     if end == begin {
         return Scan::Bad;
     }
-    match crate::number::value_of(&text[begin..end], 10, 1844674407370955161) {
+    match spelling::number::value_of(&text[begin..end], 10, 1844674407370955161) {
         Value::TooLarge => Scan::Bad,
         Value::Fits(value) => {
             if value <= 9223372036854775808 {
@@ -112,11 +112,11 @@ fn hex(text: &[u8], at: usize) -> Scan
     ensures { λ r. ⌜ At (now (text .entry)) at r ⌝ }
 {
     let begin = at + 2;
-    let end = crate::bytes::run_end(text, begin, Class::HexDigit);
+    let end = spelling::bytes::run_end(text, begin, Class::HexDigit);
     if end == begin {
         return decimal(text, at, at + 1);
     }
-    match crate::number::value_of(&text[begin..end], 16, 1152921504606846975) {
+    match spelling::number::value_of(&text[begin..end], 16, 1152921504606846975) {
         Value::TooLarge => Scan::Bad,
         Value::Fits(value) => found(Kind::Hex(value), at, end),
     }
@@ -128,11 +128,11 @@ fn binary(text: &[u8], at: usize) -> Scan
     ensures { λ r. ⌜ At (now (text .entry)) at r ⌝ }
 {
     let begin = at + 2;
-    let end = crate::bytes::run_end(text, begin, Class::BinaryDigit);
+    let end = spelling::bytes::run_end(text, begin, Class::BinaryDigit);
     if end == begin {
         return decimal(text, at, at + 1);
     }
-    match crate::number::value_of(&text[begin..end], 2, 9223372036854775807) {
+    match spelling::number::value_of(&text[begin..end], 2, 9223372036854775807) {
         Value::TooLarge => Scan::Bad,
         Value::Fits(value) => found(Kind::Binary(value), at, end),
     }
@@ -152,7 +152,7 @@ fn digits(text: &[u8], at: usize) -> Scan
             return binary(text, at);
         }
     }
-    let end = crate::bytes::run_end(text, second, Class::Digit);
+    let end = spelling::bytes::run_end(text, second, Class::Digit);
     decimal(text, at, end)
 }
 
@@ -165,10 +165,10 @@ fn directive(text: &[u8], at: usize) -> Scan
     if text.len() <= second {
         return Scan::Bad;
     }
-    if !crate::bytes::is_name_start(text[second]) {
+    if !spelling::bytes::is_name_start(text[second]) {
         return Scan::Bad;
     }
-    let end = crate::bytes::run_end(text, second + 1, Class::NamePart);
+    let end = spelling::bytes::run_end(text, second + 1, Class::NamePart);
     found(Kind::Directive, at, end)
 }
 
@@ -177,7 +177,7 @@ fn ending(text: &[u8], at: usize) -> Scan
     requires { ⌜ at < length (now text) ⌝ ∗ ⌜ NoWord (getD (now text) at 0) ⌝ ∗ ⌜ mark (getD (now text) at 0) ≡ false ⌝ }
     ensures { λ r. ⌜ Stepped (now (text .entry)) at r ⌝ }
 {
-    let stop = crate::bytes::run_end(text, at, Class::Margin);
+    let stop = spelling::bytes::run_end(text, at, Class::Margin);
     if text.len() <= stop {
         return Scan::End(stop);
     }
@@ -208,10 +208,10 @@ fn front(text: &[u8], at: usize) -> Scan
     ensures { λ r. ⌜ Stepped (now (text .entry)) at r ⌝ }
 {
     let b = text[at];
-    if crate::bytes::is_name_start(b) {
+    if spelling::bytes::is_name_start(b) {
         return word(text, at);
     }
-    if crate::bytes::is_digit(b) {
+    if spelling::bytes::is_digit(b) {
         return digits(text, at);
     }
     if b == b'-' {
@@ -224,11 +224,11 @@ fn front(text: &[u8], at: usize) -> Scan
 }
 
 // The next token of the line from `from` on.
-pub fn next_token(text: &[u8], from: usize) -> Scan
+pub(crate) fn next_token(text: &[u8], from: usize) -> Scan
     requires { ⌜ from ≤ length (now text) ⌝ }
     ensures { λ r. ⌜ Stepped (now (text .entry)) from r ⌝ }
 {
-    let at = crate::bytes::run_end(text, from, Class::Blank);
+    let at = spelling::bytes::run_end(text, from, Class::Blank);
     if at < text.len() {
         return front(text, at);
     }

@@ -1,7 +1,4 @@
-// The text layer: bytes, numbers, register names, tokens and the record of a line.
-pub mod bytes;
+// The upper half of the text layer: tokens and the record of a line.
 pub mod lexer;
-pub mod number;
 pub mod parser;
 pub mod reader;
-pub mod register;

@@ -9,11 +9,11 @@ use mathlib.Core.List.{List, [], _∷_, _++_, map}
 use lib.ListN.{length, take, length-append, length-map}
 use lib.Dec.{leb}
 use borrow.Author.Tests.{le-leb, lt-leb}
-use Rattle.text.specs.Bytes.{bytes, ascii, every, before}
-use Rattle.text.specs.Numbers.{decimal}
-use Rattle.text.specs.Names.{present}
+use Rattle.spelling.specs.Bytes.{bytes, ascii, every, before}
+use Rattle.spelling.specs.Numbers.{decimal}
+use Rattle.spelling.specs.Names.{present}
+use Rattle.spelling.proofs.Numbers.{decimal-length}
 use Rattle.text.specs.Lines.{lines}
-use Rattle.text.proofs.Numbers.{decimal-length}
 use Rattle.coding.specs.Contracts.{put, Written}
 use Rattle.instruction.specs.Words.{wordOf}
 use Rattle.image.specs.Settings.{Settings}

@@ -8,10 +8,10 @@ use mathlib.Core.List.{List, [], _∷_, map, flatMap}
 use lib.ListN.{length, length-append, length-map}
 use lib.Dec.{eqb}
 use borrow.Author.Tests.{le-leb}
-use Rattle.text.specs.Bytes.{Result, value, refused}
-use Rattle.text.specs.Names.{Name, present}
+use Rattle.spelling.specs.Bytes.{Result, value, refused}
+use Rattle.spelling.specs.Names.{Name, present}
+use Rattle.spelling.proofs.Numbers.{decimal-length}
 use Rattle.text.specs.Lines.{Line, extended, lines, readLine}
-use Rattle.text.proofs.Numbers.{decimal-length}
 use Rattle.instruction.specs.Operands.{Instruction, readInstruction, behind}
 use Rattle.instruction.specs.Words.{wordOf}
 use Rattle.instruction.specs.Text.{instructionText}

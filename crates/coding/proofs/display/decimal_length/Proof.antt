@@ -4,8 +4,8 @@ use Prim.Native.Nat.{_+_}
 use mathlib.Core.Path.{_≡_, ap}
 use native.Mathlib.Omega.{arith}
 use lib.ListN.{length}
-use Rattle.text.specs.Numbers.{decimal}
-use Rattle.text.proofs.Numbers.{decimal-length}
+use Rattle.spelling.specs.Numbers.{decimal}
+use Rattle.spelling.proofs.Numbers.{decimal-length}
 use Rattle.coding.proofs.Decimals.{decimal-one, decimal-longer}
 use Rattle.coding.proofs.display.decimal_length.Statement.{statement}
 use Rattle.coding.proofs.display.decimal_length.Tie as tie

@@ -3,7 +3,7 @@ use mathlib.Core.Path.{ap}
 use native.Mathlib.Omega.{arith}
 use lib.ListN.{length}
 use borrow.Author.Needs.{needs}
-use Rattle.text.specs.Numbers.{signedDecimal}
+use Rattle.spelling.specs.Numbers.{signedDecimal}
 use Rattle.coding.proofs.Decimals.{signed-minus, signed-zero}
 use Rattle.coding.proofs.display.number_length.Statement.{statement}
 use Rattle.coding.proofs.display.number_length.Tie as tie

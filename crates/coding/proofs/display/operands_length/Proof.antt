@@ -4,7 +4,7 @@ use native.Mathlib.Nat.{pos-of-ne-zero}
 use native.Mathlib.Omega.{arith}
 use lib.ListN.{length}
 use borrow.Author.Needs.{needs}
-use Rattle.text.proofs.Tests.{split}
+use Rattle.spelling.proofs.Tests.{split}
 use Rattle.coding.proofs.Pieces.{registers-length, jump-length, number-length, no-operands}
 use Rattle.coding.proofs.display.operands_length.Statement.{statement}
 use Rattle.coding.proofs.display.operands_length.Tie as tie

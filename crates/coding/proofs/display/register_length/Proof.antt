@@ -3,9 +3,9 @@ use mathlib.Core.Path.{_≡_, ap, _∙_}
 use native.Mathlib.Omega.{arith}
 use lib.ListN.{length}
 use borrow.Author.Needs.{needs}
-use Rattle.text.specs.Numbers.{decimal}
-use Rattle.text.specs.Contracts.{indexOf}
-use Rattle.text.proofs.Numbers.{decimal-length}
+use Rattle.spelling.specs.Numbers.{decimal}
+use Rattle.spelling.specs.Contracts.{indexOf}
+use Rattle.spelling.proofs.Numbers.{decimal-length}
 use Rattle.instruction.specs.Text.{registerText}
 use Rattle.instruction.proofs.Parts.{register-below}
 use Rattle.coding.proofs.display.register_length.Statement.{statement}

@@ -5,7 +5,7 @@ use Prim.Native.Nat.{_+_, _≤_}
 use native.Mathlib.Omega.{arith}
 use lib.ListN.{length, length-set, length-append}
 use borrow.Author.Needs.{needs}
-use Rattle.text.specs.Contracts.{indexOf}
+use Rattle.spelling.specs.Contracts.{indexOf}
 use Rattle.instruction.specs.Text.{registerText}
 use Rattle.coding.proofs.Writing.{written-byte, written-append, room-behind}
 use Rattle.coding.proofs.display.write_base.Statement.{statement}

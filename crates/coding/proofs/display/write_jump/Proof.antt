@@ -4,8 +4,8 @@ use Prim.Native.Nat.{_+_, _≤_}
 use native.Mathlib.Omega.{arith}
 use lib.ListN.{length}
 use borrow.Author.Needs.{needs}
-use Rattle.text.specs.Numbers.{signedDecimal}
-use Rattle.text.specs.Contracts.{wholeMeant}
+use Rattle.spelling.specs.Numbers.{signedDecimal}
+use Rattle.spelling.specs.Contracts.{wholeMeant}
 use Rattle.coding.specs.Contracts.{firstText}
 use Rattle.coding.proofs.Pieces.{jump-text}
 use Rattle.coding.proofs.Writing.{written-append, room-before, room-behind}

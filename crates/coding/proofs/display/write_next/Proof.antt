@@ -4,7 +4,7 @@ use Prim.Native.Nat.{_+_, _≤_}
 use native.Mathlib.Omega.{arith}
 use lib.ListN.{length, set, length-set}
 use borrow.Author.Needs.{needs}
-use Rattle.text.specs.Contracts.{indexOf}
+use Rattle.spelling.specs.Contracts.{indexOf}
 use Rattle.instruction.specs.Text.{registerText}
 use Rattle.coding.proofs.Writing.{written-byte, written-append, room-before, room-behind}
 use Rattle.coding.proofs.display.write_next.Statement.{statement}

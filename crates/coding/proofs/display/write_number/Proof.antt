@@ -5,8 +5,8 @@ use mathlib.Core.Logic.{⊎-elim}
 use native.Mathlib.Omega.{arith}
 use lib.ListN.{length, length-set}
 use borrow.Author.Needs.{needs}
-use Rattle.text.specs.Numbers.{decimal, signedDecimal}
-use Rattle.text.specs.Contracts.{wholeMeant}
+use Rattle.spelling.specs.Numbers.{decimal, signedDecimal}
+use Rattle.spelling.specs.Contracts.{wholeMeant}
 use Rattle.coding.proofs.Decimals.{signed-minus, signed-zero}
 use Rattle.coding.proofs.Writing.{written-byte, written-append}
 use Rattle.coding.proofs.display.write_number.Statement.{statement}

@@ -4,7 +4,7 @@ use mathlib.Core.Logic.{⊎-elim}
 use native.Mathlib.Nat.{pos-of-ne-zero}
 use native.Mathlib.Omega.{arith}
 use borrow.Author.Needs.{needs}
-use Rattle.text.proofs.Tests.{split}
+use Rattle.spelling.proofs.Tests.{split}
 use Rattle.instruction.specs.Table.{I, Load}
 use Rattle.instruction.specs.Contracts.{formAt}
 use Rattle.coding.specs.Contracts.{formText}

@@ -4,7 +4,7 @@ use Prim.Native.Nat.{_+_, _≤_}
 use native.Mathlib.Omega.{arith}
 use lib.ListN.{length}
 use borrow.Author.Needs.{needs}
-use Rattle.text.specs.Contracts.{indexOf}
+use Rattle.spelling.specs.Contracts.{indexOf}
 use Rattle.instruction.specs.Text.{registerText}
 use Rattle.coding.specs.Contracts.{pairText}
 use Rattle.coding.proofs.Pieces.{registers-text}

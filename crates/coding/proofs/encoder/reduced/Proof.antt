@@ -4,9 +4,9 @@ use native.Mathlib.Omega.{arith}
 use native.Mathlib.Nat.{le-of-suc-le-suc}
 use lib.Pow.{pow-mono}
 use borrow.Author.Needs.{needs}
-use Rattle.text.specs.Numbers.{residue}
-use Rattle.text.specs.Contracts.{wholeMeant}
-use Rattle.text.proofs.Numbers.{residue-lt}
+use Rattle.spelling.specs.Numbers.{residue}
+use Rattle.spelling.specs.Contracts.{wholeMeant}
+use Rattle.spelling.proofs.Numbers.{residue-lt}
 use Rattle.coding.proofs.encoder.reduced.Statement.{statement}
 use Rattle.coding.proofs.encoder.reduced.Tie as tie
 

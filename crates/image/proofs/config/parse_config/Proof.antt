@@ -4,11 +4,12 @@ use mathlib.Core.Path.{_≡_, refl, sym, ap₂, _∙_}
 use native.Mathlib.Omega.{arith}
 use lib.ListN.{length, take, drop, getD}
 use borrow.Author.Needs.{needs}
-use Rattle.text.specs.Numbers.{residue}
-use Rattle.text.specs.Contracts.{filler, wholeMeant}
+use Rattle.spelling.specs.Numbers.{residue}
+use Rattle.spelling.specs.Contracts.{wholeMeant}
+use Rattle.spelling.proofs.Numbers.{residue-lt}
+use Rattle.text.specs.Contracts.{filler}
 use Rattle.text.specs.declared.lexer.Kind.the-variants.{Identifier}
 use Rattle.text.specs.declared.lexer.Token.{Token}
-use Rattle.text.proofs.Numbers.{residue-lt}
 use Rattle.reading.proofs.Line.{getD-any}
 use Rattle.image.specs.Settings.{set, checked}
 use Rattle.image.specs.Contracts.{settingsMeant, recordMeant}

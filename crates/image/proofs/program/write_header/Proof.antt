@@ -1,7 +1,7 @@
 -- `image::program::write_header` meets its contract.
 use native.Mathlib.Omega.{arith}
 use borrow.Author.Needs.{needs}
-use Rattle.text.specs.Numbers.{little}
+use Rattle.spelling.specs.Numbers.{little}
 use Rattle.coding.proofs.Writing.{written-append}
 use Rattle.image.specs.Settings.{settings}
 use Rattle.image.specs.Program.{magic, version, entry, stack-size, headerBytes, headerFor}

@@ -3,7 +3,7 @@ use mathlib.Core.Path.{refl}
 use native.Mathlib.Omega.{arith}
 use borrow.Author.Needs.{needs}
 use Rattle.instruction.specs.Table.{table, row}
-use Rattle.text.specs.Bytes.{each}
+use Rattle.spelling.specs.Bytes.{each}
 use Rattle.instruction.proofs.Lookup.{place, allBelow, runs, coded-run, gap, coded-gap}
 use Rattle.instruction.proofs.opcode.find_opcode.Statement.{statement}
 use Rattle.instruction.proofs.opcode.find_opcode.Tie as tie

@@ -47,7 +47,7 @@ use denote.Triple.Statement.{Contract, Triple}
 use denote.Triple.Table.{entered, cited}
 use denote.Steps.{nothing, owned, heard}
 use denote.Triple.Walked.{says, Stays, stay-dropped, walkOf, ends-at, walked, goes-dropped, walk-meets}
-use Rattle.text.specs.Bytes.{same}
+use Rattle.spelling.specs.Bytes.{same}
 use Rattle.labels.specs.declared.label.Label.{Label}
 use Rattle.labels.specs.Contracts.{noLabel, InText, spelled, Placed}
 use Rattle.labels.proofs.label.Label as L

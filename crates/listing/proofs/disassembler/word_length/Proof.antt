@@ -4,7 +4,7 @@ use Prim.Native.Nat.{_+_}
 use native.Mathlib.Omega.{arith}
 use lib.ListN.{length}
 use borrow.Author.Needs.{needs}
-use Rattle.text.specs.Bytes.{value}
+use Rattle.spelling.specs.Bytes.{value}
 use Rattle.instruction.specs.Text.{instructionText}
 use Rattle.instruction.specs.Contracts.{instructionMeant}
 use Rattle.image.specs.Listing.{lineText}

@@ -4,7 +4,7 @@ use mathlib.Core.List.{_++_}
 use Prim.Native.Nat.{_+_, _≤_, _<_}
 use native.Mathlib.Omega.{arith}
 use lib.ListN.{length, length-append, length-set}
-use Rattle.text.specs.Numbers.{decimal}
+use Rattle.spelling.specs.Numbers.{decimal}
 use Rattle.coding.proofs.Writing.{written-byte, written-length, written-append}
 use Rattle.image.specs.Listing.{lineText}
 use Rattle.listing.proofs.Texts.{line-length}

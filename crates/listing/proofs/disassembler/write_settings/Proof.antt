@@ -4,7 +4,7 @@ use Prim.Native.Nat.{ℕ, _+_, _≤_}
 use native.Mathlib.Omega.{arith}
 use lib.ListN.{length}
 use borrow.Author.Needs.{needs}
-use Rattle.text.specs.Bytes.{bytes}
+use Rattle.spelling.specs.Bytes.{bytes}
 use Rattle.coding.proofs.Writing.{written-append, room-before, room-behind}
 use Rattle.image.specs.Settings.{settings, limb-bits-key, data-limbs-key, addr-limbs-key}
 use Rattle.image.specs.Listing.{settingText, settingsText}

@@ -4,7 +4,7 @@ use mathlib.Core.Path.{_≡_, ap, _∙_}
 use native.Mathlib.Omega.{arith}
 use lib.ListN.{length, take}
 use borrow.Author.Needs.{needs}
-use Rattle.text.specs.Bytes.{ascii, run}
+use Rattle.spelling.specs.Bytes.{ascii, run}
 use Rattle.text.specs.Lines.{lines}
 use Rattle.image.specs.Assembling.{most-bytes}
 use Rattle.passes.proofs.Answers.{begins-long, begins-high, begins-scan}

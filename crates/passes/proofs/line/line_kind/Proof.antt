@@ -9,7 +9,7 @@ use lib.Dec.{eqb}
 use denote.Enum.Declared.{tagOf}
 use types.Run.{OneOf, miss}
 use borrow.Author.Needs.{needs}
-use Rattle.text.specs.Bytes.{bytes}
+use Rattle.spelling.specs.Bytes.{bytes}
 use Rattle.text.specs.Tokens.{identifier}
 use Rattle.text.specs.Tokens.{Token as MeantToken}
 use Rattle.text.specs.Contracts.{kindMeant, meant, spelling, firsts, filler}

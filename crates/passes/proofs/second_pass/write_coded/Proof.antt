@@ -5,7 +5,7 @@ use native.Mathlib.Omega.{arith}
 use mathlib.Core.List.{flatMap, append-nil}
 use lib.ListN.{length}
 use borrow.Author.Needs.{needs}
-use Rattle.text.specs.Numbers.{little}
+use Rattle.spelling.specs.Numbers.{little}
 use Rattle.coding.proofs.Writing.{written-none}
 use Rattle.passes.specs.Contracts.{codedMeant}
 use Rattle.passes.specs.declared.second_pass.Coded.{Coded}

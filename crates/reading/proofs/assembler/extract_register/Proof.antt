@@ -5,7 +5,7 @@ use mathlib.Core.List.{List, [], _∷_}
 use denote.Enum.Declared.{tagOf}
 use types.Run.{OneOf, miss}
 use borrow.Author.Needs.{needs}
-use Rattle.text.specs.Bytes.{refused}
+use Rattle.spelling.specs.Bytes.{refused}
 use Rattle.text.specs.Contracts.{kindMeant}
 use Rattle.text.specs.declared.lexer.Kind.{Kind}
 use Rattle.text.specs.declared.lexer.Kind.the-variants.{Identifier, Register, NoRegister, Number, Negative, Hex, Binary, Directive, Comma, Colon, LParen, RParen}

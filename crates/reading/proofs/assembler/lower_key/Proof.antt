@@ -5,9 +5,9 @@ use native.Mathlib.Omega.{arith}
 use mathlib.Core.List.{map}
 use lib.ListN.{length, drop, getD, length-map}
 use borrow.Author.Needs.{needs}
-use Rattle.text.specs.Bytes.{lower}
-use Rattle.text.specs.Contracts.{packed}
-use Rattle.text.proofs.Keys.{packed-step, packed-room, packed-none, key-long, key-short}
+use Rattle.spelling.specs.Bytes.{lower}
+use Rattle.spelling.specs.Contracts.{packed}
+use Rattle.spelling.proofs.Keys.{packed-step, packed-room, packed-none, key-long, key-short}
 use Rattle.reading.proofs.Parsing.{lower-below, lower-at, lowered-below}
 use Rattle.reading.proofs.assembler.lower_key.Statement.{statement}
 use Rattle.reading.proofs.assembler.lower_key.Tie as tie

@@ -8,9 +8,10 @@ use lib.ListN.{length, take, drop, getD}
 use denote.Enum.Declared.{tagOf}
 use types.Run.{OneOf, miss}
 use borrow.Author.Needs.{needs}
-use Rattle.text.specs.Bytes.{refused, lower}
+use Rattle.spelling.specs.Bytes.{refused, lower}
+use Rattle.spelling.specs.Contracts.{keyOf}
 use Rattle.text.specs.Tokens.{Token as MeantToken}
-use Rattle.text.specs.Contracts.{keyOf, kindMeant, spelling, meant, firsts, filler}
+use Rattle.text.specs.Contracts.{kindMeant, spelling, meant, firsts, filler}
 use Rattle.text.specs.declared.lexer.Kind.{Kind}
 use Rattle.text.specs.declared.lexer.Kind.the-variants.{Identifier, Register, NoRegister, Number, Negative, Hex, Binary, Directive, Comma, Colon, LParen, RParen}
 use Rattle.text.specs.declared.lexer.Token.{Token}

@@ -3,12 +3,12 @@ use mathlib.Core.Path.{sym, ap, _∙_}
 use Prim.Native.Nat.{_+_, _-_, _≤_}
 use native.Mathlib.Omega.{arith}
 use lib.ListN.{length, take, drop}
-use Rattle.text.specs.Bytes.{binaryDigit}
-use Rattle.text.specs.Numbers.{valueOf}
+use Rattle.spelling.specs.Bytes.{binaryDigit}
+use Rattle.spelling.specs.Numbers.{valueOf}
+use Rattle.spelling.specs.Contracts.{valueMeant}
+use Rattle.spelling.proofs.Values.{fits-is, large-is}
 use Rattle.text.specs.Tokens.{Binary, Number, binary}
-use Rattle.text.specs.Contracts.{valueMeant}
 use Rattle.text.specs.declared.lexer.Kind.the-variants.{Binary as BinaryKind}
-use Rattle.text.proofs.Values.{fits-is, large-is}
 use Rattle.text.proofs.Fronts.{run-in, at-found, longest-found, binary-scan, binary-means, radix-none, radix-some, radix-fits, radix-large, zero-is-digit}
 use borrow.Author.Needs.{needs}
 use Rattle.text.proofs.lexer.binary.Statement.{statement}

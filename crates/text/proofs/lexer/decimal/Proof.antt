@@ -3,11 +3,11 @@ use mathlib.Core.Path.{sym, ap, _∙_}
 use Prim.Native.Nat.{_-_}
 use native.Mathlib.Omega.{arith}
 use lib.ListN.{take, drop}
-use Rattle.text.specs.Numbers.{valueOf}
+use Rattle.spelling.specs.Numbers.{valueOf}
+use Rattle.spelling.specs.Contracts.{valueMeant}
+use Rattle.spelling.proofs.Values.{fits-is, large-is}
 use Rattle.text.specs.Tokens.{Number}
-use Rattle.text.specs.Contracts.{valueMeant}
 use Rattle.text.specs.declared.lexer.Kind.the-variants.{Number as NumberKind}
-use Rattle.text.proofs.Values.{fits-is, large-is}
 use Rattle.text.proofs.Fronts.{at-found, found-longest, decimal-fits, decimal-large}
 use borrow.Author.Needs.{needs}
 use Rattle.text.proofs.lexer.decimal.Statement.{statement}

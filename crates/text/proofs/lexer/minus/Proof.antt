@@ -3,11 +3,11 @@ use mathlib.Core.Path.{sym, ap, _∙_}
 use Prim.Native.Nat.{_+_, _-_, _≤_}
 use native.Mathlib.Omega.{arith}
 use lib.ListN.{length, take, drop}
-use Rattle.text.specs.Bytes.{digit}
-use Rattle.text.specs.Numbers.{valueOf}
-use Rattle.text.specs.Contracts.{valueMeant}
+use Rattle.spelling.specs.Bytes.{digit}
+use Rattle.spelling.specs.Numbers.{valueOf}
+use Rattle.spelling.specs.Contracts.{valueMeant}
+use Rattle.spelling.proofs.Values.{fits-is, large-is}
 use Rattle.text.specs.declared.lexer.Kind.the-variants.{Negative}
-use Rattle.text.proofs.Values.{fits-is, large-is}
 use Rattle.text.proofs.Fronts.{run-in, at-found, minus-none, minus-fits, minus-large}
 use borrow.Author.Needs.{needs}
 use Rattle.text.proofs.lexer.minus.Statement.{statement}

@@ -3,10 +3,11 @@ use mathlib.Core.Path.{_≡_, sym, ap, _∙_}
 use Prim.Native.Nat.{_+_, _-_}
 use native.Mathlib.Omega.{arith}
 use lib.ListN.{length}
-use Rattle.text.specs.Bytes.{namePart}
-use Rattle.text.specs.Contracts.{nameMeant, At}
+use Rattle.spelling.specs.Bytes.{namePart}
+use Rattle.spelling.specs.Contracts.{nameMeant}
+use Rattle.spelling.specs.declared.name.RegisterName.{RegisterName}
+use Rattle.text.specs.Contracts.{At}
 use Rattle.text.specs.declared.lexer.Scan.the-variants.{Found}
-use Rattle.text.specs.declared.parser.RegisterName.{RegisterName}
 use Rattle.text.proofs.Fronts.{run-in, nameKind, word-at}
 use borrow.Author.Needs.{needs}
 use Rattle.text.proofs.lexer.word.Statement.{statement}

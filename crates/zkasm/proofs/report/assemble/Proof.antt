@@ -37,7 +37,7 @@ use denote.Triple.Statement.{Contract, Triple}
 use denote.Triple.Table.{entered, cited}
 use denote.Steps.{nothing, owned}
 use denote.Triple.Walked.{says, Stays, stay-slice, stay-dropped, walkOf, ends-at, walked, goes-slice, goes-dropped, walk-meets}
-use Rattle.text.specs.Names.{present}
+use Rattle.spelling.specs.Names.{present}
 use Rattle.image.specs.Assembling.{assembling}
 use Rattle.image.specs.Lent.{answerOf, imageAfter}
 use Rattle.image.specs.Zkasm.{table-room}

@@ -1,0 +1,5 @@
+pub mod Tests
+pub mod Strings
+pub mod Numbers
+pub mod Keys
+pub mod Values

@@ -1,0 +1,124 @@
+// Byte classes, where a run of one class ends, lower case, and comparing spellings.
+ghost use mathlib.Core.Path.{_≡_};
+ghost use Prim.Native.Nat.{_+_, _≤_};
+ghost use lib.ListN.{length, drop};
+ghost use Rattle.spelling.specs.Bytes.{between, letter, digit, hexDigit, nameStart, namePart, blank, lower, run, margin};
+ghost use Rattle.spelling.specs.Bytes.{same as sameSpelling};
+ghost use Rattle.spelling.specs.Contracts.{isOf};
+
+// A class that a run is of.
+pub enum Class {
+    NamePart,
+    Digit,
+    HexDigit,
+    BinaryDigit,
+    Blank,
+    Margin,
+    Inside,
+    Ascii,
+}
+
+pub fn within(lo: u8, hi: u8, b: u8) -> bool
+    ensures { λ r. ⌜ r ≡ between lo hi b ⌝ }
+{
+    lo <= b && b <= hi
+}
+
+pub fn is_letter(b: u8) -> bool
+    ensures { λ r. ⌜ r ≡ letter b ⌝ }
+{
+    within(b'a', b'z', b) || within(b'A', b'Z', b)
+}
+
+pub fn is_digit(b: u8) -> bool
+    ensures { λ r. ⌜ r ≡ digit b ⌝ }
+{
+    within(b'0', b'9', b)
+}
+
+pub fn is_hex_digit(b: u8) -> bool
+    ensures { λ r. ⌜ r ≡ hexDigit b ⌝ }
+{
+    is_digit(b) || (within(b'a', b'f', b) || within(b'A', b'F', b))
+}
+
+pub fn is_name_start(b: u8) -> bool
+    ensures { λ r. ⌜ r ≡ nameStart b ⌝ }
+{
+    is_letter(b) || b == b'_'
+}
+
+pub fn is_name_part(b: u8) -> bool
+    ensures { λ r. ⌜ r ≡ namePart b ⌝ }
+{
+    is_name_start(b) || is_digit(b)
+}
+
+pub fn is_blank(b: u8) -> bool
+    ensures { λ r. ⌜ r ≡ blank b ⌝ }
+{
+    b == b'\t' || b == b' '
+}
+
+// What an end of a line loses, byte 10 aside, which ends the line.
+pub fn is_margin(b: u8) -> bool
+    ensures { λ r. ⌜ r ≡ margin b ⌝ }
+{
+    if b == b'\n' {
+        return false;
+    }
+    within(9, 13, b) || b == b' '
+}
+
+pub fn is_in(class: Class, b: u8) -> bool
+    ensures { λ r. ⌜ r ≡ isOf class b ⌝ }
+{
+    match class {
+        Class::NamePart => is_name_part(b),
+        Class::Digit => is_digit(b),
+        Class::HexDigit => is_hex_digit(b),
+        Class::BinaryDigit => within(b'0', b'1', b),
+        Class::Blank => is_blank(b),
+        Class::Margin => is_margin(b),
+        Class::Inside => b != b'\n',
+        Class::Ascii => b <= 127,
+    }
+}
+
+// Where the run of bytes of a class from `at` on ends.
+pub fn run_end(text: &[u8], at: usize, class: Class) -> usize
+    requires { ⌜ at ≤ length (now text) ⌝ }
+    ensures { λ r. ⌜ r ≡ at + run (isOf class) (drop at (now (text .entry))) ⌝ }
+{
+    let mut i = at;
+    while i < text.len() {
+        if !is_in(class, text[i]) {
+            return i;
+        }
+        i += 1;
+    }
+    i
+}
+
+pub fn to_lower(b: u8) -> u8
+    ensures { λ r. ⌜ r ≡ lower b ⌝ }
+{
+    if within(b'A', b'Z', b) { b + 32 } else { b }
+}
+
+// Whether two spellings are the same.
+pub fn same(a: &[u8], b: &[u8]) -> bool
+    ensures { λ r. ⌜ r ≡ sameSpelling (now (a .entry)) (now (b .entry)) ⌝ }
+{
+    if a.len() != b.len() {
+        return false;
+    }
+    let mut i = 0;
+    while i < a.len() {
+        if a[i] != b[i] {
+            return false;
+        }
+        i += 1;
+    }
+    true
+}
