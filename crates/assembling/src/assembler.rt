@@ -1,5 +1,4 @@
 // Assembling: the first walk enters the labels, the second writes the image.
-ghost use mathlib.Core.Path.{_≡_};
 ghost use Rattle.passes.specs.Contracts.{Tables};
 ghost use Rattle.assembling.specs.Contracts.{Walks, Assembles};
 use labels::label::Label;

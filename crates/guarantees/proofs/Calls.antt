@@ -17,7 +17,7 @@ use Rattle.image.proofs.Over.{take-over}
 use Rattle.guarantees.proofs.NameSets.{present-set}
 use Rattle.listing.specs.Contracts.{listingMeant}
 use Rattle.image.proofs.Walking.{accepted-assembles}
-use Rattle.guarantees.specs.Calls.{IsRefusal, IsUnlisted, labelCount, Calls}
+use Rattle.guarantees.specs.Calls.{IsRefusal, IsUnlisted, Calls}
 use Rattle.guarantees.proofs.Demand3.{demand-3}
 
 -- ---- assembling

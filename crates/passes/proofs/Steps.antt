@@ -25,7 +25,6 @@ use Rattle.text.specs.declared.parser.Line.{Line}
 use Rattle.text.proofs.Fronts.{part-cons, names-ok}
 use Rattle.text.proofs.Left.{found-solid}
 use Rattle.instruction.specs.Operands.{Instruction, markByte, readInstruction, behind}
-use Rattle.reading.specs.Contracts.{Kept}
 use Rattle.reading.proofs.Line.{behind-none}
 use Rattle.image.specs.Settings.{Settings, configured}
 use Rattle.image.specs.Assembling.{State, next, stop, Kind, empty, labelled, config, ignored, plain, identifierKind, kindOf, isKnown, withLabel, enter, withSettings, most-words, withInstruction, afterLabel, stepOn, step}

@@ -1,7 +1,6 @@
 // A source's record: assembled with several tables and buffers, and its image opened, listed and assembled again.
 use crate::answer::Answer;
 use crate::answer::Header;
-use crate::answer::Text;
 use crate::record::Source;
 use crate::room;
 

@@ -1,5 +1,4 @@
 -- `reading::assembler::six_behind` meets its contract.
-use native.Mathlib.Omega.{arith}
 use borrow.Author.Needs.{needs}
 use Rattle.reading.proofs.Line.{six-any}
 use Rattle.reading.proofs.assembler.six_behind.Statement.{statement}
