@@ -7,6 +7,7 @@ ghost use Rattle.labels.specs.Contracts.{InText, spelled, Placed, anyNam
 use image::config::Checked;
 
 // Where a label's spelling stands in the source, and its address.
+#[repr(C)]
 pub struct Label {
     pub start: usize,
     pub length: usize,
