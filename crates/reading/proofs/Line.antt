@@ -34,7 +34,7 @@ use Rattle.reading.proofs.Parsing.{lowered-below}
 -- ---- forms by their numbers
 
 -- What holds of each of k numbers from one on.
-abbrev Each : (ℕ → Type 0) → ℕ → ℕ → Type 0
+abbrev pub Each : (ℕ → Type 0) → ℕ → ℕ → Type 0
 Each P lo zero = Unit {0}
 Each P lo (suc k) = P lo × Each P (suc lo) k
 
@@ -49,7 +49,7 @@ pub past-forms : (n : ℕ) → 5 ≤ n → (n ≡ 5 → ⊥) → (n ≡ 6 → �
 past-forms n h five six = List·getD-eq-default (R ∷ I ∷ Shift ∷ Load ∷ Store ∷ Branch ∷ Jump ∷ []) System {n = n} (omega arith)
 
 -- No form has more than six operand tokens.
-six-places : (f : Form) → length (places f) ≤ 6
+pub six-places : (f : Form) → length (places f) ≤ 6
 unfolding places
 six-places R = omega arith
 six-places I = omega arith

@@ -1,0 +1,4 @@
+pub mod Naming
+pub mod Places
+pub mod Operands
+pub mod Lines
