@@ -1,8 +1,8 @@
 // Byte classes, where a run of one class ends, lower case, and comparing spellings.
 ghost use mathlib.Core.Path.{_≡_};
 ghost use Prim.Native.Nat.{_+_, _≤_};
-ghost use lib.ListN.{length, drop};
-ghost use Rattle.spelling.specs.Bytes.{between, letter, digit, hexDigit, nameStart, namePart, blank, lower, run, margin};
+ghost use lib.ListN.{length, take, drop};
+ghost use Rattle.spelling.specs.Bytes.{between, letter, digit, hexDigit, nameStart, namePart, blank, inside, ascii, lower, every, run, margin};
 ghost use Rattle.spelling.specs.Bytes.{same as sameSpelling};
 ghost use Rattle.spelling.specs.Contracts.{isOf};
 
@@ -98,6 +98,53 @@ pub fn run_end(text: &[u8], at: usize, class: Class) -> usize
         i += 1;
     }
     i
+}
+
+// Whether the 16 bytes from `at` on are all in a class: each is tested, so that they can be tested at once.
+fn block_in(text: &[u8], at: usize, class: Class) -> bool
+    requires { ⌜ at + 16 ≤ length (now text) ⌝ }
+    ensures { λ r. ⌜ r ≡ every (isOf class) (take 16 (drop at (now (text .entry)))) ⌝ }
+{
+    let mut all = true;
+    let mut j: usize = 0;
+    while j < 16 {
+        if !is_in(class, text[at + j]) {
+            all = false;
+        }
+        j += 1;
+    }
+    all
+}
+
+// Where a run ends that is long as a rule: by blocks, and then by bytes.
+fn long_end(text: &[u8], at: usize, class: Class) -> usize
+    requires { ⌜ at ≤ length (now text) ⌝ }
+    ensures { λ r. ⌜ r ≡ at + run (isOf class) (drop at (now (text .entry))) ⌝ }
+{
+    let mut i = at;
+    while 16 <= text.len() - i {
+        if !block_in(text, i, class) {
+            return run_end(text, i, class);
+        }
+        i += 16;
+    }
+    run_end(text, i, class)
+}
+
+// Where the line that a place stands in ends.
+pub fn line_end(text: &[u8], at: usize) -> usize
+    requires { ⌜ at ≤ length (now text) ⌝ }
+    ensures { λ r. ⌜ r ≡ at + run inside (drop at (now (text .entry))) ⌝ }
+{
+    long_end(text, at, Class::Inside)
+}
+
+// Where the bytes up to 127 end, from a place on.
+pub fn ascii_end(text: &[u8], at: usize) -> usize
+    requires { ⌜ at ≤ length (now text) ⌝ }
+    ensures { λ r. ⌜ r ≡ at + run ascii (drop at (now (text .entry))) ⌝ }
+{
+    long_end(text, at, Class::Ascii)
 }
 
 pub fn to_lower(b: u8) -> u8
