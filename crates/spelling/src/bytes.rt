@@ -100,15 +100,15 @@ pub fn run_end(text: &[u8], at: usize, class: Class) -> usize
     i
 }
 
-// Whether the 16 bytes from `at` on are all in a class: each is tested, so that they can be tested at once.
-fn block_in(text: &[u8], at: usize, class: Class) -> bool
+// Whether the 16 bytes from `at` on are all of one line. Each is tested, so that they can be tested at once.
+fn line_block(text: &[u8], at: usize) -> bool
     requires { ⌜ at + 16 ≤ length (now text) ⌝ }
-    ensures { λ r. ⌜ r ≡ every (isOf class) (take 16 (drop at (now (text .entry)))) ⌝ }
+    ensures { λ r. ⌜ r ≡ every inside (take 16 (drop at (now (text .entry)))) ⌝ }
 {
     let mut all = true;
     let mut j: usize = 0;
     while j < 16 {
-        if !is_in(class, text[at + j]) {
+        if !is_in(Class::Inside, text[at + j]) {
             all = false;
         }
         j += 1;
@@ -116,35 +116,51 @@ fn block_in(text: &[u8], at: usize, class: Class) -> bool
     all
 }
 
-// Where a run ends that is long as a rule: by blocks, and then by bytes.
-fn long_end(text: &[u8], at: usize, class: Class) -> usize
-    requires { ⌜ at ≤ length (now text) ⌝ }
-    ensures { λ r. ⌜ r ≡ at + run (isOf class) (drop at (now (text .entry))) ⌝ }
-{
-    let mut i = at;
-    while 16 <= text.len() - i {
-        if !block_in(text, i, class) {
-            return run_end(text, i, class);
-        }
-        i += 16;
-    }
-    run_end(text, i, class)
-}
-
-// Where the line that a place stands in ends.
+// Where the line that a place stands in ends: by blocks, and then by bytes.
 pub fn line_end(text: &[u8], at: usize) -> usize
     requires { ⌜ at ≤ length (now text) ⌝ }
     ensures { λ r. ⌜ r ≡ at + run inside (drop at (now (text .entry))) ⌝ }
 {
-    long_end(text, at, Class::Inside)
+    let mut i = at;
+    while 16 <= text.len() - i {
+        if !line_block(text, i) {
+            return run_end(text, i, Class::Inside);
+        }
+        i += 16;
+    }
+    run_end(text, i, Class::Inside)
 }
 
-// Where the bytes up to 127 end, from a place on.
+// Whether the 32 bytes from `at` on are all up to 127: their largest is.
+fn ascii_block(text: &[u8], at: usize) -> bool
+    requires { ⌜ at + 32 ≤ length (now text) ⌝ }
+    ensures { λ r. ⌜ r ≡ every ascii (take 32 (drop at (now (text .entry)))) ⌝ }
+{
+    let mut most: u8 = 0;
+    let mut j: usize = 0;
+    while j < 32 {
+        let b = text[at + j];
+        if most < b {
+            most = b;
+        }
+        j += 1;
+    }
+    is_in(Class::Ascii, most)
+}
+
+// Where the bytes up to 127 end, from a place on: by blocks, and then by bytes.
 pub fn ascii_end(text: &[u8], at: usize) -> usize
     requires { ⌜ at ≤ length (now text) ⌝ }
     ensures { λ r. ⌜ r ≡ at + run ascii (drop at (now (text .entry))) ⌝ }
 {
-    long_end(text, at, Class::Ascii)
+    let mut i = at;
+    while 32 <= text.len() - i {
+        if !ascii_block(text, i) {
+            return run_end(text, i, Class::Ascii);
+        }
+        i += 32;
+    }
+    run_end(text, i, Class::Ascii)
 }
 
 pub fn to_lower(b: u8) -> u8

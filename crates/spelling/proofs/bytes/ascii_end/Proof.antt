@@ -1,21 +1,20 @@
--- `spelling::bytes::long_end` meets its contract. The loop's invariant: what is left of the run is the run's rest.
+-- `spelling::bytes::ascii_end` meets its contract. The loop's invariant: what is left of the run is the run's rest.
 use mathlib.Core.Path.{_≡_, refl, sym, _∙_}
 use Prim.Native.Nat.{_≤_, _+_, _-_}
 use native.Mathlib.Omega.{arith}
 use lib.ListN.{length, drop}
 use borrow.Author.Needs.{needs}
 use borrow.Author.Tests.{not-false}
-use Rattle.spelling.specs.Bytes.{run}
-use Rattle.spelling.specs.Contracts.{isOf}
+use Rattle.spelling.specs.Bytes.{run, ascii}
 use Rattle.spelling.proofs.Strings.{run-block}
-use Rattle.spelling.proofs.bytes.long_end.Statement.{statement}
-use Rattle.spelling.proofs.bytes.long_end.Tie as tie
+use Rattle.spelling.proofs.bytes.ascii_end.Statement.{statement}
+use Rattle.spelling.proofs.bytes.ascii_end.Tie as tie
 
 abbrev Inv-loop : tie.InvT-loop
-Inv-loop s at class i₀ i = (i ≤ length s) × (i + run (isOf class) (drop i s) ≡ at + run (isOf class) (drop at s))
+Inv-loop s at i₀ i = (i ≤ length s) × (i + run ascii (drop i s) ≡ at + run ascii (drop at s))
 
 abbrev μ-loop : tie.MeasureT-loop
-μ-loop s at class i₀ i = length s - i
+μ-loop s at i₀ i = length s - i
 
 loop-holds : tie.Need-loop-holds Inv-loop μ-loop
 loop-holds c = (omega arith, refl)
@@ -23,8 +22,8 @@ loop-holds c = (omega arith, refl)
 sub-loop : tie.Need-sub-loop Inv-loop μ-loop
 sub-loop c = omega arith
 
-block-in-requires : tie.Need-block-in-requires Inv-loop μ-loop
-block-in-requires c κs = omega arith
+ascii-block-requires : tie.Need-ascii-block-requires Inv-loop μ-loop
+ascii-block-requires c κs = omega arith
 
 run-end-requires : tie.Need-run-end-requires Inv-loop μ-loop
 run-end-requires c κs = omega arith
@@ -42,7 +41,7 @@ loop-again : tie.Need-loop-again Inv-loop μ-loop
 loop-again c =
     let b = c .before .before .before in
     let a = b .before .before .args in
-    let m = run-block (isOf (a .class)) 16 (a .text .now) (b .loop .i) (omega arith) (sym (c .before .block-in .ensures) ∙ not-false _ (c .if1 .left)) in
+    let m = run-block ascii 32 (a .text .now) (b .loop .i) (omega arith) (sym (c .before .ascii-block .ensures) ∙ not-false _ (c .if1 .left)) in
     (omega arith, omega (arith, b .loop .inv .1, m))
 
 run-end-requires-2 : tie.Need-run-end-requires-2 Inv-loop μ-loop
@@ -51,15 +50,15 @@ run-end-requires-2 c κs = omega arith
 returns-2 : tie.Need-returns-2 Inv-loop μ-loop
 returns-2 c = c .run-end2 .ensures ∙ c .before .before .loop .inv .1
 
-pub long-end-spec : {M : Type 1} → statement M
-long-end-spec =
+pub ascii-end-spec : {M : Type 1} → statement M
+ascii-end-spec =
     tie.close
     (tie.spec
     Inv-loop
     μ-loop
     loop-holds
     sub-loop
-    block-in-requires
+    ascii-block-requires
     run-end-requires
     returns
     add-i
