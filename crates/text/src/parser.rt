@@ -77,7 +77,7 @@ pub fn tokenize(text: &[u8], from: usize) -> Line
     loop {
         match crate::reader::token_at(text, at) {
             Scan::End(stop) => {
-                let end = spelling::bytes::run_end(text, stop, Class::Inside);
+                let end = spelling::bytes::line_end(text, stop);
                 return Line {
                     tokens,
                     count,

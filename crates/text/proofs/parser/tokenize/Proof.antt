@@ -39,15 +39,15 @@ stopped : (c : tie.After-stop Inv-loop μ-loop) → let b = c .before .before .b
     Stepped (b .before .before .before .before .args .text .now) (b .loop .at) (End (c .stop .given .0 .0))
 stopped c = rw (c .stop .given .1) at (c .before .before .token-at .ensures)
 
-run-end-requires-2 : tie.Need-run-end-requires-2 Inv-loop μ-loop
-run-end-requires-2 c κs = stopped (c .before) .leads .1
+line-end-requires : tie.Need-line-end-requires Inv-loop μ-loop
+line-end-requires c κs = stopped (c .before) .leads .1
 
 returns : tie.Need-returns Inv-loop μ-loop
 returns c =
     let k = c .before .before in
     let b = k .before .before .before in
     let a = b .before .before .before .before .args in
-    reading-end (a .text .now) (a .from) (b .loop .tokens) (b .loop .count) (b .loop .at) (k .stop .given .0 .0) (c .run-end2 .result) (b .loop .inv) (stopped k) (c .run-end2 .ensures)
+    reading-end (a .text .now) (a .from) (b .loop .tokens) (b .loop .count) (b .loop .at) (k .stop .given .0 .0) (c .line-end .result) (b .loop .inv) (stopped k) (c .line-end .ensures)
 
 enum-told : tie.Need-enum-told Inv-loop μ-loop
 enum-told c = search needs
@@ -109,7 +109,7 @@ tokenize-spec =
     loop-holds
     token-at-requires
     enum-known-stop
-    run-end-requires-2
+    line-end-requires
     returns
     enum-told
     spoiled-requires
