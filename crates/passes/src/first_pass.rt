@@ -12,7 +12,6 @@ use crate::line::Step;
 use image::config::Checked;
 use image::config::Config;
 use labels::label::Label;
-use spelling::bytes::Class;
 
 // Where the first walk stands: at a line whose label is to be entered, or at its end.
 pub struct Pass {
@@ -180,7 +179,7 @@ pub fn begin(source: &[u8], mnemonics: &[u64; 50], forms: &[u8; 50], slots: &[u8
     if 1048576 < source.len() {
         return stopped(1, 0, 0, 0);
     }
-    let clean = spelling::bytes::run_end(source, 0, Class::Ascii);
+    let clean = spelling::bytes::ascii_end(source, 0);
     if clean < source.len() {
         return stopped(2, 0, line_number(source, clean), 0);
     }

@@ -6,8 +6,8 @@ use native.Mathlib.Nat.{le-of-suc-le-suc}
 use mathlib.Core.Bool.{Bool, true, false, true≢false}
 use mathlib.Core.Option.{Option, some}
 use mathlib.Core.List.{List, [], _∷_, _++_}
-use lib.ListN.{length, take, drop, getD, drop-of-length-le, take-append-drop}
-use lib.Seq.{drop-cons}
+use lib.ListN.{length, take, drop, getD, length-drop, drop-of-length-le, take-append-drop}
+use lib.Seq.{take-suc, drop-cons, getD-drop, drop-drop}
 use lib.Dec.{eqb}
 use borrow.Author.Tests.{eqb-true, eq-eqb}
 use Rattle.spelling.specs.Bytes.{every, same, before, run, find, isSome, each}
@@ -148,6 +148,32 @@ run-no p s i l e = rw (drop-cons s i 0 l, before, e)
 pub run-end : (p : ℕ → Bool) (s : List ℕ) (i : ℕ) → length s ≤ i → run p (drop i s) ≡ 0
 unfolding run before
 run-end p s i l = rw (drop-of-length-le s l)
+
+-- A part of a slice byte by byte, as a loop over it meets it.
+every-snoc-yes : (p : ℕ → Bool) (s : List ℕ) (b : ℕ) → p b ≡ true → every p (s ++ (b ∷ [])) ≡ every p s
+unfolding every
+every-snoc-yes p [] b h = rw h
+every-snoc-yes p (x ∷ s) b h = ap (λ (r : Bool). elim (p x) [ true ↦ r | false ↦ false ]) (every-snoc-yes p s b h)
+
+every-snoc-no : (p : ℕ → Bool) (s : List ℕ) (b : ℕ) → p b ≡ false → every p (s ++ (b ∷ [])) ≡ false
+unfolding every
+every-snoc-no p [] b h = rw h
+every-snoc-no p (x ∷ s) b h = by-test (p x) (λ e. rw (every, e) (every-snoc-no p s b h)) (λ e. rw (every, e))
+
+module _ (p : ℕ → Bool) (s : List ℕ) (at j : ℕ) (l : at + j < length s) where
+  one-more : take (suc j) (drop at s) ≡ take j (drop at s) ++ (getD s (at + j) 0 ∷ [])
+  one-more = take-suc (drop at s) j 0 (simp length-drop (omega arith)) ∙ ap (λ (b : ℕ). take j (drop at s) ++ (b ∷ [])) (getD-drop at s j 0)
+
+  pub every-yes : p (getD s (at + j) 0) ≡ true → every p (take (suc j) (drop at s)) ≡ every p (take j (drop at s))
+  every-yes e = rw one-more (every-snoc-yes p (take j (drop at s)) (getD s (at + j) 0) e)
+
+  pub every-no : p (getD s (at + j) 0) ≡ false → every p (take (suc j) (drop at s)) ≡ false
+  every-no e = rw one-more (every-snoc-no p (take j (drop at s)) (getD s (at + j) 0) e)
+
+-- A run block by block: a block of the class is passed.
+pub run-block : (p : ℕ → Bool) (n : ℕ) (s : List ℕ) (i : ℕ) → i + n ≤ length s → every p (take n (drop i s)) ≡ true
+    → run p (drop i s) ≡ n + run p (drop (i + n) s)
+run-block p n s i l h = rw (← drop-drop n i s) (run-past p n (drop i s) (simp length-drop (omega arith)) h)
 
 -- ---- searching a list
 

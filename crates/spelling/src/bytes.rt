@@ -1,8 +1,8 @@
 // Byte classes, where a run of one class ends, lower case, and comparing spellings.
 ghost use mathlib.Core.Path.{_≡_};
 ghost use Prim.Native.Nat.{_+_, _≤_};
-ghost use lib.ListN.{length, drop};
-ghost use Rattle.spelling.specs.Bytes.{between, letter, digit, hexDigit, nameStart, namePart, blank, lower, run, margin};
+ghost use lib.ListN.{length, take, drop};
+ghost use Rattle.spelling.specs.Bytes.{between, letter, digit, hexDigit, nameStart, namePart, blank, inside, ascii, lower, every, run, margin};
 ghost use Rattle.spelling.specs.Bytes.{same as sameSpelling};
 ghost use Rattle.spelling.specs.Contracts.{isOf};
 
@@ -98,6 +98,69 @@ pub fn run_end(text: &[u8], at: usize, class: Class) -> usize
         i += 1;
     }
     i
+}
+
+// Whether the 16 bytes from `at` on are all of one line. Each is tested, so that they can be tested at once.
+fn line_block(text: &[u8], at: usize) -> bool
+    requires { ⌜ at + 16 ≤ length (now text) ⌝ }
+    ensures { λ r. ⌜ r ≡ every inside (take 16 (drop at (now (text .entry)))) ⌝ }
+{
+    let mut all = true;
+    let mut j: usize = 0;
+    while j < 16 {
+        if !is_in(Class::Inside, text[at + j]) {
+            all = false;
+        }
+        j += 1;
+    }
+    all
+}
+
+// Where the line that a place stands in ends: by blocks, and then by bytes.
+pub fn line_end(text: &[u8], at: usize) -> usize
+    requires { ⌜ at ≤ length (now text) ⌝ }
+    ensures { λ r. ⌜ r ≡ at + run inside (drop at (now (text .entry))) ⌝ }
+{
+    let mut i = at;
+    while 16 <= text.len() - i {
+        if !line_block(text, i) {
+            return run_end(text, i, Class::Inside);
+        }
+        i += 16;
+    }
+    run_end(text, i, Class::Inside)
+}
+
+// Whether the 32 bytes from `at` on are all up to 127: their largest is.
+fn ascii_block(text: &[u8], at: usize) -> bool
+    requires { ⌜ at + 32 ≤ length (now text) ⌝ }
+    ensures { λ r. ⌜ r ≡ every ascii (take 32 (drop at (now (text .entry)))) ⌝ }
+{
+    let mut most: u8 = 0;
+    let mut j: usize = 0;
+    while j < 32 {
+        let b = text[at + j];
+        if most < b {
+            most = b;
+        }
+        j += 1;
+    }
+    is_in(Class::Ascii, most)
+}
+
+// Where the bytes up to 127 end, from a place on: by blocks, and then by bytes.
+pub fn ascii_end(text: &[u8], at: usize) -> usize
+    requires { ⌜ at ≤ length (now text) ⌝ }
+    ensures { λ r. ⌜ r ≡ at + run ascii (drop at (now (text .entry))) ⌝ }
+{
+    let mut i = at;
+    while 32 <= text.len() - i {
+        if !ascii_block(text, i) {
+            return run_end(text, i, Class::Ascii);
+        }
+        i += 32;
+    }
+    run_end(text, i, Class::Ascii)
 }
 
 pub fn to_lower(b: u8) -> u8

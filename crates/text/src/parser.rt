@@ -3,7 +3,7 @@ ghost use mathlib.Core.Path.{_≡_};
 ghost use Prim.Native.Nat.{_≤_};
 ghost use lib.ListN.{length};
 ghost use Rattle.text.specs.Contracts.{LineRead, extractMeant, numberOf};
-ghost use Rattle.text.specs.Contracts.{filler as fillerToken, spoiled as spoiledLine};
+ghost use Rattle.text.specs.Contracts.{spoiled as spoiledLine};
 use crate::lexer::Kind;
 use crate::lexer::Scan;
 use crate::lexer::Token;
@@ -42,23 +42,18 @@ pub struct Line {
 }
 
 // What fills the places that no token takes.
-fn filler() -> Token
-    ensures { λ r. ⌜ r ≡ fillerToken ⌝ }
-{
-    Token {
-        kind: Kind::Comma,
-        start: 0,
-        length: 0,
-    }
-}
+const FILLER: [Token; 9] = [Token {
+    kind: Kind::Comma,
+    start: 0,
+    length: 0,
+}; 9];
 
 // The record of a line with a bad token.
 fn spoiled(from: usize) -> Line
     ensures { λ r. ⌜ r ≡ spoiledLine from ⌝ }
 {
-    let none = filler();
     Line {
-        tokens: [none; 9],
+        tokens: FILLER,
         count: 0,
         bad: true,
         end: from,
@@ -70,14 +65,13 @@ pub fn tokenize(text: &[u8], from: usize) -> Line
     requires { ⌜ from ≤ length (now text) ⌝ }
     ensures { λ r. ⌜ LineRead (now (text .entry)) from r ⌝ }
 {
-    let none = filler();
-    let mut tokens = [none; 9];
+    let mut tokens = FILLER;
     let mut count: usize = 0;
     let mut at = spelling::bytes::run_end(text, from, Class::Margin);
     loop {
         match crate::reader::token_at(text, at) {
             Scan::End(stop) => {
-                let end = spelling::bytes::run_end(text, stop, Class::Inside);
+                let end = spelling::bytes::line_end(text, stop);
                 return Line {
                     tokens,
                     count,

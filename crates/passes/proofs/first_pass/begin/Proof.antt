@@ -12,8 +12,8 @@ use Rattle.passes.proofs.first_pass.begin.Statement.{statement}
 use Rattle.passes.proofs.first_pass.begin.Tie as tie
 
 -- how far the source is clean
-clean : (c : tie.After-run-end) → c .run-end .result ≡ run ascii (c .before .before .before .args .source .now)
-clean c = c .run-end .ensures ∙ omega arith
+clean : (c : tie.After-ascii-end) → c .ascii-end .result ≡ run ascii (c .before .before .before .args .source .now)
+clean c = c .ascii-end .ensures ∙ omega arith
 
 -- it is not too long
 short : (c : tie.Else1) → length (c .before .before .args .source .now) ≤ most-bytes
@@ -27,8 +27,8 @@ returns : tie.Need-returns
 unfolding most-bytes
 returns c = begins-long (c .before .if1 .taken) (c .stopped .ensures)
 
-run-end-requires : tie.Need-run-end-requires
-run-end-requires c κs = search needs
+ascii-end-requires : tie.Need-ascii-end-requires
+ascii-end-requires c κs = search needs
 
 line-number-requires : tie.Need-line-number-requires
 line-number-requires c κs = search needs
@@ -63,7 +63,7 @@ begin-spec =
     (tie.spec
     stopped-requires
     returns
-    run-end-requires
+    ascii-end-requires
     line-number-requires
     stopped-requires-2
     returns-2

@@ -17,16 +17,13 @@ Inv-loop text from tokens₀ count₀ at₀ tokens count at = Reading text from 
 abbrev μ-loop : tie.MeasureT-loop
 μ-loop text from tokens₀ count₀ at₀ tokens count at = length text - at
 
-filler-requires : tie.Need-filler-requires Inv-loop μ-loop
-filler-requires c κs = search needs
-
 run-end-requires : tie.Need-run-end-requires Inv-loop μ-loop
 run-end-requires c κs = search needs
 
 loop-holds : tie.Need-loop-holds Inv-loop μ-loop
 loop-holds c =
-    let b = c .before .before .before in
-    rw (c .before .filler .ensures) (reading-begin (b .args .text .now) (b .args .from) (c .run-end .result) (b .pre) (c .run-end .ensures))
+    let b = c .before .before in
+    reading-begin (b .args .text .now) (b .args .from) (c .run-end .result) (b .pre) (c .run-end .ensures)
 
 token-at-requires : tie.Need-token-at-requires Inv-loop μ-loop
 token-at-requires c κs = c .loop .inv .place
@@ -36,18 +33,18 @@ enum-known-stop c = search needs
 
 -- the end of what is to be read
 stopped : (c : tie.After-stop Inv-loop μ-loop) → let b = c .before .before .before in
-    Stepped (b .before .before .before .before .args .text .now) (b .loop .at) (End (c .stop .given .0 .0))
+    Stepped (b .before .before .before .args .text .now) (b .loop .at) (End (c .stop .given .0 .0))
 stopped c = rw (c .stop .given .1) at (c .before .before .token-at .ensures)
 
-run-end-requires-2 : tie.Need-run-end-requires-2 Inv-loop μ-loop
-run-end-requires-2 c κs = stopped (c .before) .leads .1
+line-end-requires : tie.Need-line-end-requires Inv-loop μ-loop
+line-end-requires c κs = stopped (c .before) .leads .1
 
 returns : tie.Need-returns Inv-loop μ-loop
 returns c =
     let k = c .before .before in
     let b = k .before .before .before in
-    let a = b .before .before .before .before .args in
-    reading-end (a .text .now) (a .from) (b .loop .tokens) (b .loop .count) (b .loop .at) (k .stop .given .0 .0) (c .run-end2 .result) (b .loop .inv) (stopped k) (c .run-end2 .ensures)
+    let a = b .before .before .before .args in
+    reading-end (a .text .now) (a .from) (b .loop .tokens) (b .loop .count) (b .loop .at) (k .stop .given .0 .0) (c .line-end .result) (b .loop .inv) (stopped k) (c .line-end .ensures)
 
 enum-told : tie.Need-enum-told Inv-loop μ-loop
 enum-told c = search needs
@@ -59,7 +56,7 @@ returns-2 : tie.Need-returns-2 Inv-loop μ-loop
 returns-2 c =
     let k = c .before in
     let b = k .before .before .before in
-    let a = b .before .before .before .before .args in
+    let a = b .before .before .before .args in
     rw (c .spoiled .ensures)
     (reading-bad (a .text .now) (a .from) (b .loop .tokens) (b .loop .count) (b .loop .at) (b .loop .inv) (rw (k .enum-told .given .1) at (k .before .before .token-at .ensures)))
 
@@ -68,7 +65,7 @@ enum-known-token c = search needs
 
 -- the token found, and the place behind it
 step : (c : tie.After-token Inv-loop μ-loop) → let b = c .before .before .before in
-    Stepped (b .before .before .before .before .args .text .now) (b .loop .at) (Found (c .token .given .0 .0) (c .token .given .0 .1 .0))
+    Stepped (b .before .before .before .args .text .now) (b .loop .at) (Found (c .token .given .0 .0) (c .token .given .0 .1 .0))
 step c = rw (c .token .given .1) at (c .before .before .token-at .ensures)
 
 mul-tokens : tie.Need-mul-tokens Inv-loop μ-loop
@@ -89,7 +86,7 @@ loop-less c = let l = step (c .before .before) .leads in omega (arith, l .2, l .
 loop-again : tie.Need-loop-again Inv-loop μ-loop
 loop-again c =
     let b = c .before .before .before .before .before in
-    let r = b .before .before .before .before in
+    let r = b .before .before .before in
     let k = c .before .before in
     let t = k .token .given .0 .0 in
     let next = k .token .given .0 .1 .0 in
@@ -104,12 +101,11 @@ tokenize-spec =
     (tie.spec
     Inv-loop
     μ-loop
-    filler-requires
     run-end-requires
     loop-holds
     token-at-requires
     enum-known-stop
-    run-end-requires-2
+    line-end-requires
     returns
     enum-told
     spoiled-requires
