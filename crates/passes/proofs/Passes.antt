@@ -27,7 +27,12 @@ use Rattle.reading.proofs.Line.{behind-none}
 use Rattle.image.specs.Assembling.{Kind, empty, labelled, config, ignored, plain, kindOf}
 use Rattle.image.specs.Meaning.{oneOf, instructionOn, instructionsOf}
 use Rattle.image.specs.Contracts.{recordMeant}
-use Rattle.passes.specs.Contracts.{codedMeant, allRead, Readable, codeBytes}
+use Rattle.passes.specs.Contracts.{codedMeant, Codes, allRead, Readable, codeBytes}
+use Rattle.passes.specs.declared.second_pass.CodedLine.{CodedLine}
+use Rattle.passes.specs.declared.second_pass.Coded.the-variants.{Word, Nothing}
+use Rattle.straight.specs.Contracts.{IsInstruction, IsEmpty}
+use Rattle.instruction.specs.Contracts.{partsMeant}
+use Rattle.instruction.specs.declared.instruction.Operands.{Operands}
 use Rattle.passes.specs.declared.second_pass.Coded.{Coded as Coding}
 
 -- ---- the word of a line
@@ -168,57 +173,75 @@ module _ {old s m : List ℕ} {place at : ℕ} (d : Worded old s m place at) (ro
   pub worded-length : length m ≡ length old
   worded-length = written-length (d .so-far) (omega (arith, ap length (d .whole), length-append (d .front) (lineBytes (lines (drop at s)))))
 
-  module _ (l : Line) (h : LineRead s at l) where
-    pub not-bad : l .bad ≡ false
-    not-bad =
-        by-test (l .bad)
-        (λ b. let (rest, q) = line-split s at (d .in-text) in absurd (read-on (restAt s at) rest (rw q at (d .readable)) .0 (h .means ∙ rw b)))
-        (λ b. b)
+  module _ (r : CodedLine) (h : Codes s at r) where
+    here : readLine present (restAt s at) ≡ none → ⊥
+    here = let (rest, q) = line-split s at (d .in-text) in read-on (restAt s at) rest (rw q at (d .readable)) .0
 
     -- it ends where it begins, or behind that
-    pub ends-behind : at ≤ l .end
+    pub ends-behind : at ≤ r .end
     unfolding endAt
-    ends-behind = omega (arith, h .ends not-bad)
+    ends-behind = omega (arith, h .ends here)
 
-    module _ (c : Coding) (words : codedMeant c ≡ map wordOf (instructionOn (some (recordMeant s l)))) where
-      -- what is written, the line's word and the rest
-      parted : (rest : List (List ℕ)) → lines (drop at s) ≡ restAt s at ∷ rest → codeBytes s ≡ d .front ++ (flatMap (little 4) (codedMeant c) ++ lineBytes rest)
-      parted rest q =
-          let e : readLine present (restAt s at) ≡ some (recordMeant s l) = h .means ∙ rw not-bad in
-          let w : flatMap (little 4) (map wordOf (instructionOn (readLine present (restAt s at)))) ≡ flatMap (little 4) (codedMeant c) =
-          ap (λ (o : Option Record). flatMap (little 4) (map wordOf (instructionOn o))) e ∙ ap (flatMap (little 4)) (sym words) in
-          d .whole ∙ ap (λ (ls : List (List ℕ)). d .front ++ lineBytes ls) q ∙ ap (λ (x : List ℕ). d .front ++ x) (bytes-cons (restAt s at) rest)
-          ∙ ap (λ (x : List ℕ). d .front ++ (x ++ lineBytes rest)) w
+    -- what is written, the line's word and the rest
+    parted : (rest : List (List ℕ)) → lines (drop at s) ≡ restAt s at ∷ rest → codeBytes s ≡ d .front ++ (flatMap (little 4) (codedMeant (r .coded)) ++ lineBytes rest)
+    parted rest q =
+        let w : flatMap (little 4) (map wordOf (instructionOn (readLine present (restAt s at)))) ≡ flatMap (little 4) (codedMeant (r .coded)) = ap (flatMap (little 4)) (sym (h .words here)) in
+        d .whole ∙ ap (λ (ls : List (List ℕ)). d .front ++ lineBytes ls) q ∙ ap (λ (x : List ℕ). d .front ++ x) (bytes-cons (restAt s at) rest)
+        ∙ ap (λ (x : List ℕ). d .front ++ (x ++ lineBytes rest)) w
 
-      -- the word has room
-      pub worded-room : place + length (flatMap (little 4) (codedMeant c)) ≤ length m
-      worded-room =
-          let (rest, q) = line-split s at (d .in-text) in
-          room-before m place (flatMap (little 4) (codedMeant c)) _
-          (room-behind (d .so-far) (flatMap (little 4) (codedMeant c) ++ lineBytes rest) (omega (arith, ap length (parted rest q))))
+    -- the word has room
+    pub worded-room : place + length (flatMap (little 4) (codedMeant (r .coded))) ≤ length m
+    worded-room =
+        let (rest, q) = line-split s at (d .in-text) in
+        room-before m place (flatMap (little 4) (codedMeant (r .coded))) _
+        (room-behind (d .so-far) (flatMap (little 4) (codedMeant (r .coded)) ++ lineBytes rest) (omega (arith, ap length (parted rest q))))
 
-      module _ {m′ : List ℕ} {q : ℕ} (w : Written m place (flatMap (little 4) (codedMeant c)) q m′) where
-        -- and is written behind the others
-        pub worded-more : l .end < length s → Worded old s m′ q (l .end + 1)
-        worded-more k =
-            let e = h .ends not-bad in
-            let r = line-at s at (d .in-text) (rw (← e) k) in
-            let n : suc (endAt s at) ≡ l .end + 1 = omega (arith, e) in
-            let r′ : lines (drop at s) ≡ restAt s at ∷ lines (drop (l .end + 1) s) = r ∙ ap (λ (x : ℕ). restAt s at ∷ lines (drop x s)) n in
-            record {
-              in-text = omega arith;
-              readable = read-on (restAt s at) (lines (drop (l .end + 1) s)) (rw r′ at (d .readable)) .1;
-              front = d .front ++ flatMap (little 4) (codedMeant c);
-              whole = parted (lines (drop (l .end + 1) s)) r′ ∙ sym (append-assoc (d .front) (flatMap (little 4) (codedMeant c)) _);
-              so-far = written-append (d .so-far) (omega (arith, ap length (d .whole), length-append (d .front) (lineBytes (lines (drop at s))))) w;
-            }
+    module _ {m′ : List ℕ} {q : ℕ} (w : Written m place (flatMap (little 4) (codedMeant (r .coded))) q m′) where
+      -- and is written behind the others
+      pub worded-more : r .end < length s → Worded old s m′ q (r .end + 1)
+      worded-more k =
+          let e = h .ends here in
+          let v = line-at s at (d .in-text) (rw (← e) k) in
+          let n : suc (endAt s at) ≡ r .end + 1 = omega (arith, e) in
+          let v′ : lines (drop at s) ≡ restAt s at ∷ lines (drop (r .end + 1) s) = v ∙ ap (λ (x : ℕ). restAt s at ∷ lines (drop x s)) n in
+          record {
+            in-text = omega arith;
+            readable = read-on (restAt s at) (lines (drop (r .end + 1) s)) (rw v′ at (d .readable)) .1;
+            front = d .front ++ flatMap (little 4) (codedMeant (r .coded));
+            whole = parted (lines (drop (r .end + 1) s)) v′ ∙ sym (append-assoc (d .front) (flatMap (little 4) (codedMeant (r .coded))) _);
+            so-far = written-append (d .so-far) (omega (arith, ap length (d .whole), length-append (d .front) (lineBytes (lines (drop at s))))) w;
+          }
 
-        -- behind the last line all are written
-        pub worded-all : length s ≤ l .end → Written old 32 (codeBytes s) q m′
-        unfolding lineBytes flatMap
-        worded-all k =
-            let e = h .ends not-bad in
-            let r = last-line s at (d .in-text) (rw (← e) k) in
-            let t : codeBytes s ≡ d .front ++ flatMap (little 4) (codedMeant c) =
-            parted [] r ∙ ap (λ (x : List ℕ). d .front ++ x) (append-nil (flatMap (little 4) (codedMeant c))) in
-            rw t (written-append (d .so-far) (omega (arith, ap length (d .whole), length-append (d .front) (lineBytes (lines (drop at s))))) w)
+      -- behind the last line all are written
+      pub worded-all : length s ≤ r .end → Written old 32 (codeBytes s) q m′
+      unfolding lineBytes flatMap
+      worded-all k =
+          let e = h .ends here in
+          let v = last-line s at (d .in-text) (rw (← e) k) in
+          let t : codeBytes s ≡ d .front ++ flatMap (little 4) (codedMeant (r .coded)) =
+          parted [] v ∙ ap (λ (x : List ℕ). d .front ++ x) (append-nil (flatMap (little 4) (codedMeant (r .coded)))) in
+          rw t (written-append (d .so-far) (omega (arith, ap length (d .whole), length-append (d .front) (lineBytes (lines (drop at s))))) w)
+
+-- ---- a line's word
+
+-- A record that has no bad token.
+record-read : (s : List ℕ) (at : ℕ) (l : Line) → LineRead s at l → (readLine present (restAt s at) ≡ none → ⊥) → l .bad ≡ false
+record-read s at l h some-record = by-test (l .bad) (λ b. absurd (some-record (h .means ∙ rw b))) (λ b. b)
+
+pub codes-record : (s : List ℕ) (at : ℕ) (l : Line) (c : Coding) → LineRead s at l → codedMeant c ≡ map wordOf (instructionOn (some (recordMeant s l)))
+    → Codes s at (record { coded = c; end = l .end })
+codes-record s at l c h e =
+    record {
+      words = λ k. let q : readLine present (restAt s at) ≡ some (recordMeant s l) = h .means ∙ rw (record-read s at l h k) in rw q e;
+      ends = λ k. h .ends (record-read s at l h k);
+    }
+
+pub codes-straight : (s : List ℕ) (at row word end : ℕ) (o : Operands) → IsInstruction s at row o end → word ≡ wordOf (partsMeant (record { row = row; operands = o }))
+    → Codes s at (record { coded = Word word; end = end })
+unfolding instructionOn oneOf
+codes-straight s at row word end o h e =
+    record { words = λ k. rw (h .reads, instructionOn, h .is-plain, h .instruction, e); ends = λ k. h .ends }
+
+pub codes-empty : (s : List ℕ) (at end : ℕ) → IsEmpty s at end → Codes s at (record { coded = Nothing; end = end })
+unfolding instructionOn kindOf
+codes-empty s at end h = record { words = λ k. rw (h .reads); ends = λ k. h .ends }

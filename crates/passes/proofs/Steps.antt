@@ -30,7 +30,9 @@ use Rattle.image.specs.Settings.{Settings, configured}
 use Rattle.image.specs.Assembling.{State, next, stop, Kind, empty, labelled, config, ignored, plain, identifierKind, kindOf, isKnown, withLabel, enter, withSettings, most-words, withInstruction, afterLabel, stepOn, step}
 use Rattle.image.specs.Meaning.{oneOf, instructionOn}
 use Rattle.image.specs.Contracts.{settingsMeant, faultMeant, recordMeant}
-use Rattle.passes.specs.Contracts.{Told, instructionFault, entering, onward, ComesOf, Comes}
+use Rattle.instruction.specs.declared.instruction.Operands.{Operands}
+use Rattle.straight.specs.Contracts.{IsInstruction, IsEmpty}
+use Rattle.passes.specs.Contracts.{Told, wordFault, instructionFault, entering, onward, ComesOf, Comes}
 use Rattle.image.specs.declared.config.Config.{Config}
 use Rattle.image.specs.declared.config.Checked.{Checked}
 use Rattle.image.specs.declared.config.Checked.the-variants.{Good, Refused}
@@ -108,7 +110,7 @@ same-state st setup e = λ j. record { labels = st .labels; instructions = sym (
 -- An instruction, or why it is refused.
 on-instruction : (x : Result Instruction) (words : ℕ) (st : State) (setup : Settings) → st .setup ≡ setup → length (st .instructions) ≡ words
     → withInstruction st x ≡ onward (instructionFault words x) (oneOf x) setup (next st)
-unfolding withInstruction onward instructionFault oneOf
+unfolding withInstruction onward instructionFault wordFault oneOf
 on-instruction (refused n) words st setup e h = refl
 on-instruction (value i) words st setup e h = rw (withInstruction, h, ← e) (go (ltb words most-words))
   where
@@ -124,13 +126,18 @@ pub fault-refused : (x : Result Instruction) (words n : ℕ) → refused n ≡ x
 unfolding instructionFault
 fault-refused x words n e = rw (← e)
 
-pub fault-none : (x : Result Instruction) (words : ℕ) (i : Instruction) → value i ≡ x → words < 32768 → none ≡ instructionFault words x
-unfolding instructionFault most-words
-fault-none x words i e h = rw (← e) (rw (instructionFault, lt-ltb words 32768 h))
+pub fault-read : (x : Result Instruction) (words : ℕ) (i : Instruction) → value i ≡ x → wordFault words ≡ instructionFault words x
+unfolding instructionFault
+fault-read x words i e = rw (← e)
 
-pub fault-many : (x : Result Instruction) (words : ℕ) (i : Instruction) → value i ≡ x → 32768 ≤ words → some 22 ≡ instructionFault words x
-unfolding instructionFault most-words
-fault-many x words i e h = rw (← e) (rw (instructionFault, le-ltb words 32768 h))
+-- A word more, or too many.
+pub word-none : (words : ℕ) → words < 32768 → none ≡ wordFault words
+unfolding wordFault most-words
+word-none words h = rw (wordFault, lt-ltb words 32768 h)
+
+pub word-many : (words : ℕ) → 32768 ≤ words → some 22 ≡ wordFault words
+unfolding wordFault most-words
+word-many words h = rw (wordFault, le-ltb words 32768 h)
 
 -- No number is refused where one is.
 no-some : {n : ℕ} → _≡_ {A = Option ℕ} none (some n) → ⊥
@@ -147,7 +154,7 @@ after-some r st t ts e = go (r .first) e
 
 -- One that is not refused is one word more, and not too many.
 one-more : (x : Result Instruction) (words : ℕ) → none ≡ instructionFault words x → (words + 1 ≡ words + length (oneOf x)) × (words + 1 ≤ 32768)
-unfolding instructionFault oneOf most-words
+unfolding instructionFault wordFault oneOf most-words
 one-more (refused n) words e = absurd (no-some e)
 one-more (value i) words e = go (ltb words 32768) refl e
   where
@@ -360,5 +367,36 @@ module _ (s : List ℕ) (from words : ℕ) (setup : Settings) (l : Line) (h : Li
         counts = λ g. absurd (no-some (ap faultMeant (sym g)));
         most = λ g m. m;
         ends = λ g. absurd (no-some (ap faultMeant (sym g)));
+        in-text = omega arith;
+      }
+
+-- ---- a line that is read straight
+
+module _ (s : List ℕ) (from words end : ℕ) (c : Config) where
+  abbrev step-of : Checked → ℕ → Stepped
+  step-of f n = record { labelled = false; start = 0; length = 0; fault = f; words = n; config = c; end = end }
+
+  pub comes-straight : (row : ℕ) (o : Operands) (f : Checked) → IsInstruction s from row o end → faultMeant f ≡ wordFault words
+      → Comes s from words (settingsMeant c) (step-of f (words + 1))
+  unfolding step stepOn instructionOn entering instructionFault
+  comes-straight row o f h e =
+      let x = readInstruction (h .line) in
+      let e′ : faultMeant f ≡ instructionFault words x = e ∙ rw (h .instruction) in
+      record {
+        steps = λ room st p n. rw (h .reads, stepOn, instructionOn, h .is-plain, e′) (on-instruction x words st (settingsMeant c) p n);
+        counts = λ g. rw (h .reads, instructionOn, h .is-plain) (one-more x words (sym (ap faultMeant g) ∙ e′) .0);
+        most = λ g m. one-more x words (sym (ap faultMeant g) ∙ e′) .1;
+        ends = λ g. h .ends;
+        in-text = omega arith;
+      }
+
+  pub comes-bare : IsEmpty s from end → Comes s from words (settingsMeant c) (step-of Good words)
+  unfolding step stepOn kindOf instructionOn onward entering
+  comes-bare h =
+      record {
+        steps = λ room st p n. rw (h .reads) (ap (λ (x : State). next x) (same-state st (settingsMeant c) p));
+        counts = λ g. rw (h .reads) (omega arith);
+        most = λ g m. m;
+        ends = λ g. h .ends;
         in-text = omega arith;
       }

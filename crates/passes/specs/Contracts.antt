@@ -35,6 +35,7 @@ use Rattle.passes.specs.declared.line.LineKind.the-variants.{Empty, Labe
 use Rattle.passes.specs.declared.line.Step.{Step}
 use Rattle.passes.specs.declared.second_pass.Coded.{Coded as Coding}
 use Rattle.passes.specs.declared.second_pass.Coded.the-variants.{Word, Nothing}
+use Rattle.passes.specs.declared.second_pass.CodedLine.{CodedLine}
 
 -- ---- a line
 
@@ -56,10 +57,14 @@ kindMeant s l ConfigKind = config
 kindMeant s l Ignored = ignored
 kindMeant s l Plain = plain
 
+-- "22 a 32,769th instruction"
+unfoldable pub wordFault : ℕ → Option ℕ
+wordFault words = elim (ltb words most-words) [ true ↦ none | false ↦ some 22 ]
+
 -- Why an instruction is refused, behind so many words.
 unfoldable pub instructionFault : ℕ → Result Instruction → Option ℕ
 instructionFault words (refused n) = some n
-instructionFault words (value i) = elim (ltb words most-words) [ true ↦ none | false ↦ some 22 ]
+instructionFault words (value i) = wordFault words
 
 -- A line's label entered, if it has one.
 unfoldable pub entering : List ℕ → Step → ℕ → State → Stepped
@@ -217,6 +222,11 @@ pub record GoesOn (s : List ℕ) (p : Pass) (e : Checked) (r : Pass) : Type 0 wh
 abbrev pub codedMeant : Coding → List ℕ
 codedMeant (Word w) = w ∷ []
 codedMeant Nothing = []
+
+-- The word of the line at a place, and where the line ends, unless it has a bad token.
+pub record Codes (s : List ℕ) (at : ℕ) (r : CodedLine) : Type 0 where
+  pub words : (readLine present (restAt s at) ≡ none → ⊥) → codedMeant (r .coded) ≡ map wordOf (instructionOn (readLine present (restAt s at)))
+  pub ends : (readLine present (restAt s at) ≡ none → ⊥) → r .end ≡ endAt s at
 
 -- No line has a bad token.
 unfoldable pub allRead : List (List ℕ) → Bool

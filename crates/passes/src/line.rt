@@ -7,11 +7,12 @@ ghost use Rattle.text.specs.Contracts.{firsts, filler, spelling as spellingOf};
 ghost use Rattle.instruction.specs.Operands.{readInstruction, behind};
 ghost use Rattle.image.specs.Assembling.{labelled, config as configKind, kindOf};
 ghost use Rattle.image.specs.Contracts.{recordMeant, settingsMeant, faultMeant};
-ghost use Rattle.passes.specs.Contracts.{Tables, Told, kindMeant, instructionFault, ComesOf, Comes};
+ghost use Rattle.passes.specs.Contracts.{Tables, Told, kindMeant, wordFault, instructionFault, ComesOf, Comes};
 use image::config::Checked;
 use image::config::Config;
 use image::config::Configured;
 use reading::assembler::Parsed;
+use straight::line::Straight;
 use text::lexer::Kind;
 use text::parser::Line;
 
@@ -71,6 +72,16 @@ pub(crate) fn line_kind(source: &[u8], line: Line) -> LineKind
     }
 }
 
+// A word more: 22.
+fn counted(words: usize) -> Checked
+    ensures { λ r. ⌜ faultMeant r ≡ wordFault words ⌝ }
+{
+    if words < 32768 {
+        return Checked::Good;
+    }
+    Checked::Refused(22)
+}
+
 // Whether the instruction that begins at a token is refused, behind so many words.
 fn instruction_fault(
     source: &[u8],
@@ -86,12 +97,7 @@ fn instruction_fault(
 {
     match reading::assembler::parse_instruction(source, line, at, mnemonics, forms, slots) {
         Parsed::Refused(n) => Checked::Refused(n),
-        Parsed::Is(_) => {
-            if words < 32768 {
-                return Checked::Good;
-            }
-            Checked::Refused(22)
-        }
+        Parsed::Is(_) => counted(words),
     }
 }
 
@@ -161,8 +167,8 @@ fn read_label(
     }
 }
 
-// What the line that begins at `at` comes to, behind so many words and with settings.
-pub(crate) fn read_line(
+// What the line that begins at `at` comes to by the record of its tokens.
+fn read_record(
     source: &[u8],
     at: usize,
     words: usize,
@@ -187,5 +193,33 @@ pub(crate) fn read_line(
             let fault = instruction_fault(source, line, 0, words, mnemonics, forms, slots);
             unlabelled(fault, words + 1, config, end)
         }
+    }
+}
+
+// What the line that begins at `at` comes to, behind so many words and with settings.
+pub(crate) fn read_line(
+    source: &[u8],
+    at: usize,
+    words: usize,
+    config: Config,
+    mnemonics: &[u64; 50],
+    forms: &[u8; 50],
+    slots: &[u8; 293],
+) -> Step
+    requires { ⌜ at ≤ length (now source) ⌝ ∗ ⌜ words ≤ 32768 ⌝ ∗ ⌜ Tables (now mnemonics) (now forms) (now slots) ⌝ }
+    ensures { λ r. ⌜ Comes (now (source .entry)) at words (settingsMeant config) r ⌝ }
+{
+    match straight::line::read_straight(source, at, mnemonics, forms, slots) {
+        Straight::Instruction {
+            row: _,
+            first: _,
+            second: _,
+            third: _,
+            negative: _,
+            magnitude: _,
+            end,
+        } => unlabelled(counted(words), words + 1, config, end),
+        Straight::Empty(end) => unlabelled(Checked::Good, words, config, end),
+        Straight::Other => read_record(source, at, words, config, mnemonics, forms, slots),
     }
 }

@@ -2,22 +2,26 @@
 ghost use mathlib.Core.Path.{_≡_};
 ghost use mathlib.Core.List.{map, flatMap};
 ghost use mathlib.Core.Option.{some};
-ghost use Prim.Native.Nat.{_+_, _≤_};
+ghost use Prim.Native.Nat.{_+_, _≤_, _<_};
 ghost use lib.ListN.{length};
 ghost use Rattle.spelling.specs.Numbers.{little};
 ghost use Rattle.instruction.specs.Operands.{readInstruction, behind};
 ghost use Rattle.instruction.specs.Words.{wordOf};
-ghost use Rattle.instruction.specs.Contracts.{opcodeNumbers};
+ghost use Rattle.instruction.specs.Contracts.{opcodeNumbers, formNumbers, partsMeant};
 ghost use Rattle.coding.specs.Contracts.{Written};
 ghost use Rattle.image.specs.Meaning.{oneOf, instructionOn};
 ghost use Rattle.image.specs.Contracts.{recordMeant, settingsMeant};
 ghost use Rattle.image.specs.declared.config.Checked.the-variants.{Good};
-ghost use Rattle.passes.specs.Contracts.{Tables, Told, codedMeant, Readable, codeBytes, Ready, Fills, Finishes};
+ghost use Rattle.passes.specs.Contracts.{Tables, Told, codedMeant, Codes, Readable, codeBytes, Ready, Fills, Finishes};
 use crate::first_pass::Pass;
 use crate::line::LineKind;
 use image::config::Checked;
 use image::config::Config;
+use instruction::instruction::Instruction;
+use instruction::instruction::Operands;
 use reading::assembler::Parsed;
+use spelling::number::Whole;
+use straight::line::Straight;
 use text::parser::Line;
 
 pub enum Assembled {
@@ -42,6 +46,12 @@ pub enum Assembled {
 enum Coded {
     Word(u32),
     Nothing,
+}
+
+// A line's word, if it has one, and where the line ends.
+struct CodedLine {
+    coded: Coded,
+    end: usize,
 }
 
 // The word of the instruction that begins at a token.
@@ -85,6 +95,67 @@ fn line_word(
     }
 }
 
+// The word of an instruction by its row and operands.
+fn straight_word(row: usize, operands: Operands, opcodes: &[u8; 50], forms: &[u8; 50]) -> u32
+    requires { ⌜ row < 50 ⌝ ∗ ⌜ now opcodes ≡ opcodeNumbers ⌝ ∗ ⌜ now forms ≡ formNumbers ⌝ }
+    ensures { λ r. ⌜ r ≡ wordOf (partsMeant (record { row = row; operands = operands })) ⌝ }
+{
+    let instruction = Instruction::from_parts(row, operands);
+    coding::encoder::encode(instruction, opcodes, forms)
+}
+
+// The word of the line that begins at `at`, if it has one, and where the line ends.
+fn coded_line(
+    source: &[u8],
+    at: usize,
+    mnemonics: &[u64; 50],
+    opcodes: &[u8; 50],
+    forms: &[u8; 50],
+    slots: &[u8; 293],
+) -> CodedLine
+    requires { ⌜ at ≤ length (now source) ⌝ ∗ ⌜ Tables (now mnemonics) (now forms) (now slots) ⌝ ∗ ⌜ now opcodes ≡ opcodeNumbers ⌝ }
+    ensures { λ r. ⌜ Codes (now (source .entry)) at r ⌝ }
+{
+    match straight::line::read_straight(source, at, mnemonics, forms, slots) {
+        Straight::Instruction {
+            row,
+            first,
+            second,
+            third,
+            negative,
+            magnitude,
+            end,
+        } => {
+            let number = Whole {
+                negative,
+                magnitude,
+            };
+            let operands = Operands {
+                first,
+                second,
+                third,
+                number,
+            };
+            let word = straight_word(row, operands, opcodes, forms);
+            CodedLine {
+                coded: Coded::Word(word),
+                end,
+            }
+        }
+        Straight::Empty(end) => CodedLine {
+            coded: Coded::Nothing,
+            end,
+        },
+        Straight::Other => {
+            let line = text::parser::tokenize(source, at);
+            CodedLine {
+                coded: line_word(source, line, mnemonics, opcodes, forms, slots),
+                end: line.end,
+            }
+        }
+    }
+}
+
 // A line's word, if it has one, written at a place.
 fn write_coded(image: &mut [u8], place: usize, coded: Coded) -> usize
     requires { ⌜ place + length (flatMap (little 4) (codedMeant coded)) ≤ length (now image) ⌝ }
@@ -111,8 +182,8 @@ fn second_pass(
     let mut place: usize = 32;
     let mut at: usize = 0;
     loop {
-        let line = text::parser::tokenize(source, at);
-        let coded = line_word(source, line, mnemonics, opcodes, forms, slots);
+        let line = coded_line(source, at, mnemonics, opcodes, forms, slots);
+        let coded = line.coded;
         place = write_coded(image, place, coded);
         let end = line.end;
         if source.len() <= end {

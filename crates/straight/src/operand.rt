@@ -269,7 +269,7 @@ pub(crate) fn end_at(text: &[u8], from: usize) -> EndAt
     }
     match text[stop] {
         b'\n' => EndAt::Is(stop),
-        b'#' => EndAt::Is(spelling::bytes::run_end(text, stop, Class::Inside)),
+        b'#' => EndAt::Is(spelling::bytes::line_end(text, stop)),
         _ => EndAt::Other,
     }
 }

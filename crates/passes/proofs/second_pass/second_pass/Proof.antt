@@ -5,7 +5,6 @@ use lib.ListN.{length}
 use Rattle.coding.specs.Contracts.{Written}
 use Rattle.coding.proofs.Writing.{written-length}
 use Rattle.passes.specs.Contracts.{codeBytes}
-use Rattle.passes.proofs.Steps.{told}
 use Rattle.passes.proofs.Passes.{Worded, worded-none, ends-behind, worded-room, worded-more, worded-all}
 use Rattle.passes.proofs.second_pass.second_pass.Statement.{statement}
 use Rattle.passes.proofs.second_pass.second_pass.Tie as tie
@@ -19,34 +18,29 @@ abbrev μ-loop : tie.MeasureT-loop
 loop-holds : tie.Need-loop-holds Inv-loop μ-loop
 loop-holds c = let s = c .before .before in worded-none (s .args .image .now) (s .args .source .now) (s .pre .0)
 
-tokenize-requires : tie.Need-tokenize-requires Inv-loop μ-loop
-tokenize-requires c κs = c .loop .inv .in-text
-
-line-word-requires : tie.Need-line-word-requires Inv-loop μ-loop
-line-word-requires c κs = (told (c .tokenize .ensures), c .before .before .before .before .pre .1 .1)
+coded-line-requires : tie.Need-coded-line-requires Inv-loop μ-loop
+coded-line-requires c κs = (c .loop .inv .in-text, c .before .before .before .pre .1 .1)
 
 write-coded-requires : tie.Need-write-coded-requires Inv-loop μ-loop
 write-coded-requires c κs =
-    let w = c .before in
-    let t = w .before in
+    let t = c .before in
     let k = t .before in
     let s = k .before .before .before in
-    worded-room (k .loop .inv) (s .pre .1 .0) (t .tokenize .result) (t .tokenize .ensures) (w .line-word .result) (w .line-word .ensures)
+    worded-room (k .loop .inv) (s .pre .1 .0) (t .coded-line .result) (t .coded-line .ensures)
 
 -- all are written at the end
 all-written : (c : tie.Then1 Inv-loop μ-loop) → let u = c .before .before .before in
-    let a = u .before .before .before .before .before .before .before .args in
+    let a = u .before .before .before .before .before .before .args in
     Written (a .image .now) 32 (codeBytes (a .source .now)) (u .write-coded .result) (u .write-coded .last .0)
 all-written c =
     let u = c .before .before .before in
-    let w = u .before .before in
-    let t = w .before in
+    let t = u .before .before in
     let k = t .before in
     let s = k .before .before .before in
-    worded-all (k .loop .inv) (s .pre .1 .0) (t .tokenize .result) (t .tokenize .ensures) (w .line-word .result) (w .line-word .ensures) (u .write-coded .ensures) (c .if1 .taken)
+    worded-all (k .loop .inv) (s .pre .1 .0) (t .coded-line .result) (t .coded-line .ensures) (u .write-coded .ensures) (c .if1 .taken)
 
 same-length : tie.Need-same-length Inv-loop μ-loop
-same-length c = written-length (all-written c) (c .before .before .before .before .before .before .before .before .before .before .pre .1 .0)
+same-length c = written-length (all-written c) (c .before .before .before .before .before .before .before .before .before .pre .1 .0)
 
 returns : tie.Need-returns Inv-loop μ-loop
 returns c = all-written c
@@ -56,18 +50,17 @@ add-at c = omega arith
 
 loop-less : tie.Need-loop-less Inv-loop μ-loop
 loop-less c =
-    let t = c .before .before .before .before .before .before in
+    let t = c .before .before .before .before .before in
     let k = t .before in
-    omega (arith, ends-behind (k .loop .inv) (k .before .before .before .pre .1 .0) (t .tokenize .result) (t .tokenize .ensures), c .if1 .left)
+    omega (arith, ends-behind (k .loop .inv) (k .before .before .before .pre .1 .0) (t .coded-line .result) (t .coded-line .ensures), c .if1 .left)
 
 loop-again : tie.Need-loop-again Inv-loop μ-loop
 loop-again c =
     let u = c .before .before .before in
-    let w = u .before .before in
-    let t = w .before in
+    let t = u .before .before in
     let k = t .before in
     let s = k .before .before .before in
-    worded-more (k .loop .inv) (s .pre .1 .0) (t .tokenize .result) (t .tokenize .ensures) (w .line-word .result) (w .line-word .ensures) (u .write-coded .ensures) (omega (arith, c .if1 .left))
+    worded-more (k .loop .inv) (s .pre .1 .0) (t .coded-line .result) (t .coded-line .ensures) (u .write-coded .ensures) (omega (arith, c .if1 .left))
 
 pub second-pass-spec : {M : Type 1} → statement M
 second-pass-spec =
@@ -76,8 +69,7 @@ second-pass-spec =
     Inv-loop
     μ-loop
     loop-holds
-    tokenize-requires
-    line-word-requires
+    coded-line-requires
     write-coded-requires
     same-length
     returns

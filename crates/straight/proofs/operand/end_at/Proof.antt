@@ -22,8 +22,8 @@ returns c =
 shared-slice-read-match : tie.Need-shared-slice-read-match
 shared-slice-read-match c = search needs
 
-run-end-requires-2 : tie.Need-run-end-requires-2
-run-end-requires-2 c κs = search needs
+line-end-requires : tie.Need-line-end-requires
+line-end-requires c κs = search needs
 
 returns-2 : tie.Need-returns-2
 returns-2 c =
@@ -37,10 +37,10 @@ returns-3 c =
     let m = c .before in
     let r = m .before .before .before in
     let b = r .before .before in
-    end-reads (b .args .text .now) (b .args .from) (r .run-end .result) (c .run-end2 .result) (b .pre) (r .run-end .ensures) (λ l. inr (m .match .keys2)) (c .run-end2 .ensures)
+    end-reads (b .args .text .now) (b .args .from) (r .run-end .result) (c .line-end .result) (b .pre) (r .run-end .ensures) (λ l. inr (m .match .keys2)) (c .line-end .ensures)
 
 returns-4 : tie.Need-returns-4
 returns-4 c = search needs
 
 pub end-at-spec : {M : Type 1} → statement M
-end-at-spec = tie.close (tie.spec run-end-requires returns shared-slice-read-match run-end-requires-2 returns-2 returns-3 returns-4)
+end-at-spec = tie.close (tie.spec run-end-requires returns shared-slice-read-match line-end-requires returns-2 returns-3 returns-4)

@@ -1,0 +1,13 @@
+-- `passes::line::counted` meets its contract.
+use Rattle.passes.proofs.Steps.{word-none, word-many}
+use Rattle.passes.proofs.line.counted.Statement.{statement}
+use Rattle.passes.proofs.line.counted.Tie as tie
+
+returns : tie.Need-returns
+returns c = word-none _ (c .if1 .taken)
+
+returns-2 : tie.Need-returns-2
+returns-2 c = word-many _ (c .if1 .left)
+
+pub counted-spec : {M : Type 1} → statement M
+counted-spec = tie.close (tie.spec returns returns-2)
