@@ -11,19 +11,20 @@ use lib.Seq.{drop-cons, getD-take, getD-drop}
 use borrow.Author.Tests.{lt-ltb, le-ltb, le-leb, lt-leb, eq-eqb, ne-eqb}
 use Rattle.text.specs.Bytes.{same}
 use Rattle.labels.specs.declared.label.Label.{Label}
+use Rattle.labels.specs.declared.tree.Digest.{Digest}
 use Rattle.labels.specs.declared.tree.Turns.{Turns}
 use Rattle.labels.specs.declared.tree.Search.{Search}
 use Rattle.labels.specs.Contracts.{InText, spelled}
-use Rattle.labels.specs.Tree.{plain, link, linked, mixed, hashFrom, hashOf, turned, isRight, hits, endedAt, passed, visited}
+use Rattle.labels.specs.Tree.{plain, link, linked, mixed, hashFrom, noHash, hashOf, turned, isRight, hits, endedAt, passed, visited}
 use Rattle.labels.proofs.Named.{part-is, spelled-long}
 
 -- ---- the hash
 
 -- A step stays within 64 bits.
-pub mix-fits : (h b : ℕ) → b ≤ 255 → h % 4294967296 * (2654435761 + 6364137 * b) ≤ 4294967295 * 4277290696
-mix-fits h b f = mul-le-mul {n₂ = 4294967295} {m₂ = 4277290696} (omega arith) (omega arith)
+pub mix-fits : (h f : ℕ) → f ≤ 4294967295 → h % 4294967296 * f ≤ 4294967295 * 4294967295
+mix-fits h f g = mul-le-mul {n₂ = 4294967295} {m₂ = 4294967295} (omega arith) g
 
-module _ (s : List ℕ) (h : ℕ) where
+module _ (s : List ℕ) (h : Digest) where
   pub hash-step : (at end : ℕ) → at < end → end ≤ length s → hashFrom h (take (end - at) (drop at s)) ≡ hashFrom (mixed h (getD s at 0)) (take (end - (at + 1)) (drop (at + 1) s))
   unfolding hashFrom
   hash-step at end f g =
@@ -35,25 +36,30 @@ module _ (s : List ℕ) (h : ℕ) where
   unfolding hashFrom
   hash-done at end f = let e : end - at ≡ 0 = omega arith in rw e
 
-  pub hash-all : (l : Label) → hashFrom 11400714819323198485 (take (l .start + l .length - l .start) (drop (l .start) s)) ≡ hashOf (spelled s l)
+  pub hash-all : (l : Label) → hashFrom noHash (take (l .start + l .length - l .start) (drop (l .start) s)) ≡ hashOf (spelled s l)
   unfolding hashOf
   hash-all l = rw (part-is s (l .start) (l .length))
 
 -- ---- the turns
 
 module _ (s : List ℕ) (l : Label) (t : Turns) (in-text : InText s l) where
-  pub turned-more : 1 < t .bits / 2 → turned (spelled s l) t ≡ record { bits = t .bits / 2; used = t .used }
+  pub turned-more : 1 < t .bits / 2 → turned (spelled s l) t ≡ record { bits = t .bits / 2; rest = t .rest; used = t .used }
   unfolding turned
   turned-more f = rw (turned, lt-ltb 1 (t .bits / 2) f)
 
-  pub turned-spent : t .bits / 2 ≤ 1 → l .length ≤ t .used → turned (spelled s l) t ≡ record { bits = 256; used = t .used }
-  unfolding turned
-  turned-spent f g = rw (turned, le-ltb 1 (t .bits / 2) f, spelled-long s l in-text, le-leb (l .length) (t .used) g)
+  module _ (f : t .bits / 2 ≤ 1) where
+    pub turned-rest : 0 < t .rest → turned (spelled s l) t ≡ record { bits = t .rest; rest = 0; used = t .used }
+    unfolding turned
+    turned-rest g = rw (turned, le-ltb 1 (t .bits / 2) f, lt-ltb 0 (t .rest) g)
 
-  pub turned-byte : t .bits / 2 ≤ 1 → t .used < l .length → turned (spelled s l) t ≡ record { bits = 256 + getD s (l .start + t .used) 0; used = t .used + 1 }
-  unfolding turned
-  turned-byte f g =
-      rw (turned, le-ltb 1 (t .bits / 2) f, spelled-long s l in-text, lt-leb (l .length) (t .used) g, getD-take (l .length) (drop (l .start) s) (t .used) 0 g, getD-drop (l .start) s (t .used) 0)
+    pub turned-spent : t .rest ≤ 0 → l .length ≤ t .used → turned (spelled s l) t ≡ record { bits = 256; rest = 0; used = t .used }
+    unfolding turned
+    turned-spent g h = rw (turned, le-ltb 1 (t .bits / 2) f, le-ltb 0 (t .rest) g, spelled-long s l in-text, le-leb (l .length) (t .used) h)
+
+    pub turned-byte : t .rest ≤ 0 → t .used < l .length → turned (spelled s l) t ≡ record { bits = 256 + getD s (l .start + t .used) 0; rest = 0; used = t .used + 1 }
+    unfolding turned
+    turned-byte g h =
+        rw (turned, le-ltb 1 (t .bits / 2) f, le-ltb 0 (t .rest) g, spelled-long s l in-text, lt-leb (l .length) (t .used) h, getD-take (l .length) (drop (l .start) s) (t .used) 0 h, getD-drop (l .start) s (t .used) 0)
 
 -- ---- behind an entry
 

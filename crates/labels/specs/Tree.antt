@@ -9,6 +9,7 @@ use lib.Dec.{leb, ltb, eqb}
 use Rattle.text.specs.Bytes.{same}
 use Rattle.labels.specs.Contracts.{InText, spelled, noLabel, anyNamed}
 use Rattle.labels.specs.declared.label.Label.{Label}
+use Rattle.labels.specs.declared.tree.Digest.{Digest}
 use Rattle.labels.specs.declared.tree.Turns.{Turns}
 use Rattle.labels.specs.declared.tree.Search.{Search}
 
@@ -35,27 +36,38 @@ linked e false to = record { start = e .start + 2097152 * to; length = e .length
 
 -- ---- spellings
 
-unfoldable pub mixed : ℕ → ℕ → ℕ
-mixed h b = h % 4294967296 * (2654435761 + 6364137 * b) + h / 4294967296
+unfoldable pub mixed : Digest → ℕ → Digest
+mixed h b =
+    record {
+      first = h .first % 4294967296 * (2654435761 + 6364137 * b) + h .second / 4294967296;
+      second = h .second % 4294967296 * (2246822519 + 8000009 * b) + h .first / 4294967296;
+    }
 
-unfoldable pub hashFrom : ℕ → List ℕ → ℕ
+unfoldable pub hashFrom : Digest → List ℕ → Digest
 hashFrom h [] = h
 hashFrom h (b ∷ u) = hashFrom (mixed h b) u
 
-unfoldable pub hashOf : List ℕ → ℕ
-hashOf u = hashFrom 11400714819323198485 u
+abbrev pub noHash : Digest
+noHash = record { first = 11400714819323198485; second = 13787848793156543929 }
+
+unfoldable pub hashOf : List ℕ → Digest
+hashOf u = hashFrom noHash u
 
 -- The turns of a spelling: the bits of its hash, then those of its bytes, the lowest first. A 1 stands behind the last.
 unfoldable pub firstTurns : List ℕ → Turns
-firstTurns u = record { bits = 9223372036854775808 + hashOf u % 9223372036854775808; used = 0 }
+firstTurns u =
+    record { bits = 9223372036854775808 + hashOf u .first % 9223372036854775808; rest = 9223372036854775808 + hashOf u .second % 9223372036854775808; used = 0 }
 
 unfoldable pub turned : List ℕ → Turns → Turns
 turned u t =
     elim (ltb 1 (t .bits / 2)) [
-      | true ↦ record { bits = t .bits / 2; used = t .used }
-      | false ↦ elim (leb (length u) (t .used)) [
-        | true ↦ record { bits = 256; used = t .used }
-        | false ↦ record { bits = 256 + getD u (t .used) 0; used = t .used + 1 }
+      | true ↦ record { bits = t .bits / 2; rest = t .rest; used = t .used }
+      | false ↦ elim (ltb 0 (t .rest)) [
+        | true ↦ record { bits = t .rest; rest = 0; used = t .used }
+        | false ↦ elim (leb (length u) (t .used)) [
+          | true ↦ record { bits = 256; rest = 0; used = t .used }
+          | false ↦ record { bits = 256 + getD u (t .used) 0; rest = 0; used = t .used + 1 }
+        ]
       ]
     ]
 
@@ -64,7 +76,7 @@ isRight t = eqb (t .bits % 2) 1
 
 -- What an entry of a spelling holds for its length.
 unfoldable pub keyOf : List ℕ → ℕ
-keyOf u = length u + 2097152 * (hashOf u / 2097152)
+keyOf u = length u + 2097152 * (hashOf u .second / 2097152)
 
 -- ---- searches
 

@@ -29,13 +29,13 @@ fn find(source: &[u8], table: &[Label], count: usize, label: Label) -> Search
 }
 
 // An entry stored at a place, where there is room; whether there was.
-fn append(table: &mut [Label], count: usize, label: Label) -> bool
-    ensures { λ r. ⌜ r ≡ ltb count (length (now (table .entry))) ⌝ ∗ ⌜ now (table .exit) ≡ set (now (table .entry)) count label ⌝ }
+fn append(table: &mut [Label], at: usize, entry: Label) -> bool
+    ensures { λ r. ⌜ r ≡ ltb at (length (now (table .entry))) ⌝ ∗ ⌜ now (table .exit) ≡ set (now (table .entry)) at entry ⌝ }
 {
-    if table.len() <= count {
+    if table.len() <= at {
         return false;
     }
-    table[count] = label;
+    table[at] = entry;
     true
 }
 
@@ -49,6 +49,7 @@ pub fn enter(source: &[u8], table: &mut [Label], count: usize, label: Label) -> 
         return Checked::Refused(4);
     }
     if append(table, count, search.entry) {
+        // its parent leads to it
         append(table, search.last, search.parent);
         return Checked::Good;
     }

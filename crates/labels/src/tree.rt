@@ -1,15 +1,22 @@
-// While labels are entered, their entries are the nodes of a tree: what an entry holds besides its label, and how a spelling is
-// looked for from one entry to the next.
+// While labels are entered, their entries are the nodes of a tree. A label's start and length are below 2^21. Above its start an
+// entry holds two numbers of 21 bits, by which it leads to later entries, and above its length 43 bits of its spelling's hash.
 ghost use mathlib.Core.Path.{_≡_};
 ghost use Prim.Native.Nat.{_+_, _/_, _≤_, _<_};
 ghost use Rattle.text.specs.Bytes.{same};
 ghost use Rattle.labels.specs.Contracts.{InText, spelled};
-ghost use Rattle.labels.specs.Tree.{plain as plainOf, link as linkOf, linked as linkedOf, mixed, hashOf, turned, hits as hitsOf, begun, visited, Enterable, Visitable};
+ghost use Rattle.labels.specs.Tree.{plain as plainOf, link as linkOf, linked as linkedOf, mixed, hashOf, turned, hits as hitsOf, begun, endedAt, visited, Enterable, Visitable};
 use crate::label::Label;
 
-// The turns that a spelling takes: bits with a 1 behind the last, and how many of its bytes have been used up.
+pub(crate) struct Digest {
+    pub(crate) first: u64,
+    pub(crate) second: u64,
+}
+
+// The turns that a spelling takes: bits with a 1 behind the last, others behind these (none: 0), and how many of its bytes have
+// been used up.
 pub(crate) struct Turns {
     pub(crate) bits: u64,
+    pub(crate) rest: u64,
     pub(crate) used: usize,
 }
 
@@ -69,19 +76,29 @@ fn linked(entry: Label, right: bool, to: usize) -> Label
     }
 }
 
-fn mix(hash: u64, byte: u8) -> u64
+// A hash with a byte more. Its two numbers are mixed with one another.
+fn mix(hash: Digest, byte: u8) -> Digest
     ensures { λ r. ⌜ r ≡ mixed hash byte ⌝ }
 {
-    hash % 4294967296 * (2654435761 + 6364137 * (byte as u64)) + hash / 4294967296
+    let wide = byte as u64;
+    let first = hash.first;
+    let second = hash.second;
+    Digest {
+        first: first % 4294967296 * (2654435761 + 6364137 * wide) + second / 4294967296,
+        second: second % 4294967296 * (2246822519 + 8000009 * wide) + first / 4294967296,
+    }
 }
 
-fn hash(source: &[u8], label: Label) -> u64
+fn hash(source: &[u8], label: Label) -> Digest
     requires { ⌜ InText (now source) label ⌝ }
     ensures { λ r. ⌜ r ≡ hashOf (spelled (now (source .entry)) label) ⌝ }
 {
     let mut at = label.start;
     let end = at + label.length;
-    let mut hash: u64 = 11400714819323198485;
+    let mut hash = Digest {
+        first: 11400714819323198485,
+        second: 13787848793156543929,
+    };
     while at < end {
         hash = mix(hash, source[at]);
         at += 1;
@@ -102,21 +119,34 @@ fn turn(source: &[u8], label: Label, turns: Turns) -> Turns
     ensures { λ r. ⌜ r ≡ turned (spelled (now (source .entry)) label) turns ⌝ }
 {
     let bits = turns.bits / 2;
+    let rest = turns.rest;
     let used = turns.used;
     if 1 < bits {
-        return Turns { bits, used };
+        return Turns { bits, rest, used };
+    }
+    if 0 < rest {
+        return Turns {
+            bits: rest,
+            rest: 0,
+            used,
+        };
     }
     if label.length <= used {
-        return Turns { bits: 256, used };
+        return Turns {
+            bits: 256,
+            rest: 0,
+            used,
+        };
     }
     let at = label.start + used;
     Turns {
         bits: bits_of(source[at]),
+        rest: 0,
         used: used + 1,
     }
 }
 
-// Whether two entries are of one spelling.
+// Whether two labels are spelled alike.
 fn same_spelling(source: &[u8], a: Label, b: Label) -> bool
     requires { ⌜ InText (now source) a ⌝ ∗ ⌜ InText (now source) b ⌝ }
     ensures { λ r. ⌜ r ≡ same (spelled (now (source .entry)) a) (spelled (now (source .entry)) b) ⌝ }
@@ -145,9 +175,10 @@ pub(crate) fn begin(source: &[u8], count: usize, label: Label) -> Search
     ensures { λ r. ⌜ r ≡ begun (now (source .entry)) count label ⌝ }
 {
     let hash = hash(source, label);
+    let second = hash.second;
     let entry = Label {
         start: label.start,
-        length: label.length + 2097152 * (hash as usize / 2097152),
+        length: label.length + 2097152 * (second as usize / 2097152),
         address: label.address,
     };
     Search {
@@ -155,13 +186,32 @@ pub(crate) fn begin(source: &[u8], count: usize, label: Label) -> Search
         known: false,
         next: 0,
         turns: Turns {
-            bits: 9223372036854775808 + hash % 9223372036854775808,
+            bits: 9223372036854775808 + hash.first % 9223372036854775808,
+            rest: 9223372036854775808 + second % 9223372036854775808,
             used: 0,
         },
         count,
         entry,
         last: count,
         parent: entry,
+    }
+}
+
+// A search that has ended at an entry.
+fn ended(search: Search, known: bool, parent: Label) -> Search
+    ensures { λ r. ⌜ r ≡ endedAt search known parent ⌝ }
+{
+    let turns = search.turns;
+    let entry = search.entry;
+    Search {
+        more: false,
+        known,
+        next: search.next,
+        turns,
+        count: search.count,
+        entry,
+        last: search.next,
+        parent,
     }
 }
 
@@ -172,34 +222,15 @@ pub(crate) fn visit(source: &[u8], search: Search, at: Label) -> Search
 {
     let entry = search.entry;
     let turns = search.turns;
-    let next = search.next;
     let count = search.count;
     let label = plain(entry);
     if hits(source, at, entry.length, label) {
-        return Search {
-            more: false,
-            known: true,
-            next,
-            turns,
-            count,
-            entry,
-            last: next,
-            parent: at,
-        };
+        return ended(search, true, at);
     }
     let right = turns.bits % 2 == 1;
     let to = link(at, right);
     if to == 0 {
-        return Search {
-            more: false,
-            known: false,
-            next,
-            turns,
-            count,
-            entry,
-            last: next,
-            parent: linked(at, right, count + 1),
-        };
+        return ended(search, false, linked(at, right, count + 1));
     }
     Search {
         more: true,
@@ -208,7 +239,7 @@ pub(crate) fn visit(source: &[u8], search: Search, at: Label) -> Search
         turns: turn(source, label, turns),
         count,
         entry,
-        last: next,
+        last: search.next,
         parent: at,
     }
 }

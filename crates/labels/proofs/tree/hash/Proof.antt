@@ -43,7 +43,7 @@ returns : tie.Need-returns Inv-loop μ-loop
 returns c =
     let a = c .before .before .before .before .args in
     let k = c .before .loop in
-    sym (hash-done (a .source .now) (k .hash) (k .at) _ (omega arith)) ∙ k .inv .2 ∙ hash-all (a .source .now) 0 (a .label)
+    sym (hash-done (a .source .now) (k .hash) (k .at) _ (omega arith)) ∙ k .inv .2 ∙ hash-all (a .source .now) (k .hash) (a .label)
 
 pub hash-spec : {M : Type 1} → statement M
 hash-spec = tie.close (tie.spec Inv-loop μ-loop add-end loop-holds shared-slice-read-mix mix-requires add-at loop-less loop-again returns)

@@ -14,10 +14,14 @@ plain-requires c κs = search needs
 hits-requires : tie.Need-hits-requires
 hits-requires c κs = let k = c .before .before .before .before in (k .pre .entry-in-text, rw (c .plain .ensures) (k .pre .label-in-text))
 
+ended-requires : tie.Need-ended-requires
+ended-requires c κs = search needs
+
 returns : tie.Need-returns
 returns c =
-    let a = c .before .before .before .before .before .before .args in
-    sym (visited-hit (a .source .now) (a .search) (a .at) (sym (rw (c .before .before .plain .ensures) at (c .before .hits .ensures)) ∙ c .if1 .taken))
+    let k = c .before in
+    let a = c .before .before .before .before .before .before .before .args in
+    c .ended .ensures ∙ sym (visited-hit (a .source .now) (a .search) (a .at) (sym (rw (k .before .before .plain .ensures) at (k .before .hits .ensures)) ∙ k .if1 .taken))
 
 link-requires : tie.Need-link-requires
 link-requires c κs = search needs
@@ -28,16 +32,20 @@ add-linked c = search needs
 linked-requires : tie.Need-linked-requires
 linked-requires c κs = search needs
 
+ended-requires-2 : tie.Need-ended-requires-2
+ended-requires-2 c κs = search needs
+
 returns-2 : tie.Need-returns-2
 unfolding isRight
 returns-2 c =
-    let k = c .before .before .before .before in
-    let a = c .before .before .before .before .before .before .before .before .before .before .args in
-    rw (c .linked .ensures)
-    (sym (visited-last (a .source .now) (a .search) (a .at) (sym (rw (k .before .before .plain .ensures) at (k .before .hits .ensures)) ∙ k .if1 .left) (sym (c .before .before .link .ensures) ∙ c .before .if2 .taken)))
+    let k = c .before .before .before .before .before in
+    let a = c .before .before .before .before .before .before .before .before .before .before .before .args in
+    c .ended2 .ensures
+    ∙ rw (c .before .linked .ensures)
+    (sym (visited-last (a .source .now) (a .search) (a .at) (sym (rw (k .before .before .plain .ensures) at (k .before .hits .ensures)) ∙ k .if1 .left) (sym (c .before .before .before .link .ensures) ∙ c .before .before .if2 .taken)))
 
-sub-t16 : tie.Need-sub-t16
-sub-t16 c = search needs
+sub-t15 : tie.Need-sub-t15
+sub-t15 c = search needs
 
 turn-requires : tie.Need-turn-requires
 turn-requires c κs = rw (c .before .before .before .before .before .plain .ensures) (c .before .before .before .before .before .before .before .before .before .pre .label-in-text)
@@ -53,4 +61,18 @@ returns-3 c =
     (sym (visited-on (a .source .now) (a .search) (a .at) (sym (rw (k .before .before .plain .ensures) at (k .before .hits .ensures)) ∙ k .if1 .left) (m - 1) (sym (c .before .before .link .ensures) ∙ e)))
 
 pub visit-spec : {M : Type 1} → statement M
-visit-spec = tie.close (tie.spec plain-requires hits-requires returns link-requires add-linked linked-requires returns-2 sub-t16 turn-requires returns-3)
+visit-spec =
+    tie.close
+    (tie.spec
+    plain-requires
+    hits-requires
+    ended-requires
+    returns
+    link-requires
+    add-linked
+    linked-requires
+    ended-requires-2
+    returns-2
+    sub-t15
+    turn-requires
+    returns-3)
