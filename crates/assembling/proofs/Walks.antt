@@ -1,22 +1,26 @@
 -- Laws of the first walk over a label table: how it begins, goes on from a label to the next, and what it comes to.
-use Prim.Native.Nat.{ℕ, zero, suc, _+_, _-_, _≤_, _<_}
+use Prim.Native.Nat.{ℕ, _+_, _-_, _≤_, _<_}
 use mathlib.Core.Path.{_≡_, refl, sym, ap, ap₂, subst, _∙_}
 use native.Mathlib.Omega.{arith}
+use native.Mathlib.Numerals.{add-one}
 use mathlib.Core.Bool.{Bool, true, false}
 use mathlib.Core.List.{List, [], _∷_, _++_, map, map-append}
-use lib.ListN.{length, take, drop, getD, set, length-take, length-map, length-append, length-drop}
-use lib.Seq.{getD-take, set-out}
+use lib.ListN.{length, take, set, length-map, length-append}
+use lib.Seq.{set-out}
 use lib.Dec.{ltb}
 use borrow.Author.Tests.{ltb-true, ltb-false}
 use Rattle.spelling.specs.Bytes.{same, find, isSome}
 use Rattle.spelling.proofs.Tests.{by-test}
-use Rattle.image.specs.Assembling.{isKnown}
+use Rattle.image.specs.Assembling.{isKnown, most-bytes}
 use Rattle.image.specs.Assembling.{Label as Meant}
 use Rattle.image.specs.Lent.{over}
 use Rattle.image.specs.Contracts.{faultMeant}
 use Rattle.image.specs.declared.config.Checked.{Checked}
 use Rattle.image.specs.declared.config.Checked.the-variants.{Good, Refused}
-use Rattle.labels.specs.Contracts.{entryOf, InText, spelled, noLabel, Placed, anyNamed, entryFault, Enters, Spelled}
+use Rattle.labels.specs.Contracts.{entryOf, InText, spelled, anyNamed, entryFault, countBehind, Enters, Spelled}
+use Rattle.labels.specs.Tree.{unlinked, Tree, Enterable}
+use Rattle.labels.proofs.Named.{spelled-long}
+use Rattle.labels.proofs.Finding.{unlinked-long}
 use Rattle.labels.specs.declared.label.Label.{Label}
 use Rattle.passes.specs.Contracts.{Stands, Begins, withEntry, labelAt, GoesOn, Ready, Finishes}
 use Rattle.passes.specs.declared.first_pass.Pass.{Pass}
@@ -24,7 +28,7 @@ use Rattle.passes.specs.declared.second_pass.Assembled.{Assembled}
 use Rattle.passes.proofs.Answers.{stands-ready, stands-answers}
 use Rattle.image.specs.Contracts.{settingsMeant}
 use Rattle.image.proofs.Over.{take-over, length-over, over-more}
-use Rattle.assembling.specs.Contracts.{Standing, Assembles}
+use Rattle.assembling.specs.Contracts.{Standing, Walks, Assembles}
 
 -- ---- labels and their entries
 
@@ -41,11 +45,6 @@ any-is s u (l ∷ ls) h =
     (λ e. rw (anyNamed, find, h .0, e))
     (λ e. rw (anyNamed, find, h .0, e) (any-is s u ls (h .2)))
 
-spelled-at : (s : List ℕ) (ls : List Meant) (i : ℕ) → Spelled s ls → i < length ls → InText s (getD (map entryOf ls) i noLabel)
-spelled-at s [] i h k = absurd (omega arith)
-spelled-at s (l ∷ ls) zero h k = h .1
-spelled-at s (l ∷ ls) (suc i) h k = spelled-at s ls i (h .2) (omega arith)
-
 module _ (s : List ℕ) (old table : List Label) (ls : List Meant) (e : table ≡ over (map entryOf ls) old) where
   firsts-are : take (length ls) table ≡ map entryOf ls
   firsts-are = rw (e, ← length-map ls entryOf) (take-over (map entryOf ls) old)
@@ -56,22 +55,19 @@ module _ (s : List ℕ) (old table : List Label) (ls : List Meant) (e : table �
   table-long : length ls ≤ length old → length table ≡ length old
   table-long fits = ap length e ∙ length-over (map entryOf ls) old (rw (length-map ls entryOf) fits)
 
-  table-placed : length ls ≤ length old → Spelled s ls → Placed s table (length ls)
-  table-placed fits h =
-      record {
-        in-table = rw (table-long fits) fits;
-        in-text = λ i k. rw (← getD-take (length ls) table i noLabel k, firsts-are) (spelled-at s ls i h k);
-      }
-
   -- A label more is an entry more.
   table-more : (l : Meant) → length ls < length old → set table (length ls) (entryOf l) ≡ over (map entryOf (ls ++ (l ∷ []))) old
   table-more l h =
       rw (e, map-append entryOf ls (l ∷ []), ← length-map ls entryOf) (over-more (map entryOf ls) old (entryOf l) (rw (length-map ls entryOf) h))
 
+counted : (ls : List Meant) (l : Meant) (e : Checked) → length (withEntry e ls l) ≡ countBehind (length ls) e
+counted ls l Good = length-append ls (l ∷ []) ∙ add-one (length ls)
+counted ls l (Refused n) = refl
+
 -- ---- the walk
 
 -- How it begins.
-pub standing-begin : {s : List ℕ} {p : Pass} (old : List Label) → Begins s p → Standing s old old p
+standing-begin : {s : List ℕ} {p : Pass} (old : List Label) → Begins s p → Standing s old old p
 unfolding over
 standing-begin old b =
     record { labels = []; stands = b .stands (length old); sound = b .sound; table-is = refl; fits = omega arith; spelled = tt }
@@ -80,22 +76,15 @@ module _ {s : List ℕ} {old table : List Label} {p : Pass} (w : Standing s old 
   pub standing-long : length table ≡ length old
   standing-long = table-long s old table (w .labels) (w .table-is) (w .fits)
 
-  -- What entering a label asks for.
-  pub standing-placed : Placed s table (p .labels)
-  standing-placed = rw (w .stands .count) (table-placed s old table (w .labels) (w .table-is) (w .fits) (w .spelled))
-
   module _ (found : p .found ≡ true) where
-    pub standing-in-text : InText s (p .label)
+    standing-in-text : InText s (p .label)
     standing-in-text = w .sound found .in-text
 
     abbrev name : List ℕ
     name = spelled s (p .label)
 
-    name-long : length name ≡ p .label .length
-    name-long = length-take (p .label .length) (drop (p .label .start) s) ∙ omega (arith, length-drop (p .label .start) s, standing-in-text)
-
     entry-is : entryOf (labelAt s p) ≡ p .label
-    entry-is = λ i. record { start = p .label .start; length = name-long i; address = p .label .address }
+    entry-is = λ i. record { start = p .label .start; length = spelled-long s (p .label) standing-in-text i; address = p .label .address }
 
     known-is : anyNamed s (take (p .labels) table) name ≡ isKnown (w .labels) name
     known-is = rw (w .stands .count) (table-known s old table (w .labels) (w .table-is) name (w .spelled))
@@ -110,6 +99,10 @@ module _ {s : List ℕ} {old table : List Label} {p : Pass} (w : Standing s old 
 
       stands-on : Stands s (length old) (withEntry e (w .labels) (labelAt s p)) r
       stands-on = g .stands (length old) (w .labels) (w .stands) found fault-is
+
+      -- The labels are counted.
+      count-on : r .labels ≡ countBehind (p .labels) e
+      count-on = stands-on .count ∙ counted (w .labels) (labelAt s p) e ∙ ap (λ (n : ℕ). countBehind n e) (sym (w .stands .count))
 
       refused-on : (n : ℕ) → e ≡ Refused n → table′ ≡ table → Standing s old table′ r
       refused-on n f h =
@@ -133,7 +126,7 @@ module _ {s : List ℕ} {old table : List Label} {p : Pass} (w : Standing s old 
             spelled = spelled-more s (w .labels) (labelAt s p) (w .spelled) (ap (spelled s) entry-is) (subst (InText s) (sym entry-is) standing-in-text);
           }
 
-      pub standing-on : Standing s old table′ r
+      standing-on : Standing s old table′ r
       unfolding entryFault
       standing-on = go (isKnown (w .labels) name) (ltb (length (w .labels)) (length old)) refl e refl fault-is holds-is
         where
@@ -159,15 +152,52 @@ module _ {s : List ℕ} {old table : List Label} {p : Pass} (w : Standing s old 
         let a = stands-answers (w .stands) ended f in
         record { answer = a .answer; table-holds = w .table-is ∙ ap (λ (ls : List Meant). over (map entryOf ls) old) (a .labels-are); image-holds = a .image-holds }
 
+-- ---- the walk over a table whose labels are a tree
+
+-- Where it stands: the labels so far, and the tree.
+pub record Walking (s : List ℕ) (old table : List Label) (p : Pass) : Type 0 where
+  pub standing : Standing s old (unlinked (p .labels) table) p
+  pub tree : Tree s table (p .labels)
+
+pub walking-begin : {s : List ℕ} {p : Pass} (old : List Label) → Begins s p → Walking s old old p
+unfolding unlinked
+walking-begin {s} {p} old b =
+    let none : p .labels ≡ 0 = b .stands (length old) .count in
+    record {
+      standing = subst (λ (n : ℕ). Standing s old (unlinked n old) p) (sym none) (standing-begin old b);
+      tree = record { in-table = rw none (omega arith); in-text = λ i h. absurd (omega arith); onward = λ i h. absurd (omega arith); found = λ i h. absurd (omega arith) };
+    }
+
+module _ {s : List ℕ} {old table : List Label} {p : Pass} (w : Walking s old table p) where
+  pub walking-long : length table ≡ length old
+  walking-long = sym (unlinked-long (p .labels) table) ∙ standing-long (w .standing)
+
+  -- What entering a label asks for.
+  pub walking-enterable : p .found ≡ true → Enterable s (p .labels) (p .label)
+  unfolding most-bytes
+  walking-enterable found =
+      let k = w .standing .sound found in
+      record { in-text = k .in-text; short = k .short; few = omega (arith, k .short, k .line-fits, k .few-labels) }
+
+  pub walking-on : {table′ : List Label} {e : Checked} {r : Pass} → p .found ≡ true → Enters s (unlinked (p .labels) table) (p .labels) (p .label) (unlinked (countBehind (p .labels) e) table′) e
+      → Tree s table′ (countBehind (p .labels) e) → GoesOn s p e r → Walking s old table′ r
+  walking-on {table′} {e} {r} found x t g =
+      let n : r .labels ≡ countBehind (p .labels) e = count-on (w .standing) found x g in
+      record { standing = subst (λ (k : ℕ). Standing s old (unlinked k table′) r) (sym n) (standing-on (w .standing) found x g); tree = subst (Tree s table′) (sym n) t }
+
+  -- It has ended, and the labels stand alone in the table.
+  pub walking-ends : {table′ : List Label} → p .found ≡ false → table′ ≡ unlinked (p .labels) table → Walks s old table′ p
+  walking-ends ended e = record { standing = rw e (w .standing); ended = ended }
+
 -- What is left, counted in lines.
 abbrev pub left : List ℕ → Pass → ℕ
 left s p = elim (p .found) [ true ↦ length s + 2 - p .line | false ↦ 0 ]
 
-pub nearer : {s : List ℕ} {old table : List Label} {p r : Pass} {e : Checked} → Standing s old table p → p .found ≡ true → GoesOn s p e r → left s r < left s p
+pub nearer : {s : List ℕ} {old table : List Label} {p r : Pass} {e : Checked} → Walking s old table p → p .found ≡ true → GoesOn s p e r → left s r < left s p
 nearer {s} {old} {table} {p} {r} w found g = by-test (r .found) more done
   where
     fits : p .line ≤ length s + 1
-    fits = w .sound found .line-fits
+    fits = w .standing .sound found .line-fits
 
     more : r .found ≡ true → left s r < left s p
     more f = let b = g .behind f in rw (found, f) (omega (arith, fits, b))

@@ -21,6 +21,7 @@ fn first_pass(
         let entered = labels::label::enter(source, table, pass.labels, pass.label);
         pass = passes::first_pass::go_on(source, pass, entered, mnemonics, forms, slots);
     }
+    labels::label::unlink(table, pass.labels);
     pass
 }
 

@@ -1,7 +1,9 @@
 pub mod Again
 pub mod Calls
 pub mod Facts
+pub mod Finding
+mod Hashing
 pub mod Locals
-mod Named
+pub mod Named
 pub mod Owned
 pub mod Row

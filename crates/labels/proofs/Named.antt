@@ -1,44 +1,40 @@
--- Looking for a spelling among the first labels of a table, label by label, and entering a label behind them.
-use Prim.Native.Nat.{ℕ, suc, _+_, _-_, _≤_, _<_}
-use mathlib.Core.Path.{_≡_, ap, _∙_}
+-- Whether some labels have a spelling, and entering a label behind them.
+use Prim.Native.Nat.{ℕ, zero, suc, _+_, _-_, _<_}
+use mathlib.Core.Path.{_≡_, refl, ap, _∙_}
 use native.Mathlib.Omega.{arith}
-use native.Mathlib.Numerals.{add-one}
 use mathlib.Core.Bool.{Bool, true, false}
-use mathlib.Core.List.{List}
+use mathlib.Core.List.{List, [], _∷_}
 use lib.Dec.{ltb}
-use lib.ListN.{length, take, drop, getD, set, length-take, drop-of-length-le}
-use lib.Seq.{drop-cons, getD-take}
+use lib.ListN.{length, take, drop, getD, set, length-take, length-drop}
 use Rattle.spelling.specs.Bytes.{same}
+use Rattle.spelling.proofs.Tests.{by-test}
+use Rattle.spelling.proofs.Strings.{same-eq, eq-same}
 use Rattle.image.specs.declared.config.Checked.the-variants.{Good, Refused}
 use Rattle.labels.specs.declared.label.Label.{Label}
-use Rattle.labels.specs.Contracts.{spelled, noLabel, anyNamed, entryFault, Enters}
+use Rattle.labels.specs.Contracts.{InText, spelled, noLabel, anyNamed, entryFault, Enters}
 
 -- A part with a computed end.
 pub part-is : (s : List ℕ) (a n : ℕ) → take (a + n - a) (drop a s) ≡ take n (drop a s)
 part-is s a n = let e : a + n - a ≡ n = omega arith in ap (λ (m : ℕ). take m (drop a s)) e
 
-module _ (s u : List ℕ) (table : List Label) (count : ℕ) where
-  -- What is named among those from a label on.
-  abbrev pub left : ℕ → Bool
-  left i = anyNamed s (drop i (take count table)) u
+-- A spelling is as long as its label says.
+pub spelled-long : (s : List ℕ) (l : Label) → InText s l → length (spelled s l) ≡ l .length
+spelled-long s l h = length-take (l .length) (drop (l .start) s) ∙ omega (arith, length-drop (l .start) s, h)
 
-  module _ (i : ℕ) (within : count ≤ length table) where
-    left-step : i < count → left i ≡ elim (same (spelled s (getD table i noLabel)) u) [ true ↦ true | false ↦ left (suc i) ]
-    unfolding anyNamed
-    left-step h =
-        let a : i < length (take count table) = rw (length-take count table) (omega arith) in
-        rw (drop-cons (take count table) i noLabel a, getD-take count table i noLabel h)
+module _ (s u : List ℕ) where
+  -- One of them has it,
+  pub one-named : (ls : List Label) (i : ℕ) → i < length ls → spelled s (getD ls i noLabel) ≡ u → anyNamed s ls u ≡ true
+  unfolding anyNamed
+  one-named [] i h e = absurd (omega arith)
+  one-named (l ∷ ls) zero h e = rw (anyNamed, eq-same (spelled s l) u e)
+  one-named (l ∷ ls) (suc i) h e = by-test (same (spelled s l) u) (λ y. rw (anyNamed, y)) (λ n. rw (anyNamed, n) (one-named ls i (omega arith) e))
 
-    pub label-found : i < count → same (spelled s (getD table i noLabel)) u ≡ true → left i ≡ true
-    label-found h e = left-step h ∙ rw e
-
-    pub label-passed : i < count → same (spelled s (getD table i noLabel)) u ≡ false → left i ≡ left (i + 1)
-    label-passed h e = left-step h ∙ rw (e, add-one i)
-
-    -- There is none left.
-    pub labels-done : count ≤ i → left i ≡ false
-    unfolding anyNamed
-    labels-done h = rw (drop-of-length-le (take count table) {i = i} (rw (length-take count table) (omega arith)))
+  -- or none.
+  pub none-named : (ls : List Label) → ((i : ℕ) → i < length ls → spelled s (getD ls i noLabel) ≡ u → ⊥) → anyNamed s ls u ≡ false
+  unfolding anyNamed
+  none-named [] f = refl
+  none-named (l ∷ ls) f =
+      by-test (same (spelled s l) u) (λ y. absurd (f 0 (omega arith) (same-eq _ _ y))) (λ n. rw (anyNamed, n) (none-named ls (λ i h e. f (suc i) (omega arith) e)))
 
 module _ (s : List ℕ) (table : List Label) (count : ℕ) (l : Label) where
   pub enters-known : anyNamed s (take count table) (spelled s l) ≡ true → Enters s table count l table (Refused 4)

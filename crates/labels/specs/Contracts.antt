@@ -1,15 +1,16 @@
 -- What a lent label table holds, and what its functions promise. Quotations are document 01's.
-use Prim.Native.Nat.{ℕ, _+_, _≤_, _<_}
+use Prim.Native.Nat.{ℕ, suc, _+_, _≤_}
 use mathlib.Core.Path.{_≡_}
 use mathlib.Core.Bool.{Bool, true, false}
 use mathlib.Core.Option.{Option, none, some}
 use mathlib.Core.List.{List, [], _∷_}
-use lib.ListN.{length, take, drop, getD, set}
+use lib.ListN.{length, take, drop, set}
 use lib.Dec.{ltb}
 use Rattle.spelling.specs.Bytes.{same}
 use Rattle.image.specs.Assembling.{Label as Meant}
 use Rattle.image.specs.Contracts.{faultMeant}
 use Rattle.image.specs.declared.config.Checked.{Checked}
+use Rattle.image.specs.declared.config.Checked.the-variants.{Good, Refused}
 use Rattle.labels.specs.declared.label.Label.{Label}
 
 -- "entries of start, length, address": the entry of a label.
@@ -28,11 +29,6 @@ spelled s l = take (l .length) (drop (l .start) s)
 abbrev pub noLabel : Label
 noLabel = record { start = 0; length = 0; address = 0 }
 
--- The first entries of a table are parts of a source.
-pub record Placed (s : List ℕ) (table : List Label) (count : ℕ) : Type 0 where
-  pub in-table : count ≤ length table
-  pub in-text : (i : ℕ) → i < count → InText s (getD table i noLabel)
-
 -- "compared case-sensitively": whether one of some labels has a spelling.
 unfoldable pub anyNamed : List ℕ → List Label → List ℕ → Bool
 anyNamed s [] u = false
@@ -41,6 +37,11 @@ anyNamed s (l ∷ ls) u = elim (same (spelled s l) u) [ true ↦ true | false �
 -- "4 duplicate label; 5 new label, table full"
 unfoldable pub entryFault : Bool → Bool → Option ℕ
 entryFault known room = elim known [ true ↦ some 4 | false ↦ elim room [ true ↦ none | false ↦ some 5 ] ]
+
+-- How many labels there are behind an attempt to enter one.
+abbrev pub countBehind : ℕ → Checked → ℕ
+countBehind count Good = suc count
+countBehind count (Refused n) = count
 
 -- Entering a label behind `count` others of a table: the answer, and the table afterwards. (`set` leaves a list as it is at a place
 -- behind its end.)

@@ -1,9 +1,11 @@
 // Labels are entered from the front of a lent slice and found by their spelling.
 ghost use mathlib.Core.Path.{_≡_};
-ghost use lib.ListN.{length, take, set};
+ghost use Prim.Native.Nat.{_≤_};
+ghost use lib.ListN.{length, set};
 ghost use lib.Dec.{ltb};
-ghost use Rattle.spelling.specs.Bytes.{same};
-ghost use Rattle.labels.specs.Contracts.{InText, spelled, Placed, anyNamed, Enters};
+ghost use Rattle.labels.specs.Contracts.{countBehind, Enters};
+ghost use Rattle.labels.specs.Tree.{unlinked, Tree, Enterable, Searched};
+use crate::tree::Search;
 use image::config::Checked;
 
 // Where a label's spelling stands in the source, and its address.
@@ -14,54 +16,55 @@ pub struct Label {
     pub address: u64,
 }
 
-// Whether two labels are spelled alike.
-fn same_spelling(source: &[u8], a: Label, b: Label) -> bool
-    requires { ⌜ InText (now source) a ⌝ ∗ ⌜ InText (now source) b ⌝ }
-    ensures { λ r. ⌜ r ≡ same (spelled (now (source .entry)) a) (spelled (now (source .entry)) b) ⌝ }
+// The search for a label among the first `count` entries of a table.
+fn find(source: &[u8], table: &[Label], count: usize, label: Label) -> Search
+    requires { ⌜ Tree (now source) (now table) count ⌝ ∗ ⌜ Enterable (now source) count label ⌝ }
+    ensures { λ r. ⌜ Searched (now (source .entry)) (now (table .entry)) count label r ⌝ }
 {
-    let a_start = a.start;
-    let a_end = a_start + a.length;
-    let b_start = b.start;
-    let b_end = b_start + b.length;
-    spelling::bytes::same(&source[a_start..a_end], &source[b_start..b_end])
-}
-
-// Whether one of the first `count` labels of a table is spelled as a label is.
-pub fn find(source: &[u8], table: &[Label], count: usize, label: Label) -> bool
-    requires { ⌜ Placed (now source) (now table) count ⌝ ∗ ⌜ InText (now source) label ⌝ }
-    ensures { λ r. ⌜ r ≡ anyNamed (now (source .entry)) (take count (now (table .entry))) (spelled (now (source .entry)) label) ⌝ }
-{
-    let mut i = 0;
-    while i < count {
-        if same_spelling(source, table[i], label) {
-            return true;
-        }
-        i += 1;
+    let mut search = crate::tree::begin(source, count, label);
+    while search.more {
+        let at = search.next;
+        search = crate::tree::visit(source, search, table[at]);
     }
-    false
+    search
 }
 
-// A label stored behind `count` others, where there is room; whether there was.
-pub fn append(table: &mut [Label], count: usize, label: Label) -> bool
-    ensures { λ r. ⌜ r ≡ ltb count (length (now (table .entry))) ⌝ ∗ ⌜ now (table .exit) ≡ set (now (table .entry)) count label ⌝ }
+// An entry stored at a place, where there is room; whether there was.
+fn append(table: &mut [Label], at: usize, entry: Label) -> bool
+    ensures { λ r. ⌜ r ≡ ltb at (length (now (table .entry))) ⌝ ∗ ⌜ now (table .exit) ≡ set (now (table .entry)) at entry ⌝ }
 {
-    if table.len() <= count {
+    if table.len() <= at {
         return false;
     }
-    table[count] = label;
+    table[at] = entry;
     true
 }
 
 // A label entered behind `count` others: 4, 5.
 pub fn enter(source: &[u8], table: &mut [Label], count: usize, label: Label) -> Checked
-    requires { ⌜ Placed (now source) (now table) count ⌝ ∗ ⌜ InText (now source) label ⌝ }
-    ensures { λ r. ⌜ Enters (now (source .entry)) (now (table .entry)) count label (now (table .exit)) r ⌝ }
+    requires { ⌜ Tree (now source) (now table) count ⌝ ∗ ⌜ Enterable (now source) count label ⌝ }
+    ensures { λ r. ⌜ Enters (now (source .entry)) (unlinked count (now (table .entry))) count label (unlinked (countBehind count r) (now (table .exit))) r ⌝ ∗ ⌜ Tree (now (source .entry)) (now (table .exit)) (countBehind count r) ⌝ }
 {
-    if find(source, table, count, label) {
+    let search = find(source, table, count, label);
+    if search.known {
         return Checked::Refused(4);
     }
-    if append(table, count, label) {
+    if append(table, count, search.entry) {
+        // its parent leads to it
+        append(table, search.last, search.parent);
         return Checked::Good;
     }
     Checked::Refused(5)
+}
+
+// The first `count` entries of a table are left as labels.
+pub fn unlink(table: &mut [Label], count: usize)
+    requires { ⌜ count ≤ length (now table) ⌝ }
+    ensures { λ r. ⌜ now (table .exit) ≡ unlinked count (now (table .entry)) ⌝ }
+{
+    let mut i = 0;
+    while i < count {
+        table[i] = crate::tree::plain(table[i]);
+        i += 1;
+    }
 }

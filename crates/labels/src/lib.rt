@@ -1,2 +1,3 @@
 // The label table: a lent slice of labels.
 pub mod label;
+mod tree;

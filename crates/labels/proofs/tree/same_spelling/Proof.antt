@@ -1,9 +1,9 @@
--- `labels::label::same_spelling` meets its contract.
+-- `labels::tree::same_spelling` meets its contract.
 use mathlib.Core.Path.{_∙_}
 use borrow.Author.Needs.{needs}
 use Rattle.labels.proofs.Named.{part-is}
-use Rattle.labels.proofs.label.same_spelling.Statement.{statement}
-use Rattle.labels.proofs.label.same_spelling.Tie as tie
+use Rattle.labels.proofs.tree.same_spelling.Statement.{statement}
+use Rattle.labels.proofs.tree.same_spelling.Tie as tie
 
 add-a-end : tie.Need-add-a-end
 add-a-end c = search needs

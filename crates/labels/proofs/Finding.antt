@@ -1,0 +1,452 @@
+-- Looking for a spelling in the tree that the first entries of a table are, and entering a label into it. Nothing here depends on what a spelling's turns or its hash are.
+--     Way            the way of a spelling to an entry.        Seeking        where a search stands
+--     seek-begin, seek-visit, seek-end       how a search begins, goes on behind an entry, and what it comes to
+use Prim.Native.Nat.{ℕ, zero, suc, _+_, _-_, _*_, _/_, _%_, _≤_, _<_}
+use mathlib.Core.Path.{_≡_, refl, sym, ap, ap₂, subst, _∙_}
+use native.Mathlib.Omega.{arith}
+use native.Mathlib.Numerals.{add-one}
+use mathlib.Core.Bool.{Bool, true, false, true≢false}
+use mathlib.Core.List.{List, [], _∷_}
+use lib.Dec.{ltb, eqb}
+use lib.ListN.{length, take, drop, getD, set, length-take, length-drop, length-set}
+use lib.Seq.{getD-take, getD-set-same, getD-set-other, set-out, ext-getD}
+use borrow.Author.Tests.{eqb-true, eqb-false, eq-eqb, ltb-true, ltb-false}
+use Rattle.spelling.specs.Bytes.{same}
+use Rattle.spelling.proofs.Tests.{by-test, no-both, both, and-both, split}
+use Rattle.spelling.proofs.Strings.{same-eq, eq-same}
+use Rattle.image.specs.declared.config.Checked.the-variants.{Good, Refused}
+use Rattle.labels.specs.declared.label.Label.{Label}
+use Rattle.labels.specs.declared.tree.Turns.{Turns}
+use Rattle.labels.specs.declared.tree.Search.{Search}
+use Rattle.labels.specs.Contracts.{InText, spelled, noLabel, anyNamed, Enters}
+use Rattle.labels.specs.Tree.{plain, unlinked, link, linked, firstTurns, turned, isRight, keyOf, entryFor, hits, begun, endedAt, passed, visited, Finds, here, there, Tree, Enterable, joined, Searched, Visitable}
+use Rattle.labels.proofs.Hashing.{visited-hit, visited-last, visited-on}
+use Rattle.labels.proofs.Named.{spelled-long, one-named, none-named, enters-known, enters-new, enters-full}
+
+-- ---- entries
+
+module _ (e : Label) (to : ℕ) (h : to < 2097152) where
+  linked-adds : (b : Bool) → link e b ≡ 0 → link (linked e b to) b ≡ to
+  unfolding link linked
+  linked-adds true f = omega arith
+  linked-adds false f = omega arith
+
+  -- What it led to on the other side it leads to still,
+  linked-keeps : (b c : Bool) → link e b ≡ 0 → (k : ℕ) → (k ≡ 0 → ⊥) → link e c ≡ k → link (linked e b to) c ≡ k
+  unfolding link linked
+  linked-keeps true true f k n g = absurd (n (omega arith))
+  linked-keeps true false f k n g = omega arith
+  linked-keeps false true f k n g = omega arith
+  linked-keeps false false f k n g = absurd (n (omega arith))
+
+  -- and to nothing else.
+  linked-only : (b c : Bool) → link e b ≡ 0 → (k : ℕ) → (to ≡ k → ⊥) → link (linked e b to) c ≡ k → link e c ≡ k
+  unfolding link linked
+  linked-only true true f k n g = absurd (n (omega arith))
+  linked-only true false f k n g = omega arith
+  linked-only false true f k n g = omega arith
+  linked-only false false f k n g = absurd (n (omega arith))
+
+  plain-linked : (b : Bool) → plain (linked e b to) ≡ plain e
+  unfolding linked
+  plain-linked true = let f : (e .start + 4398046511104 * to) % 2097152 ≡ e .start % 2097152 = omega arith in rw f
+  plain-linked false = let f : (e .start + 2097152 * to) % 2097152 ≡ e .start % 2097152 = omega arith in rw f
+
+  key-linked : (b : Bool) → linked e b to .length ≡ e .length
+  unfolding linked
+  key-linked true = refl
+  key-linked false = refl
+
+-- ---- a table with labels for its first entries
+
+pub unlinked-long : (n : ℕ) (t : List Label) → length (unlinked n t) ≡ length t
+unfolding unlinked
+unlinked-long zero t = refl
+unlinked-long (suc n) [] = refl
+unlinked-long (suc n) (e ∷ t) = ap suc (unlinked-long n t)
+
+unlinked-at : (n : ℕ) (t : List Label) (i : ℕ) → i < n → getD (unlinked n t) i noLabel ≡ plain (getD t i noLabel)
+unfolding unlinked
+unlinked-at zero t i h = absurd (omega arith)
+unlinked-at (suc n) [] i h = refl
+unlinked-at (suc n) (e ∷ t) zero h = refl
+unlinked-at (suc n) (e ∷ t) (suc i) h = unlinked-at n t i (omega arith)
+
+unlinked-past : (n : ℕ) (t : List Label) (i : ℕ) → n ≤ i → getD (unlinked n t) i noLabel ≡ getD t i noLabel
+unfolding unlinked
+unlinked-past zero t i h = refl
+unlinked-past (suc n) [] i h = refl
+unlinked-past (suc n) (e ∷ t) zero h = absurd (omega arith)
+unlinked-past (suc n) (e ∷ t) (suc i) h = unlinked-past n t i (omega arith)
+
+-- An entry more.
+pub unlinked-more : (n : ℕ) (t : List Label) → n < length t → set (unlinked n t) n (plain (getD (unlinked n t) n noLabel)) ≡ unlinked (n + 1) t
+unfolding unlinked
+unlinked-more n t h = rw (add-one n) (go n t h)
+  where
+    go : (n : ℕ) (t : List Label) → n < length t → set (unlinked n t) n (plain (getD (unlinked n t) n noLabel)) ≡ unlinked (suc n) t
+    go n [] h = absurd (omega arith)
+    go zero (e ∷ t) h = refl
+    go (suc n) (e ∷ t) h = ap (λ (l : List Label). plain e ∷ l) (go n t (omega arith))
+
+-- ---- ways
+
+-- The first entries of a table are what they were, and lead where they led.
+record Grown (t : List Label) (n : ℕ) (t′ : List Label) : Type 0 where
+  plains : (i : ℕ) → i < n → plain (getD t′ i noLabel) ≡ plain (getD t i noLabel)
+  keys : (i : ℕ) → i < n → getD t′ i noLabel .length ≡ getD t i noLabel .length
+  links : (i : ℕ) → i < n → (c : Bool) (l : ℕ) → (l ≡ 0 → ⊥) → link (getD t i noLabel) c ≡ l → link (getD t′ i noLabel) c ≡ l
+
+module _ (s : List ℕ) (u : List ℕ) where
+  -- Whether the entry at a place is of the spelling.
+  abbrev hit : List Label → ℕ → Bool
+  hit t i = hits s (getD t i noLabel) (keyOf u) u
+
+  hit-named : (t : List Label) (i : ℕ) → hit t i ≡ true → spelled s (plain (getD t i noLabel)) ≡ u
+  unfolding hits
+  hit-named t i h = same-eq _ _ (both (eqb (getD t i noLabel .length) (keyOf u)) _ h .1)
+
+  hit-is : (t : List Label) (i : ℕ) → getD t i noLabel .length ≡ keyOf u → spelled s (plain (getD t i noLabel)) ≡ u → hit t i ≡ true
+  unfolding hits
+  hit-is t i f g = and-both (eqb (getD t i noLabel .length) (keyOf u)) _ (eq-eqb _ _ f) (eq-same _ _ g)
+
+  module _ (t : List Label) (n : ℕ) where
+    -- The way of the spelling from the first entry to another, past entries that are not of it.
+    pub data Way : ℕ → Turns → Type 0 where
+      start : Way 1 (firstTurns u)
+      step : {i l : ℕ} {z : Turns} → Way (suc i) z → i < n → hit t i ≡ false → link (getD t i noLabel) (isRight z) ≡ l → Way l (turned u z)
+
+    -- If the spelling is found, it is found from any entry of its way on.
+    past : {m : ℕ} {z : Turns} → Finds s t n u m z → (i l : ℕ) → m ≡ suc i → hit t i ≡ false → link (getD t i noLabel) (isRight z) ≡ l → Finds s t n u l (turned u z)
+    past (here {i = j} h y) i l e miss f = let k : j ≡ i = omega arith in no-both (rw k at y) miss
+    past (there {i = j} {l = m} {z = z} h g x) i l e miss f =
+        let k : j ≡ i = omega arith in
+        subst (λ (p : ℕ). Finds s t n u p (turned u z)) (sym g ∙ ap (λ (x : ℕ). link (getD t x noLabel) (isRight z)) k ∙ f) x
+
+    way-finds : {l : ℕ} {z : Turns} → Way l z → Finds s t n u 1 (firstTurns u) → Finds s t n u l z
+    way-finds start x = x
+    way-finds (step {i = i} {l = l} w h miss f) x = past (way-finds w x) i l refl miss f
+
+    some-there : {l : ℕ} {z : Turns} → Finds s t n u l z → 0 < n
+    some-there (here h y) = omega arith
+    some-there (there h g x) = omega arith
+
+    not-nowhere : {l : ℕ} {z : Turns} → Finds s t n u l z → l ≡ 0 → ⊥
+    not-nowhere (here h y) e = omega arith
+    not-nowhere (there h g x) e = omega arith
+
+    module _ {t′ : List Label} (g : Grown t n t′) where
+      hit-grown : (i : ℕ) → i < n → hit t′ i ≡ hit t i
+      unfolding hits
+      hit-grown i h =
+          ap₂ (λ (k : ℕ) (p : Label). elim (eqb k (keyOf u)) [ true ↦ same (spelled s p) u | false ↦ false ]) (g .keys i h) (g .plains i h)
+
+      finds-grown : {l : ℕ} {z : Turns} → Finds s t n u l z → Finds s t′ (suc n) u l z
+      finds-grown (here {i = i} h y) = here {i = i} (omega arith) (hit-grown i h ∙ y)
+      finds-grown (there {i = i} {l = l} {z = z} h f x) = there {i = i} (omega arith) (g .links i h (isRight z) l (not-nowhere x) f) (finds-grown x)
+
+      -- What is found from an entry of the way on is found.
+      way-back : {l : ℕ} {z : Turns} → Way l z → (l ≡ 0 → ⊥) → Finds s t′ (suc n) u l z → Finds s t′ (suc n) u 1 (firstTurns u)
+      way-back start nz x = x
+      way-back (step {i = i} {l = l} {z = z} w h miss f) nz x = way-back w (λ e. omega arith) (there {i = i} (omega arith) (g .links i h (isRight z) l nz f) x)
+
+-- ---- searches
+
+-- What is left of a search: the entries from the next on.
+abbrev pub left : ℕ → Search → ℕ
+left n q = elim (q .more) [ true ↦ n - q .next | false ↦ 0 ]
+
+pub record AtEntry (s : List ℕ) (t : List Label) (n : ℕ) (l : Label) (q : Search) : Type 0 where
+  pub inside : q .next < n
+  pub way : Way s (spelled s l) t n (suc (q .next)) (q .turns)
+
+-- A search that has found nothing ends where there is no entry, or behind one that leads nowhere.
+pub data Lost (s : List ℕ) (t : List Label) (n : ℕ) (l : Label) (q : Search) : Type 0 where
+  none-there : n ≡ 0 → q .last ≡ n → q .parent ≡ entryFor (spelled s l) l → Lost s t n l q
+  behind : (z : Turns) → q .last < n → Way s (spelled s l) t n (suc (q .last)) z → hit s (spelled s l) t (q .last) ≡ false
+      → link (getD t (q .last) noLabel) (isRight z) ≡ 0 → q .parent ≡ linked (getD t (q .last) noLabel) (isRight z) (n + 1) → Lost s t n l q
+
+-- Where a search stands.
+pub record Seeking (s : List ℕ) (t : List Label) (n : ℕ) (l : Label) (q : Search) : Type 0 where
+  pub entry-is : q .entry ≡ entryFor (spelled s l) l
+  pub count-is : q .count ≡ n
+  pub at-entry : q .more ≡ true → AtEntry s t n l q
+  pub is-known : q .known ≡ true → (i : ℕ) × ((i < n) × (hit s (spelled s l) t i ≡ true))
+  pub is-lost : q .more ≡ false → q .known ≡ false → Lost s t n l q
+
+module _ (s : List ℕ) (t : List Label) (n : ℕ) (l : Label) (tree : Tree s t n) (ok : Enterable s n l) where
+  abbrev u : List ℕ
+  u = spelled s l
+
+  entry-plain : plain (entryFor u l) ≡ l
+  unfolding entryFor keyOf
+  entry-plain =
+      let a : l .start % 2097152 ≡ l .start = omega (arith, ok .in-text, ok .short) in
+      let b : keyOf u % 2097152 ≡ l .length = omega (arith, spelled-long s l (ok .in-text), ok .in-text, ok .short) in
+      λ i. record { start = a i; length = b i; address = l .address }
+
+  pub seek-begin : Seeking s t n l (begun s n l)
+  seek-begin =
+      record {
+        entry-is = refl;
+        count-is = refl;
+        at-entry = λ e. record { inside = ltb-true 0 n e; way = start };
+        is-known = λ e. absurd (true≢false (sym e));
+        is-lost = λ e _. none-there (let h = ltb-false 0 n e in omega arith) refl refl;
+      }
+
+  module _ (q : Search) (k : Seeking s t n l q) where
+    spelled-is : spelled s (plain (q .entry)) ≡ u
+    spelled-is = ap (λ (e : Label). spelled s (plain e)) (k .entry-is) ∙ ap (spelled s) entry-plain
+
+    module _ (more : q .more ≡ true) where
+      abbrev e : Label
+      e = getD t (q .next) noLabel
+
+      inside : q .next < n
+      inside = k .at-entry more .inside
+
+      pub seek-visitable : Visitable s q e
+      unfolding link
+      seek-visitable =
+          record {
+            label-in-text = subst (InText s) (sym (ap plain (k .entry-is) ∙ entry-plain)) (ok .in-text);
+            entry-in-text = tree .in-text (q .next) inside;
+            low = lead (e .start / 4398046511104) refl;
+            few = rw (k .count-is) (ok .few);
+          }
+        where
+          lead : (m : ℕ) → link e true ≡ m → m ≤ 1048576
+          lead zero f = omega arith
+          lead (suc j) f = let h = tree .onward (q .next) inside true j f in omega (arith, h .1, ok .few)
+
+      hit-here : hits s e (q .entry .length) (spelled s (plain (q .entry))) ≡ hit s u t (q .next)
+      unfolding entryFor
+      hit-here = ap₂ (λ (m : ℕ) (w : List ℕ). hits s e m w) (ap (λ (v : Label). v .length) (k .entry-is)) spelled-is
+
+      pub seek-visit : Seeking s t n l (visited s q e)
+      seek-visit = by-test (hit s u t (q .next)) found (λ miss. passing miss (link e (isRight (q .turns))) refl)
+        where
+          found : hit s u t (q .next) ≡ true → Seeking s t n l (visited s q e)
+          found h = subst (Seeking s t n l) (sym (visited-hit s q e (hit-here ∙ h))) (record {
+            entry-is = k .entry-is;
+            count-is = k .count-is;
+            at-entry = λ f. absurd (true≢false (sym f));
+            is-known = λ _. (q .next, (inside, h));
+            is-lost = λ _ f. absurd (true≢false f);
+          })
+
+          passing : hit s u t (q .next) ≡ false → (m : ℕ) → link e (isRight (q .turns)) ≡ m → Seeking s t n l (visited s q e)
+          passing miss zero f = subst (Seeking s t n l) (sym (visited-last s q e (hit-here ∙ miss) f)) (record {
+            entry-is = k .entry-is;
+            count-is = k .count-is;
+            at-entry = λ g. absurd (true≢false (sym g));
+            is-known = λ g. absurd (true≢false (sym g));
+            is-lost = λ _ _. behind (q .turns) inside (k .at-entry more .way) miss f (ap (λ (m : ℕ). linked e (isRight (q .turns)) (m + 1)) (k .count-is));
+          })
+          passing miss (suc i) f = subst (Seeking s t n l) (sym (visited-on s q e (hit-here ∙ miss) i f)) (record {
+            entry-is = k .entry-is;
+            count-is = k .count-is;
+            at-entry = λ _. record {
+              inside = tree .onward (q .next) inside (isRight (q .turns)) i f .1;
+              way = subst (λ (w : List ℕ). Way s u t n (suc i) (turned w (q .turns))) (sym spelled-is) (step (k .at-entry more .way) inside miss f);
+            };
+            is-known = λ g. absurd (true≢false (sym g));
+            is-lost = λ g _. absurd (true≢false g);
+          })
+
+      -- An entry less is left.
+      pub seek-nearer : left n (visited s q e) < left n q
+      seek-nearer = by-test (hit s u t (q .next)) found (λ miss. passing miss (link e (isRight (q .turns))) refl)
+        where
+          now : left n q ≡ n - q .next
+          now = rw more
+
+          found : hit s u t (q .next) ≡ true → left n (visited s q e) < left n q
+          found h = rw (visited-hit s q e (hit-here ∙ h)) (omega (arith, now, inside))
+
+          passing : hit s u t (q .next) ≡ false → (m : ℕ) → link e (isRight (q .turns)) ≡ m → left n (visited s q e) < left n q
+          passing miss zero f = rw (visited-last s q e (hit-here ∙ miss) f) (omega (arith, now, inside))
+          passing miss (suc i) f =
+              let h = tree .onward (q .next) inside (isRight (q .turns)) i f in
+              rw (visited-on s q e (hit-here ∙ miss) i f) (omega (arith, now, inside, h .0, h .1))
+
+    -- ---- what it comes to
+
+    module _ (ended : q .more ≡ false) where
+      -- The label is known if it was found,
+      known-there : q .known ≡ true → anyNamed s (take n (unlinked n t)) u ≡ true
+      known-there y =
+          let x = k .is-known y in
+          one-named s u (take n (unlinked n t)) (x .0) (omega (arith, length-take n (unlinked n t), unlinked-long n t, tree .in-table, x .1 .0))
+          (rw (getD-take n (unlinked n t) (x .0) noLabel (x .1 .0), unlinked-at n t (x .0) (x .1 .0)) (hit-named s u t (x .0) (x .1 .1)))
+
+      not-found : Lost s t n l q → Finds s t n u 1 (firstTurns u) → ⊥
+      not-found (none-there f g h) x = let y = some-there s u t n x in omega arith
+      not-found (behind z inside w miss f g) x = not-nowhere s u t n (past s u t n (way-finds s u t n w x) (q .last) 0 refl miss f) refl
+
+      -- and if not, it was not there.
+      unknown-there : q .known ≡ false → anyNamed s (take n (unlinked n t)) u ≡ false
+      unknown-there y = none-named s u (take n (unlinked n t)) (λ i h f.
+          let less : i < n = omega (arith, length-take n (unlinked n t)) in
+          let g : spelled s (plain (getD t i noLabel)) ≡ u = ap (spelled s) (sym (getD-take n (unlinked n t) i noLabel less ∙ unlinked-at n t i less)) ∙ f in
+          not-found (k .is-lost ended y) (subst (λ (w : List ℕ). Finds s t n w 1 (firstTurns w)) g (tree .found i less)))
+
+      -- Then the table has the label's entry behind the others, and is a tree again.
+      module _ (y : q .known ≡ false) (room : n < length t) where
+        abbrev t′ : List Label
+        t′ = joined t n q
+
+        -- What is known of it in either case.
+        record Joins : Type 0 where
+          new : getD t′ n noLabel ≡ entryFor u l
+          grown : Grown t n t′
+          onward : (i : ℕ) → i < n → (c : Bool) (j : ℕ) → link (getD t′ i noLabel) c ≡ suc j → (i < j) × (j < suc n)
+          later : (i : ℕ) → n < i → getD t′ i noLabel ≡ getD t i noLabel
+          leads : Finds s t′ (suc n) u 1 (firstTurns u)
+
+        long : length t′ ≡ length t
+        long = length-set (set t n (q .entry)) (q .last) (q .parent) ∙ length-set t n (q .entry)
+
+        entry-links : (c : Bool) → link (entryFor u l) c ≡ 0
+        unfolding link entryFor
+        entry-links true = omega (arith, ok .in-text, ok .short)
+        entry-links false = omega (arith, ok .in-text, ok .short)
+
+        hit-new : getD t′ n noLabel ≡ entryFor u l → hit s u t′ n ≡ true
+        unfolding entryFor
+        hit-new e = hit-is s u t′ n (ap (λ (v : Label). v .length) e) (ap (λ (v : Label). spelled s (plain v)) e ∙ ap (spelled s) entry-plain)
+
+        later-is : q .last ≤ n → (i : ℕ) → n < i → getD t′ i noLabel ≡ getD t i noLabel
+        later-is h i f =
+            getD-set-other (set t n (q .entry)) (q .last) i (q .parent) noLabel (λ e. omega arith) ∙ getD-set-other t n i (q .entry) noLabel (λ e. omega arith)
+
+        wider : {i j : ℕ} → (i < j) × (j < n) → (i < j) × (j < suc n)
+        wider h = (h .0, omega (arith, h .1))
+
+        joins : Lost s t n l q → Joins
+        joins (none-there f g h) =
+            let e : getD t′ n noLabel ≡ entryFor u l = rw (g, h) (getD-set-same (set t n (q .entry)) n (entryFor u l) noLabel (rw (length-set t n (q .entry)) room)) in
+            record {
+              new = e;
+              grown = record { plains = λ i d. absurd (omega arith); keys = λ i d. absurd (omega arith); links = λ i d. absurd (omega arith) };
+              onward = λ i d. absurd (omega arith);
+              later = later-is (omega arith);
+              leads = subst (λ (m : ℕ). Finds s t′ (suc n) u (suc m) (firstTurns u)) f (here {i = n} (omega arith) (hit-new e));
+            }
+        joins (behind z inside w miss f g) =
+            record {
+              new = e;
+              grown = more;
+              onward = onwards;
+              later = later-is (omega arith);
+              leads = way-back s u t n more w (λ v. omega arith) (there {i = q .last} (omega arith) (at-last ∙ add-one n) (here {i = n} (omega arith) (hit-new e)));
+            }
+          where
+            p : Label
+            p = getD t (q .last) noLabel
+
+            small : n + 1 < 2097152
+            small = omega (arith, ok .few)
+
+            e : getD t′ n noLabel ≡ entryFor u l
+            e = getD-set-other (set t n (q .entry)) (q .last) n (q .parent) noLabel (λ v. omega arith) ∙ getD-set-same t n (q .entry) noLabel room ∙ k .entry-is
+
+            parent : getD t′ (q .last) noLabel ≡ linked p (isRight z) (n + 1)
+            parent = getD-set-same (set t n (q .entry)) (q .last) (q .parent) noLabel (rw (length-set t n (q .entry)) (omega arith)) ∙ g
+
+            other : (i : ℕ) → i < n → (i ≡ q .last → ⊥) → getD t′ i noLabel ≡ getD t i noLabel
+            other i d v = getD-set-other (set t n (q .entry)) (q .last) i (q .parent) noLabel v ∙ getD-set-other t n i (q .entry) noLabel (λ x. omega arith)
+
+            at-last : link (getD t′ (q .last) noLabel) (isRight z) ≡ n + 1
+            at-last = ap (λ (v : Label). link v (isRight z)) parent ∙ linked-adds p (n + 1) small (isRight z) f
+
+            -- At the parent, or elsewhere.
+            either : (X : ℕ → Type 0) → X (q .last) → ((i : ℕ) → (i ≡ q .last → ⊥) → X i) → (i : ℕ) → X i
+            either X a b i = by-test (eqb i (q .last)) (λ v. subst X (sym (eqb-true i (q .last) v)) a) (λ v. b i (eqb-false i (q .last) v))
+
+            more : Grown t n t′
+            more = record {
+              plains = either (λ i. i < n → plain (getD t′ i noLabel) ≡ plain (getD t i noLabel))
+                  (λ _. ap plain parent ∙ plain-linked p (n + 1) small (isRight z)) (λ i v d. ap plain (other i d v));
+              keys = either (λ i. i < n → getD t′ i noLabel .length ≡ getD t i noLabel .length)
+                  (λ _. ap (λ (x : Label). x .length) parent ∙ key-linked p (n + 1) small (isRight z)) (λ i v d. ap (λ (x : Label). x .length) (other i d v));
+              links = either (λ i. i < n → (c : Bool) (m : ℕ) → (m ≡ 0 → ⊥) → link (getD t i noLabel) c ≡ m → link (getD t′ i noLabel) c ≡ m)
+                  (λ _ c m nz x. ap (λ (y : Label). link y c) parent ∙ linked-keeps p (n + 1) small (isRight z) c f m nz x)
+                  (λ i v d c m nz x. ap (λ (y : Label). link y c) (other i d v) ∙ x);
+            }
+
+            onwards : (i : ℕ) → i < n → (c : Bool) (j : ℕ) → link (getD t′ i noLabel) c ≡ suc j → (i < j) × (j < suc n)
+            onwards = either (λ i. i < n → (c : Bool) (j : ℕ) → link (getD t′ i noLabel) c ≡ suc j → (i < j) × (j < suc n))
+                (λ d c j x. by-test (eqb (n + 1) (suc j)) (λ v. let w = eqb-true (n + 1) (suc j) v in (omega arith, omega arith))
+                (λ v. wider (tree .onward (q .last) d c j (linked-only p (n + 1) small (isRight z) c f (suc j) (eqb-false (n + 1) (suc j) v) (ap (λ (y : Label). link y c) (sym parent) ∙ x)))))
+                (λ i v d c j x. wider (tree .onward i d c j (ap (λ (y : Label). link y c) (sym (other i d v)) ∙ x)))
+
+        module _ (m : Joins) where
+          joined-plain : plain (getD t′ n noLabel) ≡ l
+          joined-plain = ap plain (m .new) ∙ entry-plain
+
+          -- Behind the others, or one of them.
+          each : (X : ℕ → Type 0) → X n → ((i : ℕ) → i < n → X i) → (i : ℕ) → i < suc n → X i
+          each X a b i h = by-test (eqb i n) (λ v. subst X (sym (eqb-true i n v)) a) (λ v. b i (let w = eqb-false i n v in split i n (λ x. x) (λ x. absurd (w (omega arith)))))
+
+          is-tree : Tree s t′ (suc n)
+          is-tree = record {
+            in-table = rw long room;
+            in-text = each (λ i. InText s (plain (getD t′ i noLabel))) (subst (InText s) (sym joined-plain) (ok .in-text)) (λ i d. subst (InText s) (sym (m .grown .plains i d)) (tree .in-text i d));
+            onward = each (λ i. (c : Bool) (j : ℕ) → link (getD t′ i noLabel) c ≡ suc j → (i < j) × (j < suc n))
+                (λ c j x. absurd (let w = sym x ∙ ap (λ (y : Label). link y c) (m .new) ∙ entry-links c in omega arith)) (m .onward);
+            found = each (λ i. Finds s t′ (suc n) (spelled s (plain (getD t′ i noLabel))) 1 (firstTurns (spelled s (plain (getD t′ i noLabel)))))
+                (subst (λ (x : Label). Finds s t′ (suc n) (spelled s x) 1 (firstTurns (spelled s x))) (sym joined-plain) (m .leads))
+                (λ i d. subst (λ (x : Label). Finds s t′ (suc n) (spelled s x) 1 (firstTurns (spelled s x))) (sym (m .grown .plains i d))
+                (finds-grown s (spelled s (plain (getD t i noLabel))) t n (m .grown) (tree .found i d)));
+          }
+
+          holds : unlinked (suc n) t′ ≡ set (unlinked n t) n l
+          holds = ext-getD noLabel (unlinked (suc n) t′) (set (unlinked n t) n l) (unlinked-long (suc n) t′ ∙ long ∙ sym (length-set (unlinked n t) n l ∙ unlinked-long n t)) (λ i h. at i)
+            where
+              new-room : n < length (unlinked n t)
+              new-room = rw (unlinked-long n t) room
+
+              upto : (i : ℕ) → i < suc n → getD (unlinked (suc n) t′) i noLabel ≡ getD (set (unlinked n t) n l) i noLabel
+              upto = each (λ i. getD (unlinked (suc n) t′) i noLabel ≡ getD (set (unlinked n t) n l) i noLabel)
+                  (unlinked-at (suc n) t′ n (omega arith) ∙ joined-plain ∙ sym (getD-set-same (unlinked n t) n l noLabel new-room))
+                  (λ i d. unlinked-at (suc n) t′ i (omega arith) ∙ m .grown .plains i d ∙ sym (getD-set-other (unlinked n t) n i l noLabel (λ x. omega arith) ∙ unlinked-at n t i d))
+
+              at : (i : ℕ) → getD (unlinked (suc n) t′) i noLabel ≡ getD (set (unlinked n t) n l) i noLabel
+              at i = split i (suc n) (upto i) (λ h. unlinked-past (suc n) t′ i h ∙ m .later i (omega arith) ∙ sym (getD-set-other (unlinked n t) n i l noLabel (λ x. omega arith) ∙ unlinked-past n t i (omega arith)))
+
+      pub seek-end : Searched s t n l q
+      seek-end =
+          record {
+            known-is = by-test (q .known) (λ y. y ∙ sym (known-there y)) (λ y. y ∙ sym (unknown-there y));
+            tree = λ y room. is-tree y room (joins y room (k .is-lost ended y));
+            holds = λ y room. holds y room (joins y room (k .is-lost ended y));
+          }
+
+-- ---- a label is entered
+
+module _ {s : List ℕ} {t : List Label} {n : ℕ} {l : Label} {q : Search} (x : Searched s t n l q) where
+  pub enter-known : q .known ≡ true → Enters s (unlinked n t) n l (unlinked n t) (Refused 4)
+  enter-known y = enters-known s (unlinked n t) n l (sym (x .known-is) ∙ y)
+
+  module _ (y : q .known ≡ false) {t₁ : List Label} (f : t₁ ≡ set t n (q .entry)) where
+    pub enter-full : ltb n (length t) ≡ false → Enters s (unlinked n t) n l (unlinked n t₁) (Refused 5)
+    enter-full h =
+        let full : length t ≤ n = ltb-false n (length t) h in
+        enters-full s (unlinked n t) n l (sym (x .known-is) ∙ y) (unlinked n t₁)
+        (ap (unlinked n) (f ∙ set-out t n (q .entry) full) ∙ sym (set-out (unlinked n t) n l (rw (unlinked-long n t) full))) (rw (unlinked-long n t) h)
+
+    pub full-tree : ltb n (length t) ≡ false → Tree s t n → Tree s t₁ n
+    full-tree h = subst (λ (z : List Label). Tree s z n) (sym (f ∙ set-out t n (q .entry) (ltb-false n (length t) h)))
+
+    module _ {t₂ : List Label} (g : t₂ ≡ set t₁ (q .last) (q .parent)) (h : ltb n (length t) ≡ true) where
+      joined-is : t₂ ≡ joined t n q
+      joined-is = g ∙ ap (λ (z : List Label). set z (q .last) (q .parent)) f
+
+      pub enter-new : Enters s (unlinked n t) n l (unlinked (suc n) t₂) Good
+      enter-new =
+          enters-new s (unlinked n t) n l (sym (x .known-is) ∙ y) (unlinked (suc n) t₂) (ap (unlinked (suc n)) joined-is ∙ x .holds y (ltb-true n (length t) h)) (rw (unlinked-long n t) h)
+
+      pub new-tree : Tree s t₂ (suc n)
+      new-tree = subst (λ (z : List Label). Tree s z (suc n)) (sym joined-is) (x .tree y (ltb-true n (length t) h))

@@ -1,0 +1,162 @@
+-- While labels are entered, their entries are the nodes of a tree, in which a spelling is looked for. Which way a spelling takes and how
+-- it is hashed is free: what is found does not depend on it.
+use Prim.Native.Nat.{ℕ, zero, suc, _+_, _*_, _/_, _%_, _≤_, _<_}
+use mathlib.Core.Path.{_≡_}
+use mathlib.Core.Bool.{Bool, true, false}
+use mathlib.Core.List.{List, [], _∷_}
+use lib.ListN.{length, take, getD, set}
+use lib.Dec.{leb, ltb, eqb}
+use Rattle.spelling.specs.Bytes.{same}
+use Rattle.labels.specs.Contracts.{InText, spelled, noLabel, anyNamed}
+use Rattle.labels.specs.declared.label.Label.{Label}
+use Rattle.labels.specs.declared.tree.Digest.{Digest}
+use Rattle.labels.specs.declared.tree.Turns.{Turns}
+use Rattle.labels.specs.declared.tree.Search.{Search}
+
+-- ---- entries
+
+-- The label of an entry. Above its start an entry holds where it leads to, above its length a part of its spelling's hash.
+abbrev pub plain : Label → Label
+plain e = record { start = e .start % 2097152; length = e .length % 2097152; address = e .address }
+
+-- A table with labels for its first entries.
+unfoldable pub unlinked : ℕ → List Label → List Label
+unlinked zero t = t
+unlinked (suc n) [] = []
+unlinked (suc n) (e ∷ t) = plain e ∷ unlinked n t
+
+-- Where an entry leads to, on the right or on the left: to none (0), or to the entry before that number.
+unfoldable pub link : Label → Bool → ℕ
+link e true = e .start / 4398046511104
+link e false = e .start / 2097152 % 2097152
+
+unfoldable pub linked : Label → Bool → ℕ → Label
+linked e true to = record { start = e .start + 4398046511104 * to; length = e .length; address = e .address }
+linked e false to = record { start = e .start + 2097152 * to; length = e .length; address = e .address }
+
+-- ---- spellings
+
+unfoldable pub mixed : Digest → ℕ → Digest
+mixed h b =
+    record {
+      first = h .first % 4294967296 * (2654435761 + 6364137 * b) + h .second / 4294967296;
+      second = h .second % 4294967296 * (2246822519 + 8000009 * b) + h .first / 4294967296;
+    }
+
+unfoldable pub hashFrom : Digest → List ℕ → Digest
+hashFrom h [] = h
+hashFrom h (b ∷ u) = hashFrom (mixed h b) u
+
+abbrev pub noHash : Digest
+noHash = record { first = 11400714819323198485; second = 13787848793156543929 }
+
+unfoldable pub hashOf : List ℕ → Digest
+hashOf u = hashFrom noHash u
+
+-- The turns of a spelling: the bits of its hash, then those of its bytes, the lowest first. A 1 stands behind the last.
+unfoldable pub firstTurns : List ℕ → Turns
+firstTurns u =
+    record { bits = 9223372036854775808 + hashOf u .first % 9223372036854775808; rest = 9223372036854775808 + hashOf u .second % 9223372036854775808; used = 0 }
+
+unfoldable pub turned : List ℕ → Turns → Turns
+turned u t =
+    elim (ltb 1 (t .bits / 2)) [
+      | true ↦ record { bits = t .bits / 2; rest = t .rest; used = t .used }
+      | false ↦ elim (ltb 0 (t .rest)) [
+        | true ↦ record { bits = t .rest; rest = 0; used = t .used }
+        | false ↦ elim (leb (length u) (t .used)) [
+          | true ↦ record { bits = 256; rest = 0; used = t .used }
+          | false ↦ record { bits = 256 + getD u (t .used) 0; rest = 0; used = t .used + 1 }
+        ]
+      ]
+    ]
+
+unfoldable pub isRight : Turns → Bool
+isRight t = eqb (t .bits % 2) 1
+
+-- What an entry of a spelling holds for its length.
+unfoldable pub keyOf : List ℕ → ℕ
+keyOf u = length u + 2097152 * (hashOf u .second / 2097152)
+
+-- ---- searches
+
+-- The entry of a label of a spelling.
+unfoldable pub entryFor : List ℕ → Label → Label
+entryFor u l = record { start = l .start; length = keyOf u; address = l .address }
+
+-- Whether an entry is of a spelling.
+unfoldable pub hits : List ℕ → Label → ℕ → List ℕ → Bool
+hits s e key u = elim (eqb (e .length) key) [ true ↦ same (spelled s (plain e)) u | false ↦ false ]
+
+-- The search for a label behind `count` others,
+abbrev pub begun : List ℕ → ℕ → Label → Search
+begun s count l =
+    record {
+      more = ltb 0 count;
+      known = false;
+      next = 0;
+      turns = firstTurns (spelled s l);
+      count = count;
+      entry = entryFor (spelled s l) l;
+      last = count;
+      parent = entryFor (spelled s l) l;
+    }
+
+-- and behind an entry that it has come to: it has ended, or goes on.
+abbrev pub endedAt : Search → Bool → Label → Search
+endedAt q known e =
+    record { more = false; known = known; next = q .next; turns = q .turns; count = q .count; entry = q .entry; last = q .next; parent = e }
+
+abbrev pub passed : List ℕ → Search → Label → ℕ → Search
+passed s q e zero = endedAt q false (linked e (isRight (q .turns)) (q .count + 1))
+passed s q e (suc i) =
+    record {
+      more = true;
+      known = false;
+      next = i;
+      turns = turned (spelled s (plain (q .entry))) (q .turns);
+      count = q .count;
+      entry = q .entry;
+      last = q .next;
+      parent = e;
+    }
+
+unfoldable pub visited : List ℕ → Search → Label → Search
+visited s q e = elim (hits s e (q .entry .length) (spelled s (plain (q .entry)))) [ true ↦ endedAt q true e | false ↦ passed s q e (link e (isRight (q .turns))) ]
+
+-- ---- the tree
+
+-- A spelling is found among the first n entries of a table, from the entry before a number on, with the turns left.
+pub data Finds (s : List ℕ) (t : List Label) (n : ℕ) (u : List ℕ) : ℕ → Turns → Type 0 where
+  here : {i : ℕ} {z : Turns} → i < n → hits s (getD t i noLabel) (keyOf u) u ≡ true → Finds s t n u (suc i) z
+  there : {i l : ℕ} {z : Turns} → i < n → link (getD t i noLabel) (isRight z) ≡ l → Finds s t n u l (turned u z) → Finds s t n u (suc i) z
+
+-- The first n entries of a table are a tree: each is a part of the source, leads to later ones only, and is found by its spelling.
+pub record Tree (s : List ℕ) (t : List Label) (n : ℕ) : Type 0 where
+  pub in-table : n ≤ length t
+  pub in-text : (i : ℕ) → i < n → InText s (plain (getD t i noLabel))
+  pub onward : (i : ℕ) → i < n → (right : Bool) (j : ℕ) → link (getD t i noLabel) right ≡ suc j → (i < j) × (j < n)
+  pub found : (i : ℕ) → i < n → Finds s t n (spelled s (plain (getD t i noLabel))) 1 (firstTurns (spelled s (plain (getD t i noLabel))))
+
+-- A label may be entered behind n others: what an entry holds has room.
+pub record Enterable (s : List ℕ) (n : ℕ) (l : Label) : Type 0 where
+  pub in-text : InText s l
+  pub short : length s ≤ 1048576
+  pub few : n ≤ 1048576
+
+-- A search's entry stored behind n others, and its parent's.
+abbrev pub joined : List Label → ℕ → Search → List Label
+joined t n q = set (set t n (q .entry)) (q .last) (q .parent)
+
+-- A search that has ended: whether the label is known, and what a table becomes where it is not.
+pub record Searched (s : List ℕ) (t : List Label) (n : ℕ) (l : Label) (q : Search) : Type 0 where
+  pub known-is : q .known ≡ anyNamed s (take n (unlinked n t)) (spelled s l)
+  pub tree : q .known ≡ false → n < length t → Tree s (joined t n q) (suc n)
+  pub holds : q .known ≡ false → n < length t → unlinked (suc n) (joined t n q) ≡ set (unlinked n t) n l
+
+-- What a search asks of an entry that it has come to.
+pub record Visitable (s : List ℕ) (q : Search) (e : Label) : Type 0 where
+  pub label-in-text : InText s (plain (q .entry))
+  pub entry-in-text : InText s (plain e)
+  pub low : e .start / 4398046511104 ≤ 1048576
+  pub few : q .count ≤ 1048576

@@ -1,0 +1,245 @@
+// While labels are entered, their entries are the nodes of a tree. A label's start and length are below 2^21. Above its start an
+// entry holds two numbers of 21 bits, by which it leads to later entries, and above its length 43 bits of its spelling's hash.
+ghost use mathlib.Core.Path.{_≡_};
+ghost use Prim.Native.Nat.{_+_, _/_, _≤_, _<_};
+ghost use Rattle.spelling.specs.Bytes.{same};
+ghost use Rattle.labels.specs.Contracts.{InText, spelled};
+ghost use Rattle.labels.specs.Tree.{plain as plainOf, link as linkOf, linked as linkedOf, mixed, hashOf, turned, hits as hitsOf, begun, endedAt, visited, Enterable, Visitable};
+use crate::label::Label;
+
+pub(crate) struct Digest {
+    pub(crate) first: u64,
+    pub(crate) second: u64,
+}
+
+// The turns that a spelling takes: bits with a 1 behind the last, others behind these (none: 0), and how many of its bytes have
+// been used up.
+pub(crate) struct Turns {
+    pub(crate) bits: u64,
+    pub(crate) rest: u64,
+    pub(crate) used: usize,
+}
+
+// A spelling that is looked for. `entry` is that of its label, behind `count` others; `parent` is the entry that is to lead to
+// it, and stands at `last`.
+pub(crate) struct Search {
+    pub(crate) more: bool,
+    pub(crate) known: bool,
+    pub(crate) next: usize,
+    pub(crate) turns: Turns,
+    pub(crate) count: usize,
+    pub(crate) entry: Label,
+    pub(crate) last: usize,
+    pub(crate) parent: Label,
+}
+
+// The label of an entry.
+pub(crate) fn plain(entry: Label) -> Label
+    ensures { λ r. ⌜ r ≡ plainOf entry ⌝ }
+{
+    Label {
+        start: entry.start % 2097152,
+        length: entry.length % 2097152,
+        address: entry.address,
+    }
+}
+
+// Where an entry leads on a side: to none (0), or to the entry before that number.
+fn link(entry: Label, right: bool) -> usize
+    ensures { λ r. ⌜ r ≡ linkOf entry right ⌝ }
+{
+    if right {
+        return entry.start / 4398046511104;
+    }
+    entry.start / 2097152 % 2097152
+}
+
+// An entry that leads to another on a side where it led to none.
+fn linked(entry: Label, right: bool, to: usize) -> Label
+    requires { ⌜ entry .start / 4398046511104 ≤ 1048576 ⌝ ∗ ⌜ to < 2097152 ⌝ }
+    ensures { λ r. ⌜ r ≡ linkedOf entry right to ⌝ }
+{
+    let start = entry.start;
+    let length = entry.length;
+    let address = entry.address;
+    if right {
+        return Label {
+            start: start + 4398046511104 * to,
+            length,
+            address,
+        };
+    }
+    Label {
+        start: start + 2097152 * to,
+        length,
+        address,
+    }
+}
+
+// A hash with a byte more. Its two numbers are mixed with one another.
+fn mix(hash: Digest, byte: u8) -> Digest
+    ensures { λ r. ⌜ r ≡ mixed hash byte ⌝ }
+{
+    let wide = byte as u64;
+    let first = hash.first;
+    let second = hash.second;
+    Digest {
+        first: first % 4294967296 * (2654435761 + 6364137 * wide) + second / 4294967296,
+        second: second % 4294967296 * (2246822519 + 8000009 * wide) + first / 4294967296,
+    }
+}
+
+fn hash(source: &[u8], label: Label) -> Digest
+    requires { ⌜ InText (now source) label ⌝ }
+    ensures { λ r. ⌜ r ≡ hashOf (spelled (now (source .entry)) label) ⌝ }
+{
+    let mut at = label.start;
+    let end = at + label.length;
+    let mut hash = Digest {
+        first: 11400714819323198485,
+        second: 13787848793156543929,
+    };
+    while at < end {
+        hash = mix(hash, source[at]);
+        at += 1;
+    }
+    hash
+}
+
+// The bits of a byte, with a 1 behind them.
+fn bits_of(byte: u8) -> u64
+    ensures { λ r. ⌜ r ≡ 256 + byte ⌝ }
+{
+    256 + (byte as u64)
+}
+
+// The turns behind the next.
+fn turn(source: &[u8], label: Label, turns: Turns) -> Turns
+    requires { ⌜ InText (now source) label ⌝ }
+    ensures { λ r. ⌜ r ≡ turned (spelled (now (source .entry)) label) turns ⌝ }
+{
+    let bits = turns.bits / 2;
+    let rest = turns.rest;
+    let used = turns.used;
+    if 1 < bits {
+        return Turns { bits, rest, used };
+    }
+    if 0 < rest {
+        return Turns {
+            bits: rest,
+            rest: 0,
+            used,
+        };
+    }
+    if label.length <= used {
+        return Turns {
+            bits: 256,
+            rest: 0,
+            used,
+        };
+    }
+    let at = label.start + used;
+    Turns {
+        bits: bits_of(source[at]),
+        rest: 0,
+        used: used + 1,
+    }
+}
+
+// Whether two labels are spelled alike.
+fn same_spelling(source: &[u8], a: Label, b: Label) -> bool
+    requires { ⌜ InText (now source) a ⌝ ∗ ⌜ InText (now source) b ⌝ }
+    ensures { λ r. ⌜ r ≡ same (spelled (now (source .entry)) a) (spelled (now (source .entry)) b) ⌝ }
+{
+    let a_start = a.start;
+    let a_end = a_start + a.length;
+    let b_start = b.start;
+    let b_end = b_start + b.length;
+    spelling::bytes::same(&source[a_start..a_end], &source[b_start..b_end])
+}
+
+// Whether an entry is of a label's spelling, given what the label's own entry holds for its length.
+fn hits(source: &[u8], at: Label, key: usize, label: Label) -> bool
+    requires { ⌜ InText (now source) (plainOf at) ⌝ ∗ ⌜ InText (now source) label ⌝ }
+    ensures { λ r. ⌜ r ≡ hitsOf (now (source .entry)) at key (spelled (now (source .entry)) label) ⌝ }
+{
+    if at.length != key {
+        return false;
+    }
+    same_spelling(source, plain(at), label)
+}
+
+// The search for a label that is to be entered behind `count` others.
+pub(crate) fn begin(source: &[u8], count: usize, label: Label) -> Search
+    requires { ⌜ Enterable (now source) count label ⌝ }
+    ensures { λ r. ⌜ r ≡ begun (now (source .entry)) count label ⌝ }
+{
+    let hash = hash(source, label);
+    let second = hash.second;
+    let entry = Label {
+        start: label.start,
+        length: label.length + 2097152 * (second as usize / 2097152),
+        address: label.address,
+    };
+    Search {
+        more: 0 < count,
+        known: false,
+        next: 0,
+        turns: Turns {
+            bits: 9223372036854775808 + hash.first % 9223372036854775808,
+            rest: 9223372036854775808 + second % 9223372036854775808,
+            used: 0,
+        },
+        count,
+        entry,
+        last: count,
+        parent: entry,
+    }
+}
+
+// A search that has ended at an entry.
+fn ended(search: Search, known: bool, parent: Label) -> Search
+    ensures { λ r. ⌜ r ≡ endedAt search known parent ⌝ }
+{
+    let turns = search.turns;
+    let entry = search.entry;
+    Search {
+        more: false,
+        known,
+        next: search.next,
+        turns,
+        count: search.count,
+        entry,
+        last: search.next,
+        parent,
+    }
+}
+
+// The search behind an entry.
+pub(crate) fn visit(source: &[u8], search: Search, at: Label) -> Search
+    requires { ⌜ Visitable (now source) search at ⌝ }
+    ensures { λ r. ⌜ r ≡ visited (now (source .entry)) search at ⌝ }
+{
+    let entry = search.entry;
+    let turns = search.turns;
+    let count = search.count;
+    let label = plain(entry);
+    if hits(source, at, entry.length, label) {
+        return ended(search, true, at);
+    }
+    let right = turns.bits % 2 == 1;
+    let to = link(at, right);
+    if to == 0 {
+        return ended(search, false, linked(at, right, count + 1));
+    }
+    Search {
+        more: true,
+        known: false,
+        next: to - 1,
+        turns: turn(source, label, turns),
+        count,
+        entry,
+        last: search.next,
+        parent: at,
+    }
+}
