@@ -1,0 +1,9 @@
+//! The proved library beside the Rust reference, in bulk: `compare`, `bench` and `fuzz` are made of
+//! these parts.
+
+pub mod desk;
+pub mod interface;
+pub mod large;
+pub mod lengths;
+pub mod lent;
+pub mod tally;
