@@ -83,7 +83,7 @@ fn cases() -> Vec<Case> {
 }
 
 /// An image of these words with the usual header.
-fn image_of(words: &[u32]) -> Vec<u8> {
+pub fn image_of(words: &[u32]) -> Vec<u8> {
     let mut image = vec![0; 32];
     set(&mut image, 0, 0x5249_4B5A);
     set(&mut image, 4, 0x0003_0004);

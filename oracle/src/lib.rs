@@ -14,6 +14,7 @@ mod vectors;
 mod words;
 
 pub use answer::{answer, Answer, Label, Settings};
+pub use images::image_of;
 pub use limits::{answer_within, Asked, MOST_SOURCE_BYTES, MOST_WORDS};
 pub use tokens::token_list;
 pub use vectors::vector_list;

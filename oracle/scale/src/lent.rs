@@ -125,3 +125,37 @@ fn fenced(bytes: usize) -> *mut u8 {
         inner
     }
 }
+
+#[cfg(test)]
+mod tests {
+    use super::*;
+
+    const PLACES: [Place; 3] = [Place::Front, Place::Middle, Place::Back];
+
+    #[test]
+    fn both_ends_meet_their_pages() {
+        let lent = Lent::new(1, |place| place as u64);
+        let front = lent.range(Place::Front, 3);
+        let back = lent.range(Place::Back, 3);
+        assert_eq!((front.start, back.end), (0, lent.row.len()));
+        assert_eq!(lent.row.as_ptr() as usize % PAGE, 0);
+        assert_eq!(lent.row.as_ptr_range().end as usize % PAGE, 0);
+    }
+
+    #[test]
+    fn every_entry_about_a_part_is_looked_at() {
+        let mut lent = Lent::new(1, |place| place as u8);
+        for place in PLACES {
+            let part = lent.write(place, &[7; 20]);
+            assert!(lent.holds(&part, &[7; 20]));
+            for at in lent.about(&part) {
+                let kept = lent.row[at];
+                lent.row[at] = !kept;
+                assert!(!lent.holds(&part, &[7; 20]), "{place:?}, {at}");
+                lent.row[at] = kept;
+            }
+            lent.restore(&part);
+            assert!(lent.holds(&part, &[]) && lent.is_restored());
+        }
+    }
+}

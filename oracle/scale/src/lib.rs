@@ -2,6 +2,8 @@
 //! these parts.
 
 pub mod desk;
+pub mod differences;
+pub mod hostile;
 pub mod interface;
 pub mod large;
 pub mod lengths;

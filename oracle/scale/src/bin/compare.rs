@@ -12,12 +12,10 @@ use std::time::Instant;
 use oracle::gen::{self, Rng, KINDS};
 use oracle::{Answer, Asked, MOST_SOURCE_BYTES, MOST_WORDS};
 use scale::desk::{Desk, Difference};
+use scale::differences::Differences;
 use scale::interface::Crate;
 use scale::large;
 use scale::lengths::{about, more};
-
-/// This many differences are shown.
-const SHOWN: u64 = 10;
 
 /// Sources of one kind.
 struct Group {
@@ -29,7 +27,7 @@ struct Group {
 struct Run {
     desk: Desk<Crate>,
     groups: Vec<Group>,
-    differences: u64,
+    differences: Differences,
 }
 
 fn main() -> ExitCode {
@@ -46,7 +44,7 @@ fn main() -> ExitCode {
     let mut run = Run {
         desk: Desk::new(Crate),
         groups: Vec::new(),
-        differences: 0,
+        differences: Differences::default(),
     };
     run.every_kind(first..first + seeds);
     run.every_short_line();
@@ -139,14 +137,7 @@ impl Run {
         group.sources += 1;
         match accepted {
             Ok(accepted) => group.accepted += u64::from(accepted),
-            Err(difference) => {
-                self.differences += 1;
-                if self.differences <= SHOWN {
-                    let mut shown = String::new();
-                    oracle::list::escape(&mut shown, &source[..source.len().min(2000)]);
-                    println!("{}, seed {seed}: {difference}\n  {shown}", group.name);
-                }
-            }
+            Err(difference) => self.differences.add(&group.name, seed, source, &difference),
         }
     }
 
@@ -174,8 +165,11 @@ impl Run {
             println!("memory far from what was lent has changed");
         }
         let sources: u64 = self.groups.iter().map(|group| group.sources).sum();
-        println!("{sources} sources, {} differences", self.differences);
-        self.differences == 0 && restored && missed.is_empty()
+        println!(
+            "{sources} sources, {} differences",
+            self.differences.count()
+        );
+        self.differences.count() == 0 && restored && missed.is_empty()
     }
 }
 
