@@ -1,7 +1,7 @@
 //! Asks the library through one of its interfaces, and compares all that a call leaves behind with
 //! what the oracle says.
 
-use oracle::model::{self, HEADER, MAGIC, VERSION};
+use oracle::model::{self, NotListed, HEADER, MAGIC, VERSION};
 use oracle::{Answer, Asked, MOST_SOURCE_BYTES, MOST_WORDS};
 use zkasm::Label;
 
@@ -68,8 +68,7 @@ impl<I: Interface> Desk<I> {
         self.input.restore(&input);
         self.table.restore(&entries);
         self.image.restore(&bytes);
-        same("assembling", told, assembled(&expected), &parts)?;
-        self.tally.add(Call::Assembling, told.0);
+        self.settle(Call::Assembling, told, assembled(&expected), &parts)?;
         Ok(expected)
     }
 
@@ -79,9 +78,7 @@ impl<I: Interface> Desk<I> {
         let told = self.interface.open(self.input.part(&input));
         let parts = [("image", self.input.holds(&input, image))];
         self.input.restore(&input);
-        same("opening", told, opened(image), &parts)?;
-        self.tally.add(Call::Opening, told.0);
-        Ok(())
+        self.settle(Call::Opening, told, opened(image), &parts)
     }
 
     /// Listing, with a text buffer of this length. Answers the text, if it is listed.
@@ -99,17 +96,7 @@ impl<I: Interface> Desk<I> {
         ];
         self.input.restore(&input);
         self.text.restore(&bytes);
-        let numbers = match &expected {
-            Ok(text) => (0, [text.len(), 0, 0]),
-            Err(refusal) => (refusal.number, [0, refusal.index, refusal.needed]),
-        };
-        same(
-            "listing",
-            told,
-            (numbers.0, numbers.1.map(|number| number as u64)),
-            &parts,
-        )?;
-        self.tally.add(Call::Listing, told.0);
+        self.settle(Call::Listing, told, listed(&expected), &parts)?;
         Ok(expected.ok())
     }
 
@@ -135,6 +122,28 @@ impl<I: Interface> Desk<I> {
         }
     }
 
+    /// Compares the numbers, and names the first part of memory that is not as it should be.
+    fn settle<const N: usize>(
+        &mut self,
+        call: Call,
+        told: Told<N>,
+        expected: Told<N>,
+        parts: &[(&str, bool)],
+    ) -> Result<(), Difference> {
+        if told != expected {
+            return Err(format!(
+                "{call:?}: the library tells {told:?}, the oracle {expected:?}"
+            ));
+        }
+        if let Some((part, _)) = parts.iter().find(|(_, same)| !same) {
+            return Err(format!(
+                "{call:?}, {told:?}: the {part}, or what stands about it, differs"
+            ));
+        }
+        self.tally.add(call, told.0);
+        Ok(())
+    }
+
     /// Whether all memory lent is as it was, far from the parts lent too.
     pub fn is_restored(&self) -> bool {
         let bytes = [&self.input, &self.image, &self.text];
@@ -156,24 +165,11 @@ fn label_of(place: usize) -> Label {
     }
 }
 
-/// Compares the numbers, and names the first part of memory that is not as it should be.
-fn same<const N: usize>(
-    call: &str,
-    told: Told<N>,
-    expected: Told<N>,
-    parts: &[(&str, bool)],
-) -> Result<(), Difference> {
-    if told != expected {
-        return Err(format!(
-            "{call}: the library tells {told:?}, the oracle {expected:?}"
-        ));
-    }
-    match parts.iter().find(|(_, same)| !same) {
-        Some((part, _)) => Err(format!(
-            "{call}, {told:?}: the {part} or what stands about it differs"
-        )),
-        None => Ok(()),
-    }
+/// The entries and the bytes that suffice for a source.
+pub fn enough(asked: &Asked) -> (usize, usize) {
+    let answer = asked.unlimited();
+    // A refused source gets room for an image too.
+    (answer.labels().len(), image_of(answer).len().max(HEADER))
 }
 
 fn image_of(answer: &Answer) -> &[u8] {
@@ -238,4 +234,13 @@ fn opened(image: &[u8]) -> Told<12> {
         HEADER as u64 + u64::from(opened.code_size),
     ];
     (0, answer)
+}
+
+/// What the library should tell of a listing.
+fn listed(listed: &Result<String, NotListed>) -> Told<3> {
+    let (number, numbers) = match listed {
+        Ok(text) => (0, [text.len(), 0, 0]),
+        Err(refusal) => (refusal.number, [0, refusal.index, refusal.needed]),
+    };
+    (number, numbers.map(|number| number as u64))
 }

@@ -16,7 +16,7 @@ pub trait Interface {
     fn list(&mut self, image: &[u8], text: &mut [u8]) -> Told<3>;
 }
 
-/// The crate of `bindings/rust`. It keeps the fields that say nothing to itself; they are told as 0.
+/// The crate of `bindings/rust`. Fields that say nothing it keeps to itself; they are told as 0.
 pub struct Crate;
 
 impl Interface for Crate {
@@ -136,8 +136,8 @@ impl Exported {
     }
 }
 
-// SAFETY: in each call the pointers and lengths are those of slices, which Rust keeps apart, and the
-// answer has as many fields as the header says.
+// SAFETY, of each call: the pointers and lengths are those of slices, which Rust keeps apart, and
+// the answer has as many fields as the header says.
 impl Interface for Exported {
     fn assemble(&mut self, source: &[u8], table: &mut [Label], image: &mut [u8]) -> Told<8> {
         let (entries, bytes) = (table.as_mut_ptr(), image.as_mut_ptr());

@@ -106,7 +106,8 @@ extern "C" {
     fn mprotect(at: *mut c_void, length: usize, rights: c_int) -> c_int;
 }
 
-/// New memory of this many bytes, a multiple of the page's, between two pages that nothing may touch.
+/// New memory of this many bytes, a multiple of the page's, between two pages that nothing may
+/// touch.
 fn fenced(bytes: usize) -> *mut u8 {
     // SAFETY: a new mapping is asked for, and the changed pages lie within it.
     unsafe {

@@ -1,6 +1,7 @@
 //! The proved library beside the Rust reference, in bulk: `compare`, `bench` and `fuzz` are made of
 //! these parts.
 
+pub mod arguments;
 pub mod desk;
 pub mod differences;
 pub mod hostile;

@@ -33,19 +33,34 @@ fn main() {
         image: vec![0; MOST_IMAGE],
         text: vec![0; MOST_TEXT],
     };
-    println!("| Source | Length | Library, ns a byte | Rust, ns a byte | Library / Rust | Library, against 16 KB |");
-    println!("|---|---:|---:|---:|---:|---:|");
+    head(&[
+        "Source",
+        "Length",
+        "Library, ns a byte",
+        "Rust, ns a byte",
+        "Library / Rust",
+    ]);
     for kind in large::KINDS {
         assembling(&mut buffers, &kind);
     }
     println!();
-    println!("| Words listed | Length | Library, ns a word | Text, MB a second | Library, against 16 KB |");
-    println!("|---|---:|---:|---:|---:|");
+    head(&[
+        "Words listed",
+        "Length",
+        "Library, ns a word",
+        "Text, MB a second",
+    ]);
     listing(&mut buffers, "ordinary instructions", large::instruction);
     listing(&mut buffers, "all ecall", |_| "ecall".to_string());
     listing(&mut buffers, "longest lines", |_| {
         "bltu r15, r15, -65536".to_string()
     });
+}
+
+/// A table's head. The last column is the library's time a byte, or a word, against that at 16 KB.
+fn head(columns: &[&str]) {
+    println!("| {} | Against 16 KB |", columns.join(" | "));
+    println!("|---|{}", "---:|".repeat(columns.len()));
 }
 
 /// The best time of a call for all inputs, in nanoseconds: of at least three runs, and of as many

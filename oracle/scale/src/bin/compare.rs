@@ -11,7 +11,8 @@ use std::time::Instant;
 
 use oracle::gen::{self, Rng, KINDS};
 use oracle::{Answer, Asked, MOST_SOURCE_BYTES, MOST_WORDS};
-use scale::desk::{Desk, Difference};
+use scale::arguments::two_numbers;
+use scale::desk::{enough, Desk, Difference};
 use scale::differences::Differences;
 use scale::interface::Crate;
 use scale::large;
@@ -31,14 +32,9 @@ struct Run {
 }
 
 fn main() -> ExitCode {
-    let numbers: Result<Vec<u64>, _> = std::env::args().skip(1).map(|text| text.parse()).collect();
-    let (seeds, first) = match numbers.as_deref() {
-        Ok([seeds]) => (*seeds, 0),
-        Ok([seeds, first]) => (*seeds, *first),
-        _ => {
-            eprintln!("compare SEEDS [FIRST]");
-            return ExitCode::FAILURE;
-        }
+    let Some((seeds, first)) = two_numbers() else {
+        eprintln!("compare SEEDS [FIRST]");
+        return ExitCode::FAILURE;
     };
     let begin = Instant::now();
     let mut run = Run {
@@ -176,11 +172,7 @@ impl Run {
 /// Whether the source is accepted by both, with buffers that suffice; or what differs.
 fn compare(desk: &mut Desk<Crate>, source: &[u8], rng: &mut Rng) -> Result<bool, Difference> {
     let asked = Asked::new(source);
-    let labels = asked.unlimited().labels().len();
-    let length = match asked.unlimited() {
-        Answer::Accepted { image, .. } => image.len(),
-        Answer::Refused { .. } => 40,
-    };
+    let (labels, length) = enough(&asked);
     let answer = desk.assemble(&asked, labels + more(rng), length + more(rng))?;
     if rng.percent(25) {
         desk.assemble(&asked, about(rng, labels), about(rng, length))?;

@@ -13,7 +13,8 @@ use std::time::{Duration, Instant};
 
 use oracle::gen::Rng;
 use oracle::{Answer, Asked};
-use scale::desk::{Desk, Difference};
+use scale::arguments::two_numbers;
+use scale::desk::{enough, Desk, Difference};
 use scale::differences::Differences;
 use scale::hostile;
 use scale::interface::Exported;
@@ -27,42 +28,34 @@ const SELDOM: u64 = 1 << 16;
 static CASE: AtomicU64 = AtomicU64::new(0);
 
 fn main() -> ExitCode {
-    let numbers: Result<Vec<u64>, _> = std::env::args().skip(1).map(|text| text.parse()).collect();
-    let (seconds, first) = match numbers.as_deref() {
-        Ok([seconds]) => (*seconds, 0),
-        Ok([seconds, seed]) => (*seconds, *seed),
-        _ => {
-            eprintln!("fuzz SECONDS [SEED]");
-            return ExitCode::FAILURE;
-        }
+    let Some((seconds, first)) = two_numbers() else {
+        eprintln!("fuzz SECONDS [SEED]");
+        return ExitCode::FAILURE;
     };
     name_the_case();
     let mut desk = Desk::new(Exported::default());
     let mut differences = Differences::default();
     let begin = Instant::now();
-    let mut seed = first;
-    loop {
+    for seed in first.. {
         CASE.store(seed, Relaxed);
         case(&mut desk, seed, &mut differences);
-        seed += 1;
         let over = begin.elapsed() >= Duration::from_secs(seconds);
-        if (over || seed.is_multiple_of(SELDOM)) && !desk.is_restored() {
-            differences.add("memory far from what was lent", seed, &[], "it has changed");
+        if (over || seed % SELDOM == 0) && !desk.is_restored() {
+            differences.add("all memory", seed, &[], "it changed far from what was lent");
             break;
         }
         if over {
             break;
         }
     }
-    let calls = desk.tally.calls();
     println!("{}", desk.tally);
     println!("refusals not met: {}", desk.tally.missed().join(", "));
+    let (calls, last) = (desk.tally.calls(), CASE.load(Relaxed));
     println!(
-        "seeds {first} to {}: {calls} calls in {seconds} s, {} a second, {} differences",
-        seed - 1,
-        calls / seconds.max(1),
-        differences.count()
+        "seeds {first} to {last}: {calls} calls in {seconds} s, {} a second",
+        calls / seconds.max(1)
     );
+    println!("{} differences", differences.count());
     match differences.count() {
         0 => ExitCode::SUCCESS,
         _ => ExitCode::FAILURE,
@@ -70,23 +63,23 @@ fn main() -> ExitCode {
 }
 
 fn case(desk: &mut Desk<Exported>, seed: u64, differences: &mut Differences) {
+    const PLACES: [Place; 5] = [
+        Place::Front,
+        Place::Front,
+        Place::Back,
+        Place::Back,
+        Place::Middle,
+    ];
     let mut rng = Rng::new(seed);
-    desk.places = [(); 3].map(|()| {
-        rng.pick(&[
-            Place::Front,
-            Place::Back,
-            Place::Front,
-            Place::Back,
-            Place::Middle,
-        ])
-    });
-    let (kind, input) = match rng.percent(60) {
-        true => ("source", hostile::source(&mut rng)),
-        false => ("image", hostile::image(&mut rng)),
-    };
-    let compared = match kind {
-        "source" => assemble(desk, &input, &mut rng),
-        _ => desk.look_into(&input, |length| any_length(&mut rng, length)),
+    desk.places = [(); 3].map(|()| rng.pick(&PLACES));
+    let (kind, input, compared) = if rng.percent(60) {
+        let source = hostile::source(&mut rng);
+        let compared = assemble(desk, &source, &mut rng);
+        ("source", source, compared)
+    } else {
+        let image = hostile::image(&mut rng);
+        let compared = desk.look_into(&image, |length| any_length(&mut rng, length));
+        ("image", image, compared)
     };
     if let Err(difference) = compared {
         differences.add(kind, seed, &input, &difference);
@@ -95,11 +88,7 @@ fn case(desk: &mut Desk<Exported>, seed: u64, differences: &mut Differences) {
 
 fn assemble(desk: &mut Desk<Exported>, source: &[u8], rng: &mut Rng) -> Result<(), Difference> {
     let asked = Asked::new(source);
-    let labels = asked.unlimited().labels().len();
-    let length = match asked.unlimited() {
-        Answer::Accepted { image, .. } => image.len(),
-        Answer::Refused { .. } => 40,
-    };
+    let (labels, length) = enough(&asked);
     match desk.assemble(&asked, any_length(rng, labels), any_length(rng, length))? {
         Answer::Accepted { image, .. } => desk.look_into(&image, |length| any_length(rng, length)),
         Answer::Refused { .. } => Ok(()),
