@@ -88,43 +88,33 @@ fn piece(rng: &mut Rng) -> Vec<u8> {
         3 => rng.pick(&ODD_NUMBERS),
         4 => rng.pick(&REGISTERS),
         5 => rng.pick(&ROWS).mnemonic,
-        6 => rng.pick(&["\n", "\r\n", " ", "\t", "\x0b", "é", "\0"]),
-        _ => rng.pick(&[
-            ".config limb_bits ",
-            "\nl:\n",
-            "l: ",
-            ", ",
-            "(r1)",
-            "\necall\n",
-        ]),
+        _ => rng.pick(&PIECES),
     };
     piece.into()
 }
 
+#[rustfmt::skip]
+const PIECES: [&str; 13] = [
+    "\n", "\r\n", " ", "\t", "\x0b", "é", "\0", ".config limb_bits ", "\nl:\n", "l: ", ", ", "(r1)",
+    "\necall\n",
+];
+
 /// A header's field or a word.
 fn field(rng: &mut Rng) -> Vec<u8> {
-    let any = rng.bits() as u32;
-    let length = 4 * rng.below(20) as u32;
-    let fields = [
-        MAGIC,
-        VERSION,
-        0x1000,
-        1 << 20,
-        0,
-        1,
-        4,
-        length,
-        0x50,
-        0x7F,
-        0xD0,
-        i32::MAX as u32,
-        1 << 31,
-        u32::MAX - 3,
-        u32::MAX,
-        any,
-    ];
-    rng.pick(&fields).to_le_bytes().to_vec()
+    let field = match rng.below(8) {
+        0 => rng.bits() as u32,
+        1 => 4 * rng.below(20) as u32,
+        _ => rng.pick(&FIELDS),
+    };
+    field.to_le_bytes().to_vec()
 }
+
+/// What fields and words should be, or should not.
+#[rustfmt::skip]
+const FIELDS: [u32; 14] = [
+    MAGIC, VERSION, 0x1000, 1 << 20, 0, 1, 4, 0x50, 0x7F, 0xD0, 0x7FFF_FFFF, 0x8000_0000,
+    0xFFFF_FFFC, 0xFFFF_FFFF,
+];
 
 /// One change to a source or an image, for which `piece` is of use.
 fn change(rng: &mut Rng, input: &mut Vec<u8>, piece: fn(&mut Rng) -> Vec<u8>) {

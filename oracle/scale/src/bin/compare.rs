@@ -44,6 +44,7 @@ fn main() -> ExitCode {
     };
     run.every_kind(first..first + seeds);
     run.every_short_line();
+    run.every_short_source();
     run.bytes_above_127(first..first + seeds.div_ceil(10));
     run.large_sources(first..first + seeds.div_ceil(1000));
     run.limits();
@@ -78,6 +79,17 @@ impl Run {
             self.begin(format!("every line of {tokens} tokens of the alphabet"));
             for index in 0..gen::short_lines(tokens) {
                 self.source(&gen::short_line(tokens, index), index);
+            }
+        }
+    }
+
+    fn every_short_source(&mut self) {
+        for length in 0..=3 {
+            self.begin(format!("every ASCII source of {length} bytes"));
+            for index in 0..1_u64 << (7 * length) {
+                let byte = |at| (index >> (7 * at)) as u8 & 127;
+                let source: Vec<u8> = (0..length).map(byte).collect();
+                self.source(&source, index);
             }
         }
     }

@@ -51,10 +51,9 @@ fn main() -> ExitCode {
     println!("{}", desk.tally);
     println!("refusals not met: {}", desk.tally.missed().join(", "));
     let (calls, last) = (desk.tally.calls(), CASE.load(Relaxed));
-    println!(
-        "seeds {first} to {last}: {calls} calls in {seconds} s, {} a second",
-        calls / seconds.max(1)
-    );
+    let seconds = begin.elapsed().as_secs_f64();
+    let speed = calls as f64 / seconds;
+    println!("seeds {first} to {last}: {calls} calls in {seconds:.0} s, {speed:.0} a second");
     println!("{} differences", differences.count());
     match differences.count() {
         0 => ExitCode::SUCCESS,
@@ -63,15 +62,9 @@ fn main() -> ExitCode {
 }
 
 fn case(desk: &mut Desk<Exported>, seed: u64, differences: &mut Differences) {
-    const PLACES: [Place; 5] = [
-        Place::Front,
-        Place::Front,
-        Place::Back,
-        Place::Back,
-        Place::Middle,
-    ];
+    use Place::{Back, Front, Middle};
     let mut rng = Rng::new(seed);
-    desk.places = [(); 3].map(|()| rng.pick(&PLACES));
+    desk.places = [(); 3].map(|()| rng.pick(&[Front, Front, Back, Back, Middle]));
     let (kind, input, compared) = if rng.percent(60) {
         let source = hostile::source(&mut rng);
         let compared = assemble(desk, &source, &mut rng);
