@@ -83,7 +83,7 @@ fn cases() -> Vec<Case> {
 }
 
 /// An image of these words with the usual header.
-fn image_of(words: &[u32]) -> Vec<u8> {
+pub fn image_of(words: &[u32]) -> Vec<u8> {
     let mut image = vec![0; 32];
     set(&mut image, 0, 0x5249_4B5A);
     set(&mut image, 4, 0x0003_0004);
@@ -384,22 +384,5 @@ fn long_images() -> Vec<Case> {
 
 /// The image of a made program with a few bits or bytes changed.
 fn damaged_image(seed: u64) -> Vec<u8> {
-    let mut image = program_image(seed);
-    let mut rng = Rng::new(seed);
-    // Mostly in the words: a changed header is soon refused.
-    let from = if rng.percent(75) && image.len() > 32 {
-        32
-    } else {
-        8
-    };
-    for _ in 0..1 + rng.below(2) {
-        let at = from + rng.below(image.len() - from);
-        match rng.below(10) {
-            0 => image[at] = 0xFF,
-            1 => image[at] = rng.below(256) as u8,
-            2 => image.push(0),
-            _ => image[at] ^= 1 << rng.below(8),
-        }
-    }
-    image
+    gen::damaged_image(&mut Rng::new(seed), &program_image(seed))
 }

@@ -14,7 +14,8 @@ mod vectors;
 mod words;
 
 pub use answer::{answer, Answer, Label, Settings};
-pub use limits::answer_within;
+pub use images::image_of;
+pub use limits::{answer_within, Asked, MOST_SOURCE_BYTES, MOST_WORDS};
 pub use tokens::token_list;
 pub use vectors::vector_list;
 pub use words::word_list;

@@ -2,13 +2,13 @@
 //! what document 01 asks, so this model answers in their place.
 
 use crate::isa::{Form, Row, ROWS};
+use crate::limits::MOST_WORDS;
 
-const HEADER: usize = 32;
-const MAGIC: u32 = 0x5249_4B5A;
-const VERSION: u32 = 0x0003_0004;
+pub const HEADER: usize = 32;
+pub const MAGIC: u32 = 0x5249_4B5A;
+pub const VERSION: u32 = 0x0003_0004;
 const ENTRY: u32 = 0x1000;
 const STACK: u32 = 1 << 20;
-const MOST_WORDS: usize = 32_768;
 
 /// The header's fields but magic and version.
 #[derive(Clone, Debug, PartialEq, Eq)]

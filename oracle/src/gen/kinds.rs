@@ -314,3 +314,24 @@ pub fn damaged(rng: &mut Rng) -> Vec<u8> {
     }
     out
 }
+
+/// An image with a few bits or bytes changed.
+pub fn damaged_image(rng: &mut Rng, image: &[u8]) -> Vec<u8> {
+    let mut image = image.to_vec();
+    // Mostly in the words: a changed header is soon refused.
+    let from = if rng.percent(75) && image.len() > 32 {
+        32
+    } else {
+        8
+    };
+    for _ in 0..1 + rng.below(2) {
+        let at = from + rng.below(image.len() - from);
+        match rng.below(10) {
+            0 => image[at] = 0xFF,
+            1 => image[at] = rng.below(256) as u8,
+            2 => image.push(0),
+            _ => image[at] ^= 1 << rng.below(8),
+        }
+    }
+    image
+}

@@ -5,6 +5,7 @@ mod numbers;
 mod rng;
 mod spelling;
 
+pub use kinds::damaged_image;
 pub use numbers::{GOOD_NUMBERS, ODD_NUMBERS};
 pub use rng::Rng;
 
