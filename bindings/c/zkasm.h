@@ -38,7 +38,7 @@ enum zkasm_refusal {
     ZKASM_LIMB_BITS_ODD = 11,     /* limb_bits is odd; also of an image */
     ZKASM_DATA_LIMBS_RANGE = 12,  /* data_limbs is outside 1..4; also of an image */
     ZKASM_ADDR_LIMBS_RANGE = 13,  /* addr_limbs is outside 1..2; also of an image */
-    ZKASM_MNEMONIC_EXPECTED = 14, /* the line does not begin with a mnemonic */
+    ZKASM_MNEMONIC_EXPECTED = 14, /* what should be the mnemonic is no identifier */
     ZKASM_UNKNOWN_MNEMONIC = 15,  /* there is no such mnemonic */
     ZKASM_OPERAND_COUNT = 16,     /* wrong count of operand tokens */
     ZKASM_REGISTER_EXPECTED = 17, /* an operand is not a register */
@@ -84,7 +84,7 @@ typedef struct zkasm_assembled {
  *   source, source_length   the text, any bytes; it need not end in a newline or in 0
  *   table, table_length     room for labels: one entry each, in the order of the source. Entries past answer->labels keep their values
  *   image, image_length     room for the image. Accepted: its first 32 + 4 * words bytes are written, the header and then a word each,
- *                           lowest byte first; later bytes keep their values. Refused: no byte is written
+ *                           lowest byte first; later bytes keep their values. Refused: the bytes are as before
  *   answer                  filled in every case
  * 131,104 bytes hold every image. */
 uint32_t zkasm_assemble(const uint8_t *source, size_t source_length, zkasm_label *table, size_t table_length, uint8_t *image,
@@ -120,7 +120,7 @@ typedef struct zkasm_listed {
 /* Writes the text of an image: three .config lines, then a line for each word. Assembled again, it gives the same image.
  *   image, image_length   the image, whole
  *   text, text_length     room for the text. Accepted: its first `length` bytes are written, with no 0 behind; later bytes keep their
- *                         values. Refused: no byte is written
+ *                         values. Refused: the bytes are as before
  *   answer                filled in every case
  * 720,962 bytes hold every text. */
 uint32_t zkasm_list(const uint8_t *image, size_t image_length, uint8_t *text, size_t text_length, zkasm_listed *answer);

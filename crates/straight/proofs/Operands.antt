@@ -21,7 +21,7 @@ use Rattle.text.specs.Places.{leftAt, endAt}
 use Rattle.instruction.specs.Table.{Place, reg, num, comma-place, opening-place, closing-place, Form, R, I, Shift, Load, Store, Branch, Jump, System, places}
 use Rattle.instruction.specs.Operands.{Operands, noOperands, withRegister, withNumber, readRegister, readNumber, markByte, readPlace, readOperands}
 use Rattle.instruction.specs.Contracts.{formAt, registersFor, numberFor}
-use Rattle.straight.specs.Contracts.{Reads, IsMark, Ahead, none as no-more, register-comma, number-opening, register-closing, register-last, number-last, isNumber, markOf, Behind, TailIs, operandsOf}
+use Rattle.straight.specs.Contracts.{Reads, IsMark, Ahead, no-more, register-comma, number-opening, register-closing, register-last, number-last, isNumber, markOf, Behind, TailIs, operandsOf}
 
 -- ---- tokens that have been read, before those to come
 

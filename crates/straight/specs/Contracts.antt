@@ -33,8 +33,6 @@ use Rattle.straight.specs.declared.line.Tail.{Tail}
 use Rattle.straight.specs.declared.line.Tail.the-variants.{Are, Other as NoTail}
 use Rattle.straight.specs.declared.line.Straight.{Straight}
 use Rattle.straight.specs.declared.line.Straight.the-variants.{Instruction, Empty, Other as NotStraight}
-use Rattle.straight.specs.declared.line.Tail.{Tail}
-use Rattle.straight.specs.declared.line.Straight.{Straight}
 
 -- ---- a token at a place
 
@@ -93,7 +91,7 @@ EndIs s at NoEnd = Unit {0}
 -- The operands of a form from one on, a digit each, the next lowest: 1 a register and a comma, 2 a number and an opening, 3 a register and
 -- a closing, 4 a register, 5 a number.
 pub data Ahead : List Place → ℕ → Type 0 where
-  none : {left : ℕ} → left ≡ 0 → Ahead [] left
+  no-more : {left : ℕ} → left ≡ 0 → Ahead [] left
   register-comma : {bit left n : ℕ} {ps : List Place} → Ahead ps n → left ≡ 1 + 8 * n → Ahead (reg bit ∷ comma-place ∷ ps) left
   number-opening : {bit width left n : ℕ} {signed : Bool} {ps : List Place} → Ahead ps n → left ≡ 2 + 8 * n → Ahead (num bit width signed ∷ opening-place ∷ ps) left
   register-closing : {bit left n : ℕ} {ps : List Place} → Ahead ps n → left ≡ 3 + 8 * n → Ahead (reg bit ∷ closing-place ∷ ps) left

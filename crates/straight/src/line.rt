@@ -140,7 +140,7 @@ fn read_tail(source: &[u8], from: usize, form: u8) -> Tail
     }
 }
 
-// The key in lower case of the word at `at`, and where it ends; key 0 if it has more than seven bytes.
+// The key in lower case of the word at `at`, and where it ends; key 0 if it has more than seven bytes, or ends the text.
 fn lower_word(text: &[u8], at: usize) -> Word
     requires { ⌜ at < length (now text) ⌝ ∗ ⌜ nameStart (getD (now text) at 0) ≡ true ⌝ }
     ensures { λ r. ⌜ ((r .key ≡ 0 → ⊥) → WordIs (now (text .entry)) at r) ⌝ }

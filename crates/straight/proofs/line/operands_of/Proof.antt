@@ -6,7 +6,7 @@ use native.Mathlib.Omega.{arith}
 use Rattle.instruction.specs.Table.{places}
 use Rattle.instruction.specs.Contracts.{formAt}
 use Rattle.reading.proofs.Line.{Each, in-run, past-forms}
-use Rattle.straight.specs.Contracts.{Ahead, none, register-comma, number-opening, register-closing, register-last, number-last}
+use Rattle.straight.specs.Contracts.{Ahead, no-more, register-comma, number-opening, register-closing, register-last, number-last}
 use Rattle.straight.proofs.line.operands_of.Statement.{statement}
 use Rattle.straight.proofs.line.operands_of.Tie as tie
 
@@ -20,7 +20,7 @@ numbered-two = (register-comma (register-comma (number-last refl) refl) refl, (r
 
 in-memory : Each (Likewise 209) 3 2
 unfolding places
-in-memory = (register-comma (number-opening (register-closing (none refl) refl) refl) refl, (register-comma (number-opening (register-closing (none refl) refl) refl) refl, tt))
+in-memory = (register-comma (number-opening (register-closing (no-more refl) refl) refl) refl, (register-comma (number-opening (register-closing (no-more refl) refl) refl) refl, tt))
 
 returns : tie.Need-returns
 unfolding places
@@ -37,7 +37,7 @@ returns-4 : tie.Need-returns-4
 unfolding places
 returns-4 c =
     let r = c .before .before in
-    rw (past-forms (r .before .args .form) (c .if2 .left) (r .match .rest .0 .1) (r .match .rest .1)) (none refl)
+    rw (past-forms (r .before .args .form) (c .if2 .left) (r .match .rest .0 .1) (r .match .rest .1)) (no-more refl)
 
 returns-5 : tie.Need-returns-5
 unfolding places
