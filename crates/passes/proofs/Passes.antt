@@ -17,20 +17,20 @@ use Rattle.text.specs.Lines.{Line as Record}
 use Rattle.text.specs.Places.{restAt, endAt}
 use Rattle.text.specs.Contracts.{firsts, LineRead}
 use Rattle.text.specs.declared.parser.Line.{Line}
-use Rattle.instruction.specs.Operands.{Instruction, readInstruction, behind}
+use Rattle.instruction.specs.Operands.{Instruction, markByte, readInstruction, behind}
 use Rattle.spelling.proofs.Tests.{split, by-test}
 use Rattle.text.proofs.Lines.{line-at, last-line}
 use Rattle.instruction.specs.Words.{wordOf}
 use Rattle.coding.specs.Contracts.{Written}
 use Rattle.coding.proofs.Writing.{written-none, written-length, written-append, room-behind, room-before}
 use Rattle.reading.proofs.Line.{behind-none}
-use Rattle.image.specs.Assembling.{Kind, empty, labelled, config, ignored, plain, kindOf}
+use Rattle.image.specs.Assembling.{Kind, empty, labelled, config, ignored, plain, identifierKind, kindOf}
 use Rattle.image.specs.Meaning.{oneOf, instructionOn, instructionsOf}
 use Rattle.image.specs.Contracts.{recordMeant}
 use Rattle.passes.specs.Contracts.{codedMeant, Codes, allRead, Readable, codeBytes}
 use Rattle.passes.specs.declared.second_pass.CodedLine.{CodedLine}
 use Rattle.passes.specs.declared.second_pass.Coded.the-variants.{Word, Nothing}
-use Rattle.straight.specs.Contracts.{IsInstruction, IsEmpty}
+use Rattle.straight.specs.Contracts.{IsInstruction, IsLabel, IsEmpty}
 use Rattle.instruction.specs.Contracts.{partsMeant}
 use Rattle.instruction.specs.declared.instruction.Operands.{Operands}
 use Rattle.passes.specs.declared.second_pass.Coded.{Coded as Coding}
@@ -241,6 +241,10 @@ pub codes-straight : (s : List ℕ) (at row word end : ℕ) (o : Operands) → I
 unfolding instructionOn oneOf
 codes-straight s at row word end o h e =
     record { words = λ k. rw (h .reads, instructionOn, h .is-plain, h .instruction, e); ends = λ k. h .ends }
+
+pub codes-alone : (s : List ℕ) (at start length′ end : ℕ) → IsLabel s at start length′ end → Codes s at (record { coded = Nothing; end = end })
+unfolding instructionOn kindOf identifierKind markByte behind readInstruction oneOf
+codes-alone s at start length′ end h = record { words = λ k. rw (h .reads); ends = λ k. h .ends }
 
 pub codes-empty : (s : List ℕ) (at end : ℕ) → IsEmpty s at end → Codes s at (record { coded = Nothing; end = end })
 unfolding instructionOn kindOf

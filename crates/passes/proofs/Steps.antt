@@ -31,7 +31,7 @@ use Rattle.image.specs.Assembling.{State, next, stop, Kind, empty, labelled, co
 use Rattle.image.specs.Meaning.{oneOf, instructionOn}
 use Rattle.image.specs.Contracts.{settingsMeant, faultMeant, recordMeant}
 use Rattle.instruction.specs.declared.instruction.Operands.{Operands}
-use Rattle.straight.specs.Contracts.{IsInstruction, IsEmpty}
+use Rattle.straight.specs.Contracts.{IsInstruction, IsLabel, IsEmpty}
 use Rattle.passes.specs.Contracts.{Told, wordFault, instructionFault, entering, onward, ComesOf, Comes}
 use Rattle.image.specs.declared.config.Config.{Config}
 use Rattle.image.specs.declared.config.Checked.{Checked}
@@ -162,6 +162,20 @@ one-more (value i) words e = go (ltb words 32768) refl e
     go true l z = (refl, omega (arith, ltb-true words 32768 l))
     go false l z = absurd (no-some z)
 
+-- What is behind a label, once it is entered or refused.
+on-label : (words : ℕ) (setup : Settings) (x : Result Instruction) (f : Option ℕ) (r : Record) (room at : ℕ) (st : State) (u : List ℕ)
+    → ((st′ : State) → st′ .setup ≡ setup → length (st′ .instructions) ≡ words → afterLabel r (next st′) ≡ onward f (oneOf x) setup (next st′))
+    → st .setup ≡ setup → length (st .instructions) ≡ words
+    → afterLabel r (enter room st at u) ≡ onward f (oneOf x) setup (enter room st at u)
+unfolding afterLabel onward enter withLabel
+on-label words setup x f r room at st u g p n = go (isKnown (st .labels) u) (ltb (length (st .labels)) room)
+  where
+    go : (v w : Bool) → afterLabel r (elim v [ true ↦ stop 4 st | false ↦ elim w [ true ↦ next (withLabel st at u) | false ↦ stop 5 st ] ])
+        ≡ onward f (oneOf x) setup (elim v [ true ↦ stop 4 st | false ↦ elim w [ true ↦ next (withLabel st at u) | false ↦ stop 5 st ] ])
+    go true w = refl
+    go false true = g (withLabel st at u) p n
+    go false false = refl
+
 module _ (s : List ℕ) (l : Line) (words : ℕ) (c : Config) where
   -- The record of a step without a label.
   abbrev pub bare : Checked → ℕ → Config → Stepped
@@ -239,20 +253,6 @@ module _ (s : List ℕ) (l : Line) (words : ℕ) (c : Config) where
         in-text = omega arith;
       }
 
-  -- What is behind a label, once it is entered or refused.
-  on-label : (x : Result Instruction) (f : Option ℕ) (r : Record) (room at : ℕ) (st : State) (u : List ℕ)
-      → ((st′ : State) → st′ .setup ≡ settingsMeant c → length (st′ .instructions) ≡ words → afterLabel r (next st′) ≡ onward f (oneOf x) (settingsMeant c) (next st′))
-      → st .setup ≡ settingsMeant c → length (st .instructions) ≡ words
-      → afterLabel r (enter room st at u) ≡ onward f (oneOf x) (settingsMeant c) (enter room st at u)
-  unfolding afterLabel onward enter withLabel
-  on-label x f r room at st u g p n = go (isKnown (st .labels) u) (ltb (length (st .labels)) room)
-    where
-      go : (v w : Bool) → afterLabel r (elim v [ true ↦ stop 4 st | false ↦ elim w [ true ↦ next (withLabel st at u) | false ↦ stop 5 st ] ])
-          ≡ onward f (oneOf x) (settingsMeant c) (elim v [ true ↦ stop 4 st | false ↦ elim w [ true ↦ next (withLabel st at u) | false ↦ stop 5 st ] ])
-      go true w = refl
-      go false true = g (withLabel st at u) p n
-      go false false = refl
-
   module _ (t : Told s l) (some-tokens : 2 ≤ l .count) (is-label : labelled (spelling s (getD (l .tokens) 0 filler)) ≡ kindOf (firsts s (l .tokens) (l .count))) where
     -- The record of a step with the label that the line begins with.
     abbrev marked : Checked → ℕ → Stepped
@@ -274,7 +274,7 @@ module _ (s : List ℕ) (l : Line) (words : ℕ) (c : Config) where
     unfolding stepOn instructionOn entering
     label-steps x f n e g room at st b p q =
         rw (stepOn, instructionOn, ← is-label, ← b (omega arith), ← e)
-        (on-label x (faultMeant f) (behind 2 (recordMeant s l)) room (getD (l .tokens) 0 filler .start) st (spelling s (getD (l .tokens) 0 filler)) g p q)
+        (on-label words (settingsMeant c) x (faultMeant f) (behind 2 (recordMeant s l)) room (getD (l .tokens) 0 filler .start) st (spelling s (getD (l .tokens) 0 filler)) g p q)
 
     -- A label alone.
     pub comes-label : l .count ≡ 2 → ComesOf s l words (settingsMeant c) (marked Good words)
@@ -399,4 +399,18 @@ module _ (s : List ℕ) (from words end : ℕ) (c : Config) where
         most = λ g m. m;
         ends = λ g. h .ends;
         in-text = omega arith;
+      }
+
+  pub comes-alone : (start length′ : ℕ) → IsLabel s from start length′ end
+      → Comes s from words (settingsMeant c) (record { labelled = true; start = start; length = length′; fault = Good; words = words; config = c; end = end })
+  unfolding step stepOn kindOf identifierKind markByte instructionOn entering behind readInstruction oneOf afterLabel onward
+  comes-alone start length′ h =
+      record {
+        steps = λ room st p n. rw (h .reads, ← h .starts)
+            (on-label words (settingsMeant c) (refused 14) none (record { count = 0; first = [] }) room start st (take length′ (drop start s))
+            (λ st′ p′ _. ap (λ (y : State). next y) (same-state st′ (settingsMeant c) p′)) p n);
+        counts = λ g. rw (h .reads) (omega arith);
+        most = λ g m. m;
+        ends = λ g. h .ends;
+        in-text = h .in-text;
       }

@@ -1,12 +1,13 @@
 // A line of a source: what it is, and what it comes to.
 ghost use mathlib.Core.Path.{_≡_};
-ghost use mathlib.Core.Bool.{false};
+ghost use mathlib.Core.Bool.{true, false};
 ghost use Prim.Native.Nat.{_≤_};
 ghost use lib.ListN.{length, getD};
 ghost use Rattle.text.specs.Contracts.{firsts, filler, spelling as spellingOf};
 ghost use Rattle.instruction.specs.Operands.{readInstruction, behind};
 ghost use Rattle.image.specs.Assembling.{labelled, config as configKind, kindOf};
 ghost use Rattle.image.specs.Contracts.{recordMeant, settingsMeant, faultMeant};
+ghost use Rattle.image.specs.declared.config.Checked.the-variants.{Good};
 ghost use Rattle.passes.specs.Contracts.{Tables, Told, kindMeant, wordFault, instructionFault, ComesOf, Comes};
 use image::config::Checked;
 use image::config::Config;
@@ -116,6 +117,21 @@ fn unlabelled(fault: Checked, words: usize, config: Config, end: usize) -> Step
     }
 }
 
+// A line with a label and nothing behind it.
+fn label_alone(start: usize, length: usize, words: usize, config: Config, end: usize) -> Step
+    ensures { λ r. ⌜ r ≡ record { labelled = true; start = start; length = length; fault = Good; words = words; config = config; end = end } ⌝ }
+{
+    Step {
+        labelled: true,
+        start,
+        length,
+        fault: Checked::Good,
+        words,
+        config,
+        end,
+    }
+}
+
 fn read_config(source: &[u8], line: Line, words: usize, config: Config) -> Step
     requires { ⌜ Told (now source) line ⌝ ∗ ⌜ kindOf (firsts (now source) (line .tokens) (line .count)) ≡ configKind ⌝ }
     ensures { λ r. ⌜ ComesOf (now (source .entry)) line words (settingsMeant config) r ⌝ }
@@ -146,15 +162,7 @@ fn read_label(
     let length = label.length;
     let end = line.end;
     if line.count == 2 {
-        return Step {
-            labelled: true,
-            start,
-            length,
-            fault: Checked::Good,
-            words,
-            config,
-            end,
-        };
+        return label_alone(start, length, words, config, end);
     }
     Step {
         labelled: true,
@@ -212,13 +220,10 @@ pub(crate) fn read_line(
     match straight::line::read_straight(source, at, mnemonics, forms, slots) {
         Straight::Instruction {
             row: _,
-            first: _,
-            second: _,
-            third: _,
-            negative: _,
-            magnitude: _,
+            operands: _,
             end,
         } => unlabelled(counted(words), words + 1, config, end),
+        Straight::Label { start, length, end } => label_alone(start, length, words, config, end),
         Straight::Empty(end) => unlabelled(Checked::Good, words, config, end),
         Straight::Other => read_record(source, at, words, config, mnemonics, forms, slots),
     }

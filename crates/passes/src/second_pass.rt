@@ -7,7 +7,7 @@ ghost use lib.ListN.{length};
 ghost use Rattle.spelling.specs.Numbers.{little};
 ghost use Rattle.instruction.specs.Operands.{readInstruction, behind};
 ghost use Rattle.instruction.specs.Words.{wordOf};
-ghost use Rattle.instruction.specs.Contracts.{opcodeNumbers, formNumbers, partsMeant};
+ghost use Rattle.instruction.specs.Contracts.{opcodeNumbers};
 ghost use Rattle.coding.specs.Contracts.{Written};
 ghost use Rattle.image.specs.Meaning.{oneOf, instructionOn};
 ghost use Rattle.image.specs.Contracts.{recordMeant, settingsMeant};
@@ -17,10 +17,7 @@ use crate::first_pass::Pass;
 use crate::line::LineKind;
 use image::config::Checked;
 use image::config::Config;
-use instruction::instruction::Instruction;
-use instruction::instruction::Operands;
 use reading::assembler::Parsed;
-use spelling::number::Whole;
 use straight::line::Straight;
 use text::parser::Line;
 
@@ -95,15 +92,6 @@ fn line_word(
     }
 }
 
-// The word of an instruction by its row and operands.
-fn straight_word(row: usize, operands: Operands, opcodes: &[u8; 50], forms: &[u8; 50]) -> u32
-    requires { ⌜ row < 50 ⌝ ∗ ⌜ now opcodes ≡ opcodeNumbers ⌝ ∗ ⌜ now forms ≡ formNumbers ⌝ }
-    ensures { λ r. ⌜ r ≡ wordOf (partsMeant (record { row = row; operands = operands })) ⌝ }
-{
-    let instruction = Instruction::from_parts(row, operands);
-    coding::encoder::encode(instruction, opcodes, forms)
-}
-
 // The word of the line that begins at `at`, if it has one, and where the line ends.
 fn coded_line(
     source: &[u8],
@@ -117,32 +105,19 @@ fn coded_line(
     ensures { λ r. ⌜ Codes (now (source .entry)) at r ⌝ }
 {
     match straight::line::read_straight(source, at, mnemonics, forms, slots) {
-        Straight::Instruction {
-            row,
-            first,
-            second,
-            third,
-            negative,
-            magnitude,
-            end,
-        } => {
-            let number = Whole {
-                negative,
-                magnitude,
-            };
-            let operands = Operands {
-                first,
-                second,
-                third,
-                number,
-            };
-            let word = straight_word(row, operands, opcodes, forms);
+        Straight::Instruction { row, operands, end } => {
+            let word = coding::encoder::encode_parts(row, operands, opcodes, forms);
             CodedLine {
                 coded: Coded::Word(word),
                 end,
             }
         }
-        Straight::Empty(end) => CodedLine {
+        Straight::Label {
+            start: _,
+            length: _,
+            end,
+        }
+        | Straight::Empty(end) => CodedLine {
             coded: Coded::Nothing,
             end,
         },

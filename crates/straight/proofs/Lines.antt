@@ -11,7 +11,7 @@ use mathlib.Core.List.{List, [], _∷_, _++_, map, map-append}
 use lib.ListN.{length, take, drop, getD, length-append, length-map, length-take, length-drop}
 use lib.Seq.{take-suc, getD-drop, take-all}
 use lib.Dec.{leb, eqb}
-use borrow.Author.Tests.{le-leb, eq-eqb}
+use borrow.Author.Tests.{leb-true, le-leb, lt-leb, lt-ltb, eq-eqb}
 use Rattle.spelling.specs.Bytes.{Result, value, bytes, between, letter, digit, nameStart, namePart, lower, margin, every, same, run, find, isSome, each}
 use Rattle.spelling.specs.Names.{Name, name, named, numbered, conventional, present}
 use Rattle.spelling.specs.Contracts.{packed, keyOf, nameNumber}
@@ -23,7 +23,7 @@ use Rattle.text.specs.Tokens.{Token, identifier, register, number, hex, binary,
 use Rattle.text.specs.Lines.{kept, lineOf, recordOf, readLine}
 use Rattle.text.specs.Places.{restAt, leftAt, endAt}
 use Rattle.text.specs.declared.lexer.Kind.the-variants.{Identifier}
-use Rattle.text.proofs.Left.{start-solid, content-at}
+use Rattle.text.proofs.Left.{start-solid, content-at, indent-at}
 use Rattle.text.proofs.Fronts.{run-in, part-cons, word-at}
 use Rattle.text.proofs.Stepping.{solid-step, margin-on}
 use Rattle.instruction.specs.Table.{Place, reg, Form, R, I, Shift, Load, Store, Branch, Jump, System, places, row, table, rowNamed}
@@ -35,9 +35,9 @@ use Rattle.instruction.specs.declared.opcode.Row.the-variants.{At}
 use Rattle.instruction.proofs.Columns.{form-numbered}
 use Rattle.reading.proofs.Line.{Each, in-run, six-places, below-part, named-by-key}
 use Rattle.image.specs.Assembling.{plain, identifierKind, kindOf}
-use Rattle.straight.specs.Contracts.{Reads, WordIs, TailIs, IsInstruction, IsEmpty}
+use Rattle.straight.specs.Contracts.{Reads, wordEnd, part, WordIs, Labels, LabelIs, FrontIs, no-front, mnemonic, label, TailIs, IsInstruction, IsLabel, IsEmpty, IsStraight, wholeOf}
 use Rattle.straight.specs.declared.line.Word.{Word}
-use Rattle.straight.proofs.Places.{stepped-reads, run-is, every-more}
+use Rattle.straight.proofs.Places.{stepped-reads, run-to, every-more, colon-reads}
 
 -- ---- the key of a word, from its first byte on
 
@@ -54,81 +54,115 @@ pub lower-small : (b : ℕ) → b < 256 → lower b < 256
 unfolding lower
 lower-small b h = by-test (between 65 90 b) (λ e. rw (lower, e) (omega (arith, between-true 65 90 b e .1))) (λ e. rw (lower, e) h)
 
+-- The key of a word's first bytes, as long as there are seven at most.
+pub record Short (s : List ℕ) (at sum scale i : ℕ) : Type 0 where
+  scale-is : scale ≡ 256 ^ (i - at)
+  key-is : sum + scale ≡ packed (map lower (part s at (i - at)))
+  pub small : sum < scale
+
 -- The first bytes of a word, and their key so far.
 pub record Spelling (s : List ℕ) (at sum scale i : ℕ) : Type 0 where
   pub on : at ≤ i
   pub in-text : i ≤ length s
-  pub few : i ≤ at + 7
-  part : every namePart (take (i - at) (drop at s)) ≡ true
-  scale-is : scale ≡ 256 ^ (i - at)
-  key-is : sum + scale ≡ packed (map lower (take (i - at) (drop at s)))
-  pub small : sum < scale
+  parts : every namePart (part s at (i - at)) ≡ true
+  pub short : i ≤ at + 7 → Short s at sum scale i
+  long : at + 7 < i → (sum ≡ 0) × (scale ≡ 0)
 
 pub spelling-begin : (s : List ℕ) (at : ℕ) → at ≤ length s → Spelling s at 0 1 at
 unfolding every packed
 spelling-begin s at h =
     let z : at - at ≡ 0 = omega arith in
-    record { on = omega arith; in-text = h; few = omega arith; part = rw z; scale-is = rw z; key-is = rw z; small = omega arith }
+    record {
+      on = omega arith;
+      in-text = h;
+      parts = rw z;
+      short = λ _. record { scale-is = rw z; key-is = rw z; small = omega arith };
+      long = λ l. absurd (omega arith);
+    }
 
 -- There is room for a byte more.
 powers : Each (λ k. 256 ^ k ≤ 2 ^ 48) 0 7
 powers = (omega arith, (omega arith, (omega arith, (omega arith, (omega arith, (omega arith, (omega arith, tt)))))))
 
-pub scale-small : (s : List ℕ) (at sum scale i : ℕ) → Spelling s at sum scale i → i - at < 7 → scale ≤ 2 ^ 48
+pub scale-small : (s : List ℕ) (at sum scale i : ℕ) → Short s at sum scale i → i - at < 7 → scale ≤ 2 ^ 48
 scale-small s at sum scale i q h = rw (q .scale-is) (in-run (λ k. 256 ^ k ≤ 2 ^ 48) 0 7 (i - at) (omega arith) h powers)
 
 wide-powers : Each (λ k. 256 ^ k ≤ 2 ^ 56) 0 8
 wide-powers = (omega arith, (omega arith, (omega arith, (omega arith, (omega arith, (omega arith, (omega arith, (omega arith, tt))))))))
 
-pub scale-fits : (s : List ℕ) (at sum scale i : ℕ) → Spelling s at sum scale i → scale ≤ 2 ^ 56
-scale-fits s at sum scale i q = rw (q .scale-is) (in-run (λ k. 256 ^ k ≤ 2 ^ 56) 0 8 (i - at) (omega arith) (omega (arith, q .few, q .on)) wide-powers)
+pub key-fits : (s : List ℕ) (at sum scale i : ℕ) → Spelling s at sum scale i → sum + scale < 2 ^ 58
+key-fits s at sum scale i q =
+    split i (at + 8)
+    (λ h. let k = q .short (omega arith) in
+    let f : scale ≤ 2 ^ 56 = rw (k .scale-is) (in-run (λ k. 256 ^ k ≤ 2 ^ 56) 0 8 (i - at) (omega arith) (omega (arith, q .on)) wide-powers) in
+    omega (arith, k .small))
+    (λ h. let (y, z) = q .long (omega arith) in omega arith)
 
 pub product-small : (l scale : ℕ) → l < 256 → l * scale ≤ 255 * scale
 product-small l scale h = mul-le-mul-right scale (omega arith)
 
-length-part : (s : List ℕ) (at i : ℕ) → at ≤ i → i ≤ length s → length (map lower (take (i - at) (drop at s))) ≡ i - at
-length-part s at i h l = rw (length-map (take (i - at) (drop at s)) lower, length-take (i - at) (drop at s), length-drop at s) (omega arith)
+length-part : (s : List ℕ) (at i : ℕ) → at ≤ i → i ≤ length s → length (map lower (part s at (i - at))) ≡ i - at
+length-part s at i h l = rw (length-map (part s at (i - at)) lower, length-take (i - at) (drop at s), length-drop at s) (omega arith)
 
-pub spelling-more : (s : List ℕ) (at sum scale i : ℕ) → Spelling s at sum scale i → i < length s → i - at < 7 → namePart (getD s i 0) ≡ true → getD s i 0 < 256
-    → Spelling s at (sum + lower (getD s i 0) * scale) (scale * 256) (i + 1)
-spelling-more s at sum scale i q l k h byte =
-    let m : i + 1 - at ≡ suc (i - at) = omega (arith, q .on) in
-    let a : at + (i - at) ≡ i = omega (arith, q .on) in
+-- A byte more is a part of the word.
+parts-more : (s : List ℕ) (at i : ℕ) → at ≤ i → i < length s → part s at (i + 1 - at) ≡ part s at (i - at) ++ (getD s i 0 ∷ [])
+parts-more s at i h l =
+    let m : i + 1 - at ≡ suc (i - at) = omega arith in
+    let a : at + (i - at) ≡ i = omega arith in
     let g : getD (drop at s) (i - at) 0 ≡ getD s i 0 = getD-drop at s (i - at) 0 ∙ ap (λ (x : ℕ). getD s x 0) a in
-    let t : take (i + 1 - at) (drop at s) ≡ take (i - at) (drop at s) ++ (getD s i 0 ∷ [])
-    = rw m (take-suc (drop at s) (i - at) 0 (omega (arith, length-drop at s, q .on)) ∙ rw g) in
-    let u = map lower (take (i - at) (drop at s)) in
-    let b = lower (getD s i 0) in
-    let n : length u ≡ i - at = length-part s at i (q .on) (omega arith) in
-    let e : scale ≡ 256 ^ length u = q .scale-is ∙ ap (λ (x : ℕ). 256 ^ x) (sym n) in
-    let p : packed (u ++ (b ∷ [])) + scale ≡ packed u + scale * (b + 256) = rw e (packed-more u b) in
-    let d : scale * (b + 256) ≡ b * scale + scale * 256 = mul-add scale b 256 ∙ ap (λ (x : ℕ). x + scale * 256) (mul-comm scale b) in
-    let w = product-small b scale (lower-small (getD s i 0) byte) in
-    record {
-      on = omega (arith, q .on);
-      in-text = omega arith;
-      few = omega (arith, q .on);
-      part = rw t (every-more namePart (take (i - at) (drop at s)) (getD s i 0) (q .part) h);
-      scale-is = rw (m, pow-suc 256 (i - at), ← q .scale-is) (omega arith);
-      key-is = rw (t, map-append lower (take (i - at) (drop at s)) (getD s i 0 ∷ [])) (omega (arith, p, d, q .key-is));
-      small = omega (arith, q .small, w);
-    }
+    rw m (take-suc (drop at s) (i - at) 0 (omega (arith, length-drop at s)) ∙ rw g)
+
+module _ (s : List ℕ) (at sum scale i : ℕ) (q : Spelling s at sum scale i) (l : i < length s) (h : namePart (getD s i 0) ≡ true) where
+  parts-on : every namePart (part s at (i + 1 - at)) ≡ true
+  parts-on = rw (parts-more s at i (q .on) l) (every-more namePart (part s at (i - at)) (getD s i 0) (q .parts) h)
+
+  pub spelling-more : i - at < 7 → getD s i 0 < 256 → Spelling s at (sum + lower (getD s i 0) * scale) (scale * 256) (i + 1)
+  spelling-more k byte =
+      let r = q .short (omega arith) in
+      let u = map lower (part s at (i - at)) in
+      let b = lower (getD s i 0) in
+      let m : i + 1 - at ≡ suc (i - at) = omega (arith, q .on) in
+      let n : length u ≡ i - at = length-part s at i (q .on) (omega arith) in
+      let e : scale ≡ 256 ^ length u = r .scale-is ∙ ap (λ (x : ℕ). 256 ^ x) (sym n) in
+      let p : packed (u ++ (b ∷ [])) + scale ≡ packed u + scale * (b + 256) = rw e (packed-more u b) in
+      let d : scale * (b + 256) ≡ b * scale + scale * 256 = mul-add scale b 256 ∙ ap (λ (x : ℕ). x + scale * 256) (mul-comm scale b) in
+      let w = product-small b scale (lower-small (getD s i 0) byte) in
+      record {
+        on = omega (arith, q .on);
+        in-text = omega arith;
+        parts = parts-on;
+        short = λ _. record {
+          scale-is = rw (m, pow-suc 256 (i - at), ← r .scale-is) (omega arith);
+          key-is = rw (parts-more s at i (q .on) l, map-append lower (part s at (i - at)) (getD s i 0 ∷ [])) (omega (arith, p, d, r .key-is));
+          small = omega (arith, r .small, w);
+        };
+        long = λ f. absurd (omega (arith, q .on));
+      }
+
+  pub spelling-long : 7 ≤ i - at → Spelling s at 0 0 (i + 1)
+  spelling-long k =
+      record { on = omega (arith, q .on); in-text = omega arith; parts = parts-on; short = λ f. absurd (omega (arith, q .on)); long = λ _. (refl, refl) }
 
 start-part : (b : ℕ) → nameStart b ≡ true → namePart b ≡ true
 unfolding namePart
 start-part b h = or-left (nameStart b) (digit b) h
 
 -- The word ends.
-pub spelling-ends : (s : List ℕ) (at sum scale i : ℕ) → Spelling s at sum scale i → i < length s → namePart (getD s i 0) ≡ false → nameStart (getD s at 0) ≡ true
+pub spelling-ends : (s : List ℕ) (at sum scale i : ℕ) → Spelling s at sum scale i → at < length s → (i < length s → namePart (getD s i 0) ≡ false) → nameStart (getD s at 0) ≡ true
     → WordIs s at (record { key = sum + scale; end = i })
 unfolding keyOf
 spelling-ends s at sum scale i q l g start =
     split at i
     (λ less. record {
-      ends = run-is namePart s (at + 1) i (omega arith) l (every-tail namePart _ _ (rw (part-cons s at i less (omega arith)) at (q .part))) g;
-      key-is = q .key-is ∙ sym (rw (keyOf, le-leb (length (map lower (take (i - at) (drop at s)))) 7 (omega (arith, length-part s at i (q .on) (q .in-text), q .few))));
+      ends = run-to namePart s (at + 1) i (omega arith) (q .in-text) (every-tail namePart _ _ (rw (part-cons s at i less l) at (q .parts))) g;
+      key-is = split i (at + 8)
+          (λ h. q .short (omega arith) .key-is ∙ sym (rw (keyOf, le-leb (length (map lower (part s at (i - at)))) 7 (omega (arith, long)))))
+          (λ h. let (y, z) = q .long (omega arith) in rw (y, z, keyOf, lt-leb (length (map lower (part s at (i - at)))) 7 (omega (arith, long))));
     })
-    (λ ge. let e : i ≡ at = omega (arith, q .on) in no-both (start-part (getD s at 0) start) (rw e at g))
+    (λ ge. let e : i ≡ at = omega (arith, q .on) in no-both (start-part (getD s at 0) start) (rw e at (g (omega arith))))
+  where
+    long : length (map lower (part s at (i - at))) ≡ i - at
+    long = length-part s at i (q .on) (q .in-text)
 
 -- ---- a mnemonic is no register's name
 
@@ -148,40 +182,54 @@ some-row : {A : Type 0} (o : Option A) (a : A) → o ≡ some a → isSome o ≡
 unfolding isSome
 some-row o a e = rw e
 
--- ---- what stands in front of the operands
+-- Nor is a name that is longer than any.
+names-short : each (λ n. leb (length (n .spelling)) 4) present ≡ true
+unfolding each present numbered conventional name bytes
+names-short = refl
 
-abbrev Bare : ℕ → ℕ → ℕ → ℕ → Type 0
-Bare begin row form at = (row ≡ 50) × ((form ≡ 7) × (at ≡ begin))
+long-unnamed : (u : List ℕ) (o : Option Name) → named present u ≡ o → 4 < length u → nameNumber o ≡ none
+unfolding named
+long-unnamed u none e h = refl
+long-unnamed u (some n) e h =
+    let (p, q) = found (λ x. same (x .spelling) u) (λ x. leb (length (x .spelling)) 4) present n e names-short in
+    let k : length u ≤ 4 = leb-true (length u) 4 (rw (same-eq (n .spelling) u p) at q) in
+    absurd (omega arith)
 
-pub record Mnemonic (s : List ℕ) (begin row form at : ℕ) : Type 0 where
-  pub in-text : begin < length s
-  pub starts : nameStart (getD s begin 0) ≡ true
-  pub ends : at ≡ begin + 1 + run namePart (drop (begin + 1) s)
-  pub in-table : row < 50
-  pub is-named : rowNamed (map lower (take (at - begin) (drop begin s))) ≡ some (rowAt row)
-  pub form-is : form ≡ formNumber (rowAt row .form)
+-- ---- what a line begins with
 
-abbrev pub Head : List ℕ → ℕ → ℕ → ℕ → ℕ → Type 0
-Head s begin row form at = Bare begin row form at ⊎ Mnemonic s begin row form at
+module _ (s : List ℕ) (at end : ℕ) (l : at < length s) (start : nameStart (getD s at 0) ≡ true) (ends : end ≡ wordEnd s at) where
+  pub word-in : end ≤ length s
+  word-in = omega (arith, run-in namePart s (at + 1) (omega arith))
 
--- A row that is found by the key of a word.
-pub mnemonic-found : (s : List ℕ) (begin : ℕ) (w : Word) (r : Looked) (i : ℕ) → Below s → (w .key ≡ 0 → ⊥) → ((w .key ≡ 0 → ⊥) → WordIs s begin w)
-    → IsRow r (find (λ q. eqb (keyOf (q .mnemonic)) (w .key)) table) → r ≡ At i
-    → (i < 50) × (rowNamed (map lower (take (w .end - begin) (drop begin s))) ≡ some (rowAt i))
-mnemonic-found s begin w r i below nonzero is-word row e =
-    let u = take (w .end - begin) (drop begin s) in
-    rw (← named-by-key u (w .key) (below-part begin (w .end - begin) s below) (is-word nonzero .key-is)) (rw e at row)
+  name-reads : nameNumber (named present (part s at (end - at))) ≡ none → Reads s at (identifier (part s at (end - at))) end
+  name-reads n =
+      stepped-reads s at (record { kind = Identifier; start = at; length = end - at }) end (solid-step s at _ l (start-solid _ start) (word-at s at end Other l start ends (sym n)))
 
-pub head-in : (s : List ℕ) (begin row form at : ℕ) → begin ≤ length s → Head s begin row form at → at ≤ length s
-head-in s begin row form at l (inl (r, (f, e))) = omega arith
-head-in s begin row form at l (inr m) = omega (arith, m .ends, run-in namePart s (begin + 1) (omega (arith, m .in-text)))
+  -- A row that is found by the key of the word.
+  pub mnemonic-front : (w : Word) (r : Looked) (i form : ℕ) → Below s → WordIs s at w → w .end ≡ end → IsRow r (find (λ q. eqb (keyOf (q .mnemonic)) (w .key)) table) → r ≡ At i
+      → (i < 50) × (form ≡ formNumber (rowAt i .form) → FrontIs s at i form 0 end)
+  mnemonic-front w r i form below is e row f =
+      let u = part s at (end - at) in
+      let k : w .key ≡ keyOf (map lower u) = rw (← e) (is .key-is) in
+      let (in-table, n) : (i < 50) × (rowNamed (map lower u) ≡ some (rowAt i)) = rw (← named-by-key u (w .key) (below-part at (end - at) s below) k) (rw f at row) in
+      (in-table, λ g. mnemonic u in-table n (ap formAt g ∙ form-numbered (rowAt i .form)) (name-reads (unnamed u (named present u) refl (some-row _ _ n))))
 
-mnemonic-reads : (s : List ℕ) (begin row form at : ℕ) → Mnemonic s begin row form at → Reads s begin (identifier (take (at - begin) (drop begin s))) at
-mnemonic-reads s begin row form at m =
-    let u = take (at - begin) (drop begin s) in
-    let n = unnamed u (named present u) refl (some-row _ _ (m .is-named)) in
-    stepped-reads s begin (record { kind = Identifier; start = begin; length = at - begin }) at
-    (solid-step s begin _ (m .in-text) (start-solid _ (m .starts)) (word-at s begin at Other (m .in-text) (m .starts) (m .ends) (sym n)))
+  -- A colon behind a name that is no register's.
+  pub label-reads : end < length s → getD s end 0 ≡ 58 → nameNumber (named present (part s at (end - at))) ≡ none → Labels s at end (end + 1)
+  label-reads h c n = record { name = name-reads n; mark = colon-reads s end h c }
+
+  pub long-label : 4 < end - at → nameNumber (named present (part s at (end - at))) ≡ none
+  long-label h = long-unnamed (part s at (end - at)) _ refl (omega (arith, length-take (end - at) (drop at s), length-drop at s, word-in))
+
+  pub label-front : (next : ℕ) → LabelIs s at end next → (next ≡ 0 → ⊥) → FrontIs s at 50 7 (end - at) next
+  label-front next is there =
+      let e : at + (end - at) ≡ end = omega arith in
+      label refl refl (omega arith) (rw e (is there))
+
+pub front-in : {s : List ℕ} {start row form length′ at : ℕ} → start ≤ length s → FrontIs s start row form length′ at → at ≤ length s
+front-in l (no-front r f n e) = omega arith
+front-in l (mnemonic u r n f rd) = rd .in-text
+front-in l (label r f n is) = is .mark .in-text
 
 -- ---- the line
 
@@ -243,32 +291,51 @@ first-row : (u : List ℕ) (ts : List Token) → readInstruction (record { count
 unfolding readInstruction
 first-row u ts = let e : suc (length ts) - 1 ≡ length ts = omega arith in rw e
 
-pub bare-line : (s : List ℕ) (from begin row form at e : ℕ) (o : Kept) → from ≤ length s → begin ≡ from + run margin (drop from s) → Head s begin row form at → row ≡ 50
-    → TailIs s at form o e → IsEmpty s from e
-unfolding recordOf lineOf kept places
-bare-line s from begin row form at e o l q (inl (r, (f, a))) is t =
-    let z = no-tokens (t .operands) (t .count ∙ ap (λ (x : ℕ). length (places (formAt x))) f) in
-    let n : tokens present (leftAt s begin) ≡ some [] = rw a at (t .means) ∙ ap some z in
-    let (x, y, c) = margin-on s from begin l q in
-    record { reads = line-reads s from begin q ∙ rw n; ends = t .ends ∙ ap (endAt s) a ∙ c }
-bare-line s from begin row form at e o l q (inr m) is t = absurd (omega (arith, m .in-table))
+module _ (s : List ℕ) (from start : ℕ) (l : from ≤ length s) (q : start ≡ from + run margin (drop from s)) (at e : ℕ) (o : Kept) where
+  -- No operand is left where none is asked for.
+  none-left : (form : ℕ) → form ≡ 7 → TailIs s at form o e → tokens present (leftAt s at) ≡ some []
+  unfolding places
+  none-left form f t = t .means ∙ ap some (no-tokens (t .operands) (t .count ∙ ap (λ (x : ℕ). length (places (formAt x))) f))
 
-pub mnemonic-line : (s : List ℕ) (from begin row form at e : ℕ) (o : Kept) → from ≤ length s → begin ≡ from + run margin (drop from s) → Head s begin row form at → (row ≡ 50 → ⊥)
-    → TailIs s at form o e → IsInstruction s from row o e
-mnemonic-line s from begin row form at e o l q (inl (r, f)) is t = absurd (is r)
-mnemonic-line s from begin row form at e o l q (inr m) is t =
-    let u = take (at - begin) (drop begin s) in
-    let ts = t .operands in
-    let g : formAt form ≡ rowAt row .form = ap formAt (m .form-is) ∙ form-numbered (rowAt row .form) in
-    let n : length ts ≡ length (places (rowAt row .form)) = rw (← g) (t .count) in
-    let h : readOperands (places (rowAt row .form)) ts ≡ value (operandsMeant (places (rowAt row .form)) o) = rw (← g) (t .read) in
-    let rd = mnemonic-reads s begin row form at m in
-    let (x, y, c) = margin-on s from begin l q in
-    record {
-      in-table = m .in-table;
-      line = record { count = suc (length ts); first = identifier u ∷ ts };
-      reads = line-reads s from begin q ∙ line-whole s begin u ts (rd .means ∙ ap (infront (identifier u)) (t .means)) ∙ ap some (short-line u ts (omega (arith, n, six-places (rowAt row .form))));
-      is-plain = is-plain (rowAt row .form) u ts _ n h;
-      instruction = first-row u ts ∙ row-read row u ts o (m .is-named) n h;
-      ends = t .ends ∙ rd .ends ∙ c;
-    }
+  start-ends : endAt s start ≡ endAt s from
+  start-ends = let (x, y, c) = margin-on s from start l q in c
+
+  empty-line : (form : ℕ) → form ≡ 7 → at ≡ start → TailIs s at form o e → IsEmpty s from e
+  unfolding recordOf lineOf kept
+  empty-line form f a t =
+      let n : tokens present (leftAt s start) ≡ some [] = rw a at (none-left form f t) in
+      record { reads = line-reads s from start q ∙ rw n; ends = t .ends ∙ ap (endAt s) a ∙ start-ends }
+
+  label-line : (form length′ : ℕ) → form ≡ 7 → Labels s start (start + length′) at → TailIs s at form o e → IsLabel s from start length′ e
+  unfolding recordOf lineOf kept infront
+  label-line form length′ f is t =
+      let k : start + length′ - start ≡ length′ = omega arith in
+      let n : tokens present (leftAt s start) ≡ some (identifier (part s start length′) ∷ colon ∷ []) =
+          rw k at (is .name .means) ∙ ap (infront (identifier (part s start length′))) (is .mark .means ∙ ap (infront colon) (none-left form f t)) in
+      record {
+        reads = line-reads s from start q ∙ rw n;
+        starts = q ∙ ap (λ (x : ℕ). from + x) (sym (indent-at s from));
+        in-text = is .name .in-text;
+        ends = t .ends ∙ is .mark .ends ∙ is .name .ends ∙ start-ends;
+      }
+
+  mnemonic-line : (row form : ℕ) (u : List ℕ) → row < 50 → rowNamed (map lower u) ≡ some (rowAt row) → formAt form ≡ rowAt row .form → Reads s start (identifier u) at
+      → TailIs s at form o e → IsInstruction s from row o e
+  mnemonic-line row form u in-table named-is g rd t =
+      let ts = t .operands in
+      let n : length ts ≡ length (places (rowAt row .form)) = rw (← g) (t .count) in
+      let h : readOperands (places (rowAt row .form)) ts ≡ value (operandsMeant (places (rowAt row .form)) o) = rw (← g) (t .read) in
+      record {
+        in-table = in-table;
+        line = record { count = suc (length ts); first = identifier u ∷ ts };
+        reads = line-reads s from start q ∙ line-whole s start u ts (rd .means ∙ ap (infront (identifier u)) (t .means)) ∙ ap some (short-line u ts (omega (arith, n, six-places (rowAt row .form))));
+        is-plain = is-plain (rowAt row .form) u ts _ n h;
+        instruction = first-row u ts ∙ row-read row u ts o named-is n h;
+        ends = t .ends ∙ rd .ends ∙ start-ends;
+      }
+
+  pub line-is : (row form length′ : ℕ) → FrontIs s start row form length′ at → TailIs s at form o e → IsStraight s from (wholeOf start row length′ o e)
+  unfolding wholeOf
+  line-is row form length′ (no-front r f n a) t = rw (r, n) (empty-line form f a t)
+  line-is row form length′ (mnemonic u r n f rd) t = rw (wholeOf, lt-ltb row 50 r) (mnemonic-line row form u r n f rd t)
+  line-is row form length′ (label r f n is) t = rw (r, wholeOf, lt-ltb 0 length′ n) (label-line form length′ f is t)

@@ -21,7 +21,8 @@ use Rattle.text.specs.Places.{leftAt, endAt}
 use Rattle.instruction.specs.Table.{Place, reg, num, comma-place, opening-place, closing-place, Form, R, I, Shift, Load, Store, Branch, Jump, System, places}
 use Rattle.instruction.specs.Operands.{Operands, noOperands, withRegister, withNumber, readRegister, readNumber, markByte, readPlace, readOperands}
 use Rattle.instruction.specs.Contracts.{formAt, registersFor, numberFor}
-use Rattle.straight.specs.Contracts.{Reads, IsMark, Ahead, no-more, register-comma, number-opening, register-closing, register-last, number-last, isNumber, markOf, Behind, TailIs, operandsOf}
+use Rattle.instruction.specs.declared.instruction.Operands.{Operands as KeptOperands}
+use Rattle.straight.specs.Contracts.{Reads, IsMark, Ahead, no-more, register-comma, number-opening, register-closing, register-last, number-last, isNumber, markOf, Behind, TailIs}
 
 -- ---- tokens that have been read, before those to come
 
@@ -340,6 +341,9 @@ three-are (a ∷ []) d h = absurd (omega arith)
 three-are (a ∷ b ∷ []) d h = absurd (omega arith)
 three-are (a ∷ b ∷ c ∷ []) d h = refl
 three-are (a ∷ b ∷ c ∷ x ∷ l) d h = absurd (omega arith)
+
+abbrev operandsOf : Register → Register → Register → Bool → ℕ → KeptOperands
+operandsOf a b c n m = record { first = a; second = b; third = c; number = record { negative = n; magnitude = m } }
 
 partly-end : (s : List ℕ) (from form at count : ℕ) (rs : List Register) (n : Bool) (m e : ℕ) (d : Register) → Partly s from (formAt form) at [] count rs n m
     → tokens present (leftAt s at) ≡ some [] → e ≡ endAt s at → TailIs s from form (operandsOf (getD rs 0 d) (getD rs 1 d) (getD rs 2 d) n m) e

@@ -20,11 +20,11 @@ use Rattle.spelling.specs.declared.register.Register.{Register}
 use Rattle.spelling.specs.declared.name.RegisterName.the-variants.{Is}
 use Rattle.spelling.proofs.Tests.{split, by-test, both, not-true, no-both, or-left, or-right, between-true}
 use Rattle.spelling.proofs.Strings.{every-head, every-tail, every-mono, every-run, take-run, run-past, run-no, run-yes, run-end, run-le}
-use Rattle.text.specs.Tokens.{Token, isIdentifier, isRegister, register, number, comma, opening, closing, markToken, tokens}
+use Rattle.text.specs.Tokens.{Token, isIdentifier, isRegister, register, number, comma, colon, opening, closing, markToken, tokens}
 use Rattle.text.specs.Places.{restAt, leftAt, endAt}
 use Rattle.text.specs.Contracts.{meant, At, Stepped, NoWord}
 use Rattle.text.specs.declared.lexer.Token.{Token as KeptToken}
-use Rattle.text.specs.declared.lexer.Kind.the-variants.{Register as RegisterKind, Number, Negative, Comma, LParen, RParen}
+use Rattle.text.specs.declared.lexer.Kind.the-variants.{Register as RegisterKind, Number, Negative, Comma, Colon, LParen, RParen}
 use Rattle.text.specs.declared.lexer.Scan.the-variants.{Found}
 use Rattle.text.proofs.Scanning.{register-identifier}
 use Rattle.text.proofs.Left.{start-solid, digit-solid, high-solid, blank-inside, blanks-at, end-on, nothing-left, none-read}
@@ -79,15 +79,19 @@ four-bytes s at h =
     let w : at + 3 ≡ suc (suc (suc at)) = omega arith in
     rw (drop-cons s at 0 (omega arith), drop-cons s (suc at) 0 (omega arith), drop-cons s (suc (suc at)) 0 (omega arith), drop-cons s (suc (suc (suc at))) 0 (omega arith), add-one at, v, w)
 
--- A run that has been passed, behind which a byte of another class stands.
-pub run-is : (p : ℕ → Bool) (s : List ℕ) (at e : ℕ) → at ≤ e → e < length s → every p (take (e - at) (drop at s)) ≡ true → p (getD s e 0) ≡ false
+-- A run that has been passed, behind which a byte of another class stands, or none.
+pub run-to : (p : ℕ → Bool) (s : List ℕ) (at e : ℕ) → at ≤ e → e ≤ length s → every p (take (e - at) (drop at s)) ≡ true → (e < length s → p (getD s e 0) ≡ false)
     → e ≡ at + run p (drop at s)
-run-is p s at e h l f g =
+run-to p s at e h l f g =
     let d = length-drop at s in
     let a = run-past p (e - at) (drop at s) (omega arith) f in
     let q : at + (e - at) ≡ e = omega arith in
-    let z : run p (drop (e - at) (drop at s)) ≡ 0 = rw (drop-drop (e - at) at s, q) (run-no p s e l g) in
+    let z : run p (drop (e - at) (drop at s)) ≡ 0 = rw (drop-drop (e - at) at s, q) (split e (length s) (λ i. run-no p s e i (g i)) (λ i. run-end p s e i)) in
     omega arith
+
+pub run-is : (p : ℕ → Bool) (s : List ℕ) (at e : ℕ) → at ≤ e → e < length s → every p (take (e - at) (drop at s)) ≡ true → p (getD s e 0) ≡ false
+    → e ≡ at + run p (drop at s)
+run-is p s at e h l f g = run-to p s at e h (omega arith) f (λ _. g)
 
 -- ---- registers
 
@@ -249,6 +253,15 @@ unfolding blank nameStart letter digit between
 mark-plain b (inl e) = record { no-blank = rw e; no-start = rw e; no-digit = rw e; no-minus = λ h. absurd (omega arith); no-dot = λ h. absurd (omega arith) }
 mark-plain b (inr (inl e)) = record { no-blank = rw e; no-start = rw e; no-digit = rw e; no-minus = λ h. absurd (omega arith); no-dot = λ h. absurd (omega arith) }
 mark-plain b (inr (inr e)) = record { no-blank = rw e; no-start = rw e; no-digit = rw e; no-minus = λ h. absurd (omega arith); no-dot = λ h. absurd (omega arith) }
+
+-- A colon.
+colon-plain : NoWord 58
+unfolding blank nameStart letter digit between
+colon-plain = record { no-blank = refl; no-start = refl; no-digit = refl; no-minus = λ h. absurd (omega arith); no-dot = λ h. absurd (omega arith) }
+
+pub colon-reads : (s : List ℕ) (at : ℕ) → at < length s → getD s at 0 ≡ 58 → Reads s at colon (at + 1)
+unfolding mark markToken
+colon-reads s at l b = stepped-reads s at _ (at + 1) (mark-step s at Colon colon l (rw b colon-plain) (rw b) (rw b) refl)
 
 pub no-mark : (m : ℕ) → m ≡ 0 → IsMark m → ⊥
 no-mark m z (inl e) = omega arith

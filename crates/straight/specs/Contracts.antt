@@ -3,7 +3,7 @@
 use Prim.Native.Nat.{ℕ, _+_, _-_, _*_, _^_, _≤_, _<_}
 use mathlib.Core.Path.{_≡_}
 use mathlib.Core.Bool.{Bool, true, false, _||_}
-use lib.Dec.{eqb}
+use lib.Dec.{eqb, ltb}
 use mathlib.Core.Logic.{_⊎_}
 use mathlib.Core.Option.{some}
 use mathlib.Core.List.{List, [], _∷_, map}
@@ -12,13 +12,12 @@ use Rattle.spelling.specs.Bytes.{value, digit, namePart, lower, every, run}
 use Rattle.spelling.specs.Numbers.{valueOf}
 use Rattle.spelling.specs.Names.{named, present}
 use Rattle.spelling.specs.Contracts.{indexOf, nameNumber, keyOf, signedMeant}
-use Rattle.spelling.specs.declared.register.Register.{Register}
-use Rattle.text.specs.Tokens.{Token, register, infront, tokens}
-use Rattle.text.specs.Lines.{Line, readLine}
+use Rattle.text.specs.Tokens.{Token, identifier, register, colon, infront, tokens}
+use Rattle.text.specs.Lines.{Line, indent, readLine}
 use Rattle.text.specs.Places.{restAt, leftAt, endAt}
-use Rattle.instruction.specs.Table.{Place, reg, num, comma-place, opening-place, closing-place, places}
+use Rattle.instruction.specs.Table.{Place, reg, num, comma-place, opening-place, closing-place, places, rowNamed}
 use Rattle.instruction.specs.Operands.{readNumber, markByte, readOperands, readInstruction}
-use Rattle.instruction.specs.Contracts.{formAt, operandsMeant, partsMeant}
+use Rattle.instruction.specs.Contracts.{rowAt, formAt, operandsMeant, partsMeant}
 use Rattle.instruction.specs.declared.instruction.Operands.{Operands}
 use Rattle.image.specs.Assembling.{kindOf, plain}
 use Rattle.straight.specs.declared.operand.RegisterAt.{RegisterAt}
@@ -29,10 +28,12 @@ use Rattle.straight.specs.declared.operand.EndAt.{EndAt}
 use Rattle.straight.specs.declared.operand.EndAt.the-variants.{Is as IsEnd, Other as NoEnd}
 use Rattle.straight.specs.declared.operand.Digits.{Digits}
 use Rattle.straight.specs.declared.line.Word.{Word}
+use Rattle.straight.specs.declared.line.Front.{Front}
+use Rattle.straight.specs.declared.line.Front.the-variants.{Is as IsFront, Other as NoFront}
 use Rattle.straight.specs.declared.line.Tail.{Tail}
 use Rattle.straight.specs.declared.line.Tail.the-variants.{Are, Other as NoTail}
 use Rattle.straight.specs.declared.line.Straight.{Straight}
-use Rattle.straight.specs.declared.line.Straight.the-variants.{Instruction, Empty, Other as NotStraight}
+use Rattle.straight.specs.declared.line.Straight.the-variants.{Instruction, Label, Empty, Other as NotStraight}
 
 -- ---- a token at a place
 
@@ -112,10 +113,37 @@ pub record Behind (s : List ℕ) (at m next : ℕ) : Type 0 where
 
 -- ---- a line
 
--- The key of a word in lower case, and its end; 0: nothing is said.
+-- Where the word that begins at a place ends.
+abbrev pub wordEnd : List ℕ → ℕ → ℕ
+wordEnd s at = at + 1 + run namePart (drop (at + 1) s)
+
+abbrev pub part : List ℕ → ℕ → ℕ → List ℕ
+part s at n = take n (drop at s)
+
+-- The key of a word in lower case, and its end.
 pub record WordIs (s : List ℕ) (at : ℕ) (w : Word) : Type 0 where
-  pub ends : w .end ≡ at + 1 + run namePart (drop (at + 1) s)
-  pub key-is : w .key ≡ keyOf (map lower (take (w .end - at) (drop at s)))
+  pub ends : w .end ≡ wordEnd s at
+  pub key-is : w .key ≡ keyOf (map lower (part s at (w .end - at)))
+
+-- An identifier up to a place, and a colon up to another.
+pub record Labels (s : List ℕ) (at end next : ℕ) : Type 0 where
+  pub name : Reads s at (identifier (part s at (end - at))) end
+  pub mark : Reads s end colon next
+
+-- The place behind a label's colon; 0: nothing is said.
+abbrev pub LabelIs : List ℕ → ℕ → ℕ → ℕ → Type 0
+LabelIs s at end next = (next ≡ 0 → ⊥) → Labels s at end next
+
+-- What a line begins with, behind its margin: nothing, a mnemonic or a label.
+pub data FrontIs (s : List ℕ) (start row form length at : ℕ) : Type 0 where
+  no-front : row ≡ 50 → form ≡ 7 → length ≡ 0 → at ≡ start → FrontIs s start row form length at
+  mnemonic : (u : List ℕ) → row < 50 → rowNamed (map lower u) ≡ some (rowAt row) → formAt form ≡ rowAt row .form → Reads s start (identifier u) at
+      → FrontIs s start row form length at
+  label : row ≡ 50 → form ≡ 7 → 0 < length → Labels s start (start + length) at → FrontIs s start row form length at
+
+abbrev pub Fronts : List ℕ → ℕ → Front → Type 0
+Fronts s start (IsFront row form length at) = FrontIs s start row form length at
+Fronts s start NoFront = Unit {0}
 
 -- The operands of a form fill the rest of a line.
 pub record TailIs (s : List ℕ) (from form : ℕ) (o : Operands) (end : ℕ) : Type 0 where
@@ -125,11 +153,8 @@ pub record TailIs (s : List ℕ) (from form : ℕ) (o : Operands) (end : ℕ) : 
   pub read : readOperands (places (formAt form)) operands ≡ value (operandsMeant (places (formAt form)) o)
   pub ends : end ≡ endAt s from
 
-abbrev pub operandsOf : Register → Register → Register → Bool → ℕ → Operands
-operandsOf a b c n m = record { first = a; second = b; third = c; number = record { negative = n; magnitude = m } }
-
 abbrev pub Tails : List ℕ → ℕ → ℕ → Tail → Type 0
-Tails s from form (Are a b c n m e) = TailIs s from form (operandsOf a b c n m) e
+Tails s from form (Are o e) = TailIs s from form o e
 Tails s from form NoTail = Unit {0}
 
 -- A line is an instruction's, without a label.
@@ -141,12 +166,25 @@ pub record IsInstruction (s : List ℕ) (from row : ℕ) (o : Operands) (end : �
   pub instruction : readInstruction line ≡ value (partsMeant (record { row = row; operands = o }))
   pub ends : end ≡ endAt s from
 
+-- A line is a label, and nothing stands behind it.
+pub record IsLabel (s : List ℕ) (from start length′ end : ℕ) : Type 0 where
+  pub reads : readLine present (restAt s from) ≡ some (record { count = 2; first = identifier (part s start length′) ∷ colon ∷ [] })
+  pub starts : start ≡ from + indent (restAt s from)
+  pub in-text : start + length′ ≤ length s
+  pub ends : end ≡ endAt s from
+
 -- A line has no token.
 pub record IsEmpty (s : List ℕ) (from end : ℕ) : Type 0 where
   pub reads : readLine present (restAt s from) ≡ some (record { count = 0; first = [] })
   pub ends : end ≡ endAt s from
 
 abbrev pub IsStraight : List ℕ → ℕ → Straight → Type 0
-IsStraight s from (Instruction row a b c n m e) = IsInstruction s from row (operandsOf a b c n m) e
+IsStraight s from (Instruction row o e) = IsInstruction s from row o e
+IsStraight s from (Label start length e) = IsLabel s from start length e
 IsStraight s from (Empty e) = IsEmpty s from e
 IsStraight s from NotStraight = Unit {0}
+
+-- What a front and operands up to a line's end make of it.
+unfoldable pub wholeOf : ℕ → ℕ → ℕ → Operands → ℕ → Straight
+wholeOf start row length o end =
+    elim (ltb row 50) [ true ↦ Instruction row o end | false ↦ elim (ltb 0 length) [ true ↦ Label start length end | false ↦ Empty end ] ]

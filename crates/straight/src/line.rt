@@ -1,4 +1,4 @@
-// A line of an instruction without a label, or an empty one, read straight.
+// A line of an instruction without a label, of a label alone, or an empty one, read straight.
 ghost use mathlib.Core.Path.{_≡_};
 ghost use mathlib.Core.Bool.{true};
 ghost use Prim.Native.Nat.{_≤_, _<_};
@@ -6,23 +6,29 @@ ghost use lib.ListN.{length, getD};
 ghost use Rattle.spelling.specs.Bytes.{nameStart};
 ghost use Rattle.instruction.specs.Table.{places};
 ghost use Rattle.instruction.specs.Contracts.{formAt, mnemonicKeys, formNumbers, slotRows};
-ghost use Rattle.straight.specs.Contracts.{Ahead, isNumber, markOf, WordIs, Tails, IsStraight};
+ghost use Rattle.straight.specs.Contracts.{Ahead, isNumber, markOf, wordEnd, WordIs, LabelIs, Fronts, Tails, wholeOf, IsStraight};
+ghost use Rattle.straight.specs.declared.line.Front.the-variants.{Is};
 use crate::operand::EndAt;
 use crate::operand::NumberAt;
 use crate::operand::RegisterAt;
+use instruction::instruction::Operands;
 use instruction::opcode::Row;
 use spelling::bytes::Class;
+use spelling::name::RegisterName;
+use spelling::number::Whole;
 use spelling::register::Register;
 
 pub enum Straight {
     // the mnemonic's row, the operands, and where the line ends
     Instruction {
         row: usize,
-        first: Register,
-        second: Register,
-        third: Register,
-        negative: bool,
-        magnitude: u64,
+        operands: Operands,
+        end: usize,
+    },
+    // a label alone
+    Label {
+        start: usize,
+        length: usize,
         end: usize,
     },
     Empty(usize),
@@ -30,16 +36,21 @@ pub enum Straight {
     Other,
 }
 
-// What stands behind a mnemonic: operands up to the line's end.
-pub(crate) enum Tail {
-    Are {
-        first: Register,
-        second: Register,
-        third: Register,
-        negative: bool,
-        magnitude: u64,
-        end: usize,
+// What a line begins with, and the place behind: a mnemonic's row and form, or 50 and the form without operands; the length of a
+// label, or 0.
+pub(crate) enum Front {
+    Is {
+        row: usize,
+        form: u8,
+        length: usize,
+        at: usize,
     },
+    Other,
+}
+
+// What stands behind that: operands up to the line's end.
+pub(crate) enum Tail {
+    Are { operands: Operands, end: usize },
     Other,
 }
 
@@ -48,17 +59,16 @@ pub(crate) struct Word {
     pub(crate) end: usize,
 }
 
-// The operands of a form, a digit each, the first lowest: 1 `r,`, 2 `n(`, 3 `r)`, 4 `r`, 5 `n`.
+// The operands of a form, a digit each, the first lowest: 1 `r,`, 2 `n(`, 3 `r)`, 4 `r`, 5 `n`. They are looked up: forms follow each
+// other in no order, and a branch for each would often be guessed wrong.
 fn operands_of(form: u8) -> u32
     ensures { λ r. ⌜ Ahead (places (formAt form)) r ⌝ }
 {
-    match form {
-        0 => 0o411,
-        1 | 2 | 5 => 0o511,
-        3 | 4 => 0o321,
-        6 => 0o51,
-        _ => 0,
+    let operands = [0o411, 0o511, 0o511, 0o321, 0o321, 0o511, 0o51];
+    if form < 7 {
+        return operands[form as usize];
     }
+    0
 }
 
 fn is_number(operand: u32) -> bool
@@ -130,20 +140,24 @@ fn read_tail(source: &[u8], from: usize, form: u8) -> Tail
     match crate::operand::end_at(source, at) {
         EndAt::Other => Tail::Other,
         EndAt::Is(end) => Tail::Are {
-            first: registers[0],
-            second: registers[1],
-            third: registers[2],
-            negative,
-            magnitude,
+            operands: Operands {
+                first: registers[0],
+                second: registers[1],
+                third: registers[2],
+                number: Whole {
+                    negative,
+                    magnitude,
+                },
+            },
             end,
         },
     }
 }
 
-// The key in lower case of the word at `at`, and where it ends; key 0 if it has more than seven bytes, or ends the text.
+// The key in lower case of the word at `at`, and where it ends.
 fn lower_word(text: &[u8], at: usize) -> Word
     requires { ⌜ at < length (now text) ⌝ ∗ ⌜ nameStart (getD (now text) at 0) ≡ true ⌝ }
-    ensures { λ r. ⌜ ((r .key ≡ 0 → ⊥) → WordIs (now (text .entry)) at r) ⌝ }
+    ensures { λ r. ⌜ WordIs (now (text .entry)) at r ⌝ }
 {
     let mut sum: u64 = 0;
     let mut scale: u64 = 1;
@@ -156,14 +170,110 @@ fn lower_word(text: &[u8], at: usize) -> Word
                 end: i,
             };
         }
-        if 7 <= i - at {
-            return Word { key: 0, end: i };
+        if i - at < 7 {
+            sum = sum + spelling::number::wide(spelling::bytes::to_lower(b)) * scale;
+            scale = scale * 256;
+        } else {
+            // the key of a longer word is 0
+            sum = 0;
+            scale = 0;
         }
-        sum = sum + spelling::number::wide(spelling::bytes::to_lower(b)) * scale;
-        scale = scale * 256;
         i += 1;
     }
-    Word { key: 0, end: i }
+    Word {
+        key: sum + scale,
+        end: i,
+    }
+}
+
+// The place behind the colon of a label that is the word from `at` to `end`; 0 if it is none. Register names have four bytes at most.
+fn behind_label(source: &[u8], at: usize, end: usize) -> usize
+    requires { ⌜ at < length (now source) ⌝ ∗ ⌜ nameStart (getD (now source) at 0) ≡ true ⌝ ∗ ⌜ end ≡ wordEnd (now source) at ⌝ }
+    ensures { λ r. ⌜ LabelIs (now (source .entry)) at end r ⌝ }
+{
+    if source.len() <= end {
+        return 0;
+    }
+    if source[end] != b':' {
+        return 0;
+    }
+    if end - at <= 4 {
+        match spelling::name::parse_register(&source[at..end]) {
+            RegisterName::Other => return end + 1,
+            _ => return 0,
+        }
+    }
+    end + 1
+}
+
+// A line that begins with no word.
+fn no_word(at: usize) -> Front
+    ensures { λ r. ⌜ r ≡ Is 50 7 0 at ⌝ }
+{
+    Front::Is {
+        row: 50,
+        form: 7,
+        length: 0,
+        at,
+    }
+}
+
+// What a line begins with, behind its margin.
+fn read_front(
+    source: &[u8],
+    at: usize,
+    mnemonics: &[u64; 50],
+    forms: &[u8; 50],
+    slots: &[u8; 293],
+) -> Front
+    requires { ⌜ at ≤ length (now source) ⌝ ∗ ⌜ now mnemonics ≡ mnemonicKeys ⌝ ∗ ⌜ now forms ≡ formNumbers ⌝ ∗ ⌜ now slots ≡ slotRows ⌝ }
+    ensures { λ r. ⌜ Fronts (now (source .entry)) at r ⌝ }
+{
+    if source.len() <= at {
+        return no_word(at);
+    }
+    if !spelling::bytes::is_name_start(source[at]) {
+        return no_word(at);
+    }
+    let word = lower_word(source, at);
+    let end = word.end;
+    match instruction::opcode::find_mnemonic(word.key, mnemonics, slots) {
+        Row::At(row) => Front::Is {
+            row,
+            form: forms[row],
+            length: 0,
+            at: end,
+        },
+        Row::Missing => {
+            let next = behind_label(source, at, end);
+            if next == 0 {
+                return Front::Other;
+            }
+            Front::Is {
+                row: 50,
+                form: 7,
+                length: end - at,
+                at: next,
+            }
+        }
+    }
+}
+
+// A line that begins with such a front, at `start`.
+fn whole(start: usize, row: usize, length: usize, operands: Operands, end: usize) -> Straight
+    ensures { λ r. ⌜ r ≡ wholeOf start row length operands end ⌝ }
+{
+    if row < 50 {
+        return Straight::Instruction {
+            row,
+            operands,
+            end,
+        };
+    }
+    if 0 < length {
+        return Straight::Label { start, length, end };
+    }
+    Straight::Empty(end)
 }
 
 // The line that begins at `from`.
@@ -177,48 +287,17 @@ pub fn read_straight(
     requires { ⌜ from ≤ length (now source) ⌝ ∗ ⌜ now mnemonics ≡ mnemonicKeys ⌝ ∗ ⌜ now forms ≡ formNumbers ⌝ ∗ ⌜ now slots ≡ slotRows ⌝ }
     ensures { λ r. ⌜ IsStraight (now (source .entry)) from r ⌝ }
 {
-    let mut at = spelling::bytes::run_end(source, from, Class::Margin);
-    // no mnemonic: the line is empty or another
-    let mut row: usize = 50;
-    let mut form: u8 = 7;
-    if at < source.len() {
-        if spelling::bytes::is_name_start(source[at]) {
-            let word = lower_word(source, at);
-            if word.key == 0 {
-                return Straight::Other;
-            }
-            match instruction::opcode::find_mnemonic(word.key, mnemonics, slots) {
-                Row::Missing => return Straight::Other,
-                Row::At(found) => {
-                    row = found;
-                    form = forms[found];
-                    at = word.end;
-                }
-            }
-        }
-    }
-    match read_tail(source, at, form) {
-        Tail::Other => Straight::Other,
-        Tail::Are {
-            first,
-            second,
-            third,
-            negative,
-            magnitude,
-            end,
-        } => {
-            if row == 50 {
-                return Straight::Empty(end);
-            }
-            Straight::Instruction {
-                row,
-                first,
-                second,
-                third,
-                negative,
-                magnitude,
-                end,
-            }
-        }
+    let start = spelling::bytes::run_end(source, from, Class::Margin);
+    match read_front(source, start, mnemonics, forms, slots) {
+        Front::Other => Straight::Other,
+        Front::Is {
+            row,
+            form,
+            length,
+            at,
+        } => match read_tail(source, at, form) {
+            Tail::Other => Straight::Other,
+            Tail::Are { operands, end } => whole(start, row, length, operands, end),
+        },
     }
 }

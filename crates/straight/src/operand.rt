@@ -37,40 +37,32 @@ pub(crate) struct Digits {
     pub(crate) end: usize,
 }
 
-// The number of the register that two bytes name; 16 if they name none.
+// The number of the register that two bytes name; 16 if they name none. The last three bits of the first byte tell the letters apart,
+// and what may stand behind each is looked up: a branch for each letter would often be guessed wrong.
 fn two(first: u8, second: u8) -> u8
     ensures { λ r. ⌜ Names (first ∷ second ∷ []) r ⌝ }
 {
-    match first {
-        b'r' => match second {
-            b'0'..=b'9' => second - 48,
-            b'a' => 1,
-            _ => 16,
-        },
-        b'a' => match second {
-            b'0'..=b'4' => second - 37,
-            _ => 16,
-        },
-        b't' => match second {
-            b'0'..=b'2' => second - 40,
-            b'p' => 4,
-            _ => 16,
-        },
-        b's' => match second {
-            b'0'..=b'1' => second - 42,
-            b'p' => 2,
-            _ => 16,
-        },
-        b'g' => match second {
-            b'p' => 3,
-            _ => 16,
-        },
-        b'f' => match second {
-            b'p' => 5,
-            _ => 16,
-        },
-        _ => 16,
+    let slot = (first % 8) as usize;
+    let letters = [0, b'a', b'r', b's', b't', 0, b'f', b'g'];
+    if letters[slot] != first {
+        return 16;
     }
+    // how many digits, and the register of the first
+    let digits = [0, 5, 10, 2, 3, 0, 0, 0];
+    let firsts = [0, 11, 0, 6, 8, 0, 0, 0];
+    if 48 <= second {
+        let digit = second - 48;
+        if digit < digits[slot] {
+            return firsts[slot] + digit;
+        }
+    }
+    // ra; sp, tp, fp and gp
+    let seconds = [0, 0, b'a', b'p', b'p', 0, b'p', b'p'];
+    let others = [16, 16, 1, 2, 4, 16, 5, 3];
+    if second == seconds[slot] {
+        return others[slot];
+    }
+    16
 }
 
 // The number of the register that three bytes name; 16 if they name none.

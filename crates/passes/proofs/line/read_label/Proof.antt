@@ -20,19 +20,22 @@ first ts n = getD-any ts 0 (record { kind = Identifier; start = 0; length = 0 })
 array-copy-out-label : tie.Need-array-copy-out-label
 array-copy-out-label c = search needs
 
+label-alone-requires : tie.Need-label-alone-requires
+label-alone-requires c κs = search needs
+
 returns : tie.Need-returns
 returns c =
-    let b = c .before .before .before .before .before in
+    let b = c .before .before .before .before .before .before in
     let a = b .args in
     let k = sym (b .pre .1 .1 .0) in
-    rw (first (a .line .tokens) (b .pre .0 .kept .nine))
-    (comes-label (a .source .now) (a .line) (a .words) (a .config) (b .pre .0) (two-tokens (a .source .now) (a .line .tokens) (a .line .count) _ k) k (c .if1 .taken))
+    rw (c .label-alone .ensures, first (a .line .tokens) (b .pre .0 .kept .nine))
+    (comes-label (a .source .now) (a .line) (a .words) (a .config) (b .pre .0) (two-tokens (a .source .now) (a .line .tokens) (a .line .count) _ k) k (c .before .if1 .taken))
 
 instruction-fault-requires : tie.Need-instruction-fault-requires
 instruction-fault-requires c κs = let p = c .before .before .before .before .before .pre in (p .0, (omega arith, p .1 .1 .1))
 
-add-t19 : tie.Need-add-t19
-add-t19 c = let h = c .before .before .before .before .before .before .pre .1 .0 in omega (arith, h)
+add-t18 : tie.Need-add-t18
+add-t18 c = let h = c .before .before .before .before .before .before .pre .1 .0 in omega (arith, h)
 
 returns-2 : tie.Need-returns-2
 returns-2 c =
@@ -47,4 +50,4 @@ returns-2 c =
 
 pub read-label-spec : {M : Type 1} → statement M
 read-label-spec =
-    tie.close (tie.spec array-copy-out-label returns instruction-fault-requires add-t19 returns-2)
+    tie.close (tie.spec array-copy-out-label label-alone-requires returns instruction-fault-requires add-t18 returns-2)

@@ -1,5 +1,5 @@
 -- `passes::line::read_line` meets its contract.
-use Rattle.passes.proofs.Steps.{comes-straight, comes-bare}
+use Rattle.passes.proofs.Steps.{comes-straight, comes-alone, comes-bare}
 use borrow.Author.Needs.{needs}
 use Rattle.passes.proofs.line.read_line.Statement.{statement}
 use Rattle.passes.proofs.line.read_line.Tie as tie
@@ -18,6 +18,12 @@ add-unlabelled c = search needs
 
 unlabelled-requires : tie.Need-unlabelled-requires
 unlabelled-requires c κs = search needs
+
+enum-known-start : tie.Need-enum-known-start
+enum-known-start c = search needs
+
+label-alone-requires : tie.Need-label-alone-requires
+label-alone-requires c κs = search needs
 
 enum-known-end-2 : tie.Need-enum-known-end-2
 enum-known-end-2 c = search needs
@@ -44,10 +50,17 @@ returns-2 c =
     let e = c .before .before in
     let r = e .before .before in
     let a = r .before .before .args in
-    rw (c .unlabelled2 .ensures) (comes-bare (a .source .now) (a .at) (a .words) _ (a .config) (rw (e .end2 .given .1) at (r .read-straight .ensures)))
+    rw (c .label-alone .ensures) (comes-alone (a .source .now) (a .at) (a .words) _ (a .config) _ _ (rw (e .start .given .1) at (r .read-straight .ensures)))
 
 returns-3 : tie.Need-returns-3
-returns-3 c = search needs
+returns-3 c =
+    let e = c .before .before in
+    let r = e .before .before in
+    let a = r .before .before .args in
+    rw (c .unlabelled2 .ensures) (comes-bare (a .source .now) (a .at) (a .words) _ (a .config) (rw (e .end2 .given .1) at (r .read-straight .ensures)))
+
+returns-4 : tie.Need-returns-4
+returns-4 c = search needs
 
 pub read-line-spec : {M : Type 1} → statement M
 read-line-spec =
@@ -58,10 +71,13 @@ read-line-spec =
     counted-requires
     add-unlabelled
     unlabelled-requires
+    enum-known-start
+    label-alone-requires
     enum-known-end-2
     unlabelled-requires-2
     enum-told
     read-record-requires
     returns
     returns-2
-    returns-3)
+    returns-3
+    returns-4)

@@ -1,11 +1,12 @@
 -- `straight::line::lower_word` meets its contract. The loop's invariant: the bytes so far are parts of a name, and their key.
-use Prim.Native.Nat.{_-_, _*_, _^_, _≤_, _<_}
-use mathlib.Core.Path.{refl, sym, _∙_}
+use Prim.Native.Nat.{_+_, _-_, _*_, _^_, _≤_, _<_}
+use mathlib.Core.Path.{sym, _∙_}
+use mathlib.Core.Logic.{⊎-elim}
 use native.Mathlib.Omega.{arith}
 use lib.ListN.{length, getD}
 use borrow.Author.Needs.{needs}
 use borrow.Author.Tests.{not-true, not-false}
-use Rattle.straight.proofs.Lines.{Spelling, spelling-begin, spelling-more, spelling-ends, scale-small, scale-fits, product-small, lower-small}
+use Rattle.straight.proofs.Lines.{Spelling, spelling-begin, spelling-more, spelling-long, spelling-ends, scale-small, key-fits, product-small, lower-small}
 use Rattle.straight.proofs.line.lower_word.Statement.{statement}
 use Rattle.straight.proofs.line.lower_word.Tie as tie
 
@@ -24,24 +25,21 @@ shared-slice-read-b c = search needs
 is-name-part-requires : tie.Need-is-name-part-requires Inv-loop μ-loop
 is-name-part-requires c κs = search needs
 
+fits : (k : tie.At-loop Inv-loop μ-loop) → let b = k .before .before in k .loop .sum + k .loop .scale < 2 ^ 58
+fits k = let b = k .before .before in key-fits (b .args .text .now) (b .args .at) (k .loop .sum) (k .loop .scale) (k .loop .i) (k .loop .inv)
+
 add-t12 : tie.Need-add-t12 Inv-loop μ-loop
-add-t12 c =
-    let k = c .before .before .before .before in
-    let b = k .before .before in
-    omega (arith, scale-fits (b .args .text .now) (b .args .at) (k .loop .sum) (k .loop .scale) (k .loop .i) (k .loop .inv), k .loop .inv .small)
+add-t12 c = omega (arith, fits (c .before .before .before .before))
 
 returns : tie.Need-returns Inv-loop μ-loop
-returns c = λ nonzero.
+returns c =
     let p = c .before in
-    let l = p .before .before in
-    let b = l .before .before .before in
-    spelling-ends (b .args .text .now) (b .args .at) (l .before .loop .sum) (l .before .loop .scale) (l .before .loop .i) (l .before .loop .inv) (l .loop-test .taken) (sym (p .is-name-part .ensures) ∙ not-true _ (c .if1 .taken)) (b .pre .1)
+    let k = p .before .before .before in
+    let b = k .before .before in
+    spelling-ends (b .args .text .now) (b .args .at) (k .loop .sum) (k .loop .scale) (k .loop .i) (k .loop .inv) (b .pre .0) (λ _. sym (p .is-name-part .ensures) ∙ not-true _ (c .if1 .taken)) (b .pre .1)
 
 sub-if2 : tie.Need-sub-if2 Inv-loop μ-loop
 sub-if2 c = c .before .before .before .before .loop .inv .on
-
-returns-2 : tie.Need-returns-2 Inv-loop μ-loop
-returns-2 c = λ nonzero. absurd (nonzero refl)
 
 to-lower-requires : tie.Need-to-lower-requires Inv-loop μ-loop
 to-lower-requires c κs = search needs
@@ -57,10 +55,11 @@ bounds c =
     let p = e .before .before in
     let k = p .before .before .before in
     let b = k .before .before in
-    let i = k .loop .i in (
-      scale-small (b .args .text .now) (b .args .at) (k .loop .sum) (k .loop .scale) i (k .loop .inv) (e .if2 .left),
+    let i = k .loop .i in
+    let short = k .loop .inv .short (omega (arith, e .if2 .taken)) in (
+      scale-small (b .args .text .now) (b .args .at) (k .loop .sum) (k .loop .scale) i short (e .if2 .taken),
       (
-        k .loop .inv .small,
+        short .small,
         product-small (c .wide .result) (k .loop .scale) (omega (arith, c .wide .ensures, c .before .to-lower .ensures, lower-small (getD (b .args .text .now) i 0) (omega (arith, p .before .shared-slice-known2 .given i)))),
       ),
     )
@@ -82,18 +81,27 @@ loop-less c = search needs
 
 loop-again : tie.Need-loop-again Inv-loop μ-loop
 loop-again c =
-    let e = c .before .before in
-    let p = e .before .before in
+    let e = c .before in
+    let p = e .before in
     let l = p .before .before in
     let k = l .before in
     let b = k .before .before in
     let i = k .loop .i in
-    rw (c .wide .ensures ∙ c .before .to-lower .ensures)
-    (spelling-more (b .args .text .now) (b .args .at) (k .loop .sum) (k .loop .scale) i (k .loop .inv) (l .loop-test .taken) (e .if2 .left)
-    (sym (p .is-name-part .ensures) ∙ not-false _ (e .before .if1 .left)) (omega (arith, p .before .shared-slice-known2 .given i)))
+    let part = sym (p .is-name-part .ensures) ∙ not-false _ (e .if1 .left) in
+    ⊎-elim
+    (λ w. rw (w .3, w .4, w .2 .ensures ∙ w .1 .ensures)
+    (spelling-more (b .args .text .now) (b .args .at) (k .loop .sum) (k .loop .scale) i (k .loop .inv) (l .loop-test .taken) part (w .0 .taken) (omega (arith, p .before .shared-slice-known2 .given i))))
+    (λ w. rw (w .1, w .2) (spelling-long (b .args .text .now) (b .args .at) (k .loop .sum) (k .loop .scale) i (k .loop .inv) (l .loop-test .taken) part (omega (arith, w .0 .left))))
+    (c .if2 .came)
 
-returns-3 : tie.Need-returns-3 Inv-loop μ-loop
-returns-3 c = λ nonzero. absurd (nonzero refl)
+add-t16 : tie.Need-add-t16 Inv-loop μ-loop
+add-t16 c = omega (arith, fits (c .before))
+
+returns-2 : tie.Need-returns-2 Inv-loop μ-loop
+returns-2 c =
+    let k = c .before in
+    let b = k .before .before in
+    spelling-ends (b .args .text .now) (b .args .at) (k .loop .sum) (k .loop .scale) (k .loop .i) (k .loop .inv) (b .pre .0) (λ h. absurd (omega (arith, c .loop-test .left))) (b .pre .1)
 
 pub lower-word-spec : {M : Type 1} → statement M
 lower-word-spec =
@@ -107,7 +115,6 @@ lower-word-spec =
     add-t12
     returns
     sub-if2
-    returns-2
     to-lower-requires
     wide-requires
     mul-sum
@@ -116,4 +123,5 @@ lower-word-spec =
     add-i
     loop-less
     loop-again
-    returns-3)
+    add-t16
+    returns-2)
