@@ -177,7 +177,7 @@ module _ {s : List ℕ} {old table : List Label} {p : Pass} (w : Walking s old t
   unfolding most-bytes
   walking-enterable found =
       let k = w .standing .sound found in
-      record { in-text = k .in-text; short = k .short; few = omega (arith, k .short, k .line-fits, k .few-labels) }
+      record { in-text = k .in-text; short = k .short; few = omega (arith, k .short, k .line-fits, k .few-labels); near = k .near }
 
   pub walking-on : {table′ : List Label} {e : Checked} {r : Pass} → p .found ≡ true → Enters s (unlinked (p .labels) table) (p .labels) (p .label) (unlinked (countBehind (p .labels) e) table′) e
       → Tree s table′ (countBehind (p .labels) e) → GoesOn s p e r → Walking s old table′ r

@@ -1,8 +1,9 @@
 -- Looking for a spelling in the tree that the first entries of a table are, and entering a label into it. Nothing here depends on what a spelling's turns or its hash are.
 --     Way            the way of a spelling to an entry.        Seeking        where a search stands
 --     seek-begin, seek-visit, seek-end       how a search begins, goes on behind an entry, and what it comes to
-use Prim.Native.Nat.{ℕ, zero, suc, _+_, _-_, _*_, _/_, _%_, _≤_, _<_}
+use Prim.Native.Nat.{ℕ, zero, suc, _+_, _-_, _/_, _%_, _≤_, _<_}
 use mathlib.Core.Path.{_≡_, refl, sym, ap, ap₂, subst, _∙_}
+use mathlib.Core.Logic.{_⊎_, inl, inr, ⊎-elim}
 use native.Mathlib.Omega.{arith}
 use native.Mathlib.Numerals.{add-one}
 use mathlib.Core.Bool.{Bool, true, false, true≢false}
@@ -19,43 +20,69 @@ use Rattle.labels.specs.declared.label.Label.{Label}
 use Rattle.labels.specs.declared.tree.Turns.{Turns}
 use Rattle.labels.specs.declared.tree.Search.{Search}
 use Rattle.labels.specs.Contracts.{InText, spelled, noLabel, anyNamed, Enters}
-use Rattle.labels.specs.Tree.{plain, unlinked, link, linked, firstTurns, turned, isRight, keyOf, entryFor, hits, begun, endedAt, passed, visited, Finds, here, there, Tree, Enterable, joined, Searched, Visitable}
-use Rattle.labels.proofs.Hashing.{visited-hit, visited-last, visited-on}
+use Rattle.labels.specs.Tree.{plain, unlinked, held, link, raised, linked, firstTurns, turned, wayOf, keyOf, entryFor, hits, begun, endedAt, passed, visited, Finds, here, there, Tree, Enterable, joined, Searched, Visitable}
+use Rattle.labels.proofs.Hashing.{parity, held-odd, raised-odd, held-even, raised-even, link-low, linked-low, link-high, linked-high, visited-hit, visited-last, visited-on}
 use Rattle.labels.proofs.Named.{spelled-long, one-named, none-named, enters-known, enters-new, enters-full}
 
 -- ---- entries
 
-module _ (e : Label) (to : ℕ) (h : to < 2097152) where
-  linked-adds : (b : Bool) → link e b ≡ 0 → link (linked e b to) b ≡ to
-  unfolding link linked
-  linked-adds true f = omega arith
-  linked-adds false f = omega arith
+none-held : (p b : ℕ) → p < 2097152 → held p b ≡ 0
+none-held p b h = parity b (λ v. omega (arith, held-odd p b v)) (λ v. omega (arith, held-even p b v))
 
-  -- What it led to on the other side it leads to still,
-  linked-keeps : (b c : Bool) → link e b ≡ 0 → (k : ℕ) → (k ≡ 0 → ⊥) → link e c ≡ k → link (linked e b to) c ≡ k
-  unfolding link linked
-  linked-keeps true true f k n g = absurd (n (omega arith))
-  linked-keeps true false f k n g = omega arith
-  linked-keeps false true f k n g = omega arith
-  linked-keeps false false f k n g = absurd (n (omega arith))
+-- An entry that leads to none by a way is to lead to another. By each way it leads where it led, or it led to none and leads to that other.
+abbrev Becomes : ℕ → ℕ → ℕ → Type 0
+Becomes to k k′ = (k′ ≡ k) ⊎ ((k ≡ 0) × (k′ ≡ to))
+
+module _ (p to : ℕ) (h : to < 2097152) where
+  low-kept : (b : ℕ) → (p + raised to b) % 2097152 ≡ p % 2097152
+  low-kept b = parity b (λ v. omega (arith, raised-odd to b v)) (λ v. omega (arith, raised-even to b v))
+
+  held-adds : (b : ℕ) → held p b ≡ 0 → held (p + raised to b) b ≡ to
+  held-adds b f =
+      parity
+      b
+      (λ v. omega (arith, raised-odd to b v, held-odd p b v, held-odd (p + raised to b) b v))
+      (λ v. omega (arith, raised-even to b v, held-even p b v, held-even (p + raised to b) b v))
+
+  held-becomes : (b c : ℕ) → held p b ≡ 0 → Becomes to (held p c) (held (p + raised to b) c)
+  held-becomes b c f =
+      parity
+      b
+      (λ v. let r = raised-odd to b v in let g = held-odd p b v in
+      parity c (λ w. inr (omega (arith, held-odd p c w), omega (arith, held-odd (p + raised to b) c w))) (λ w. inl (omega (arith, held-even p c w, held-even (p + raised to b) c w))))
+      (λ v. let r = raised-even to b v in let g = held-even p b v in
+      parity c (λ w. inl (omega (arith, held-odd p c w, held-odd (p + raised to b) c w))) (λ w. inr (omega (arith, held-even p c w), omega (arith, held-even (p + raised to b) c w))))
+
+module _ (e : Label) (to : ℕ) (h : to < 2097152) where
+  linked-adds : (b : ℕ) → link e b ≡ 0 → link (linked e b to) b ≡ to
+  linked-adds b f =
+      split
+      b
+      2
+      (λ v. rw (linked-low, link-low) (held-adds (e .start) to h b (rw link-low at f)))
+      (λ v. rw (linked-high, link-high) (held-adds (e .address) to h b (rw link-high at f)))
+
+  linked-becomes : (b c : ℕ) → link e b ≡ 0 → Becomes to (link e c) (link (linked e b to) c)
+  linked-becomes b c f =
+      split
+      b
+      2
+      (λ v. rw linked-low (split c 2 (λ w. rw (link-low, link-low) (held-becomes (e .start) to h b c (rw link-low at f))) (λ w. rw (link-high, link-high) (inl refl))))
+      (λ v. rw linked-high (split c 2 (λ w. rw (link-low, link-low) (inl refl)) (λ w. rw (link-high, link-high) (held-becomes (e .address) to h b c (rw link-high at f)))))
+
+  -- What it led to by another way it leads to still,
+  linked-keeps : (b c : ℕ) → link e b ≡ 0 → (k : ℕ) → (k ≡ 0 → ⊥) → link e c ≡ k → link (linked e b to) c ≡ k
+  linked-keeps b c f k n g = ⊎-elim (λ x. x ∙ g) (λ x. absurd (n (sym g ∙ x .0))) (linked-becomes b c f)
 
   -- and to nothing else.
-  linked-only : (b c : Bool) → link e b ≡ 0 → (k : ℕ) → (to ≡ k → ⊥) → link (linked e b to) c ≡ k → link e c ≡ k
-  unfolding link linked
-  linked-only true true f k n g = absurd (n (omega arith))
-  linked-only true false f k n g = omega arith
-  linked-only false true f k n g = omega arith
-  linked-only false false f k n g = absurd (n (omega arith))
+  linked-only : (b c : ℕ) → link e b ≡ 0 → (k : ℕ) → (to ≡ k → ⊥) → link (linked e b to) c ≡ k → link e c ≡ k
+  linked-only b c f k n g = ⊎-elim (λ x. sym x ∙ g) (λ x. absurd (n (sym (x .1) ∙ g))) (linked-becomes b c f)
 
-  plain-linked : (b : Bool) → plain (linked e b to) ≡ plain e
-  unfolding linked
-  plain-linked true = let f : (e .start + 4398046511104 * to) % 2097152 ≡ e .start % 2097152 = omega arith in rw f
-  plain-linked false = let f : (e .start + 2097152 * to) % 2097152 ≡ e .start % 2097152 = omega arith in rw f
+  plain-linked : (b : ℕ) → plain (linked e b to) ≡ plain e
+  plain-linked b = split b 2 (λ v. rw (linked-low, low-kept (e .start) to h b)) (λ v. rw (linked-high, low-kept (e .address) to h b))
 
-  key-linked : (b : Bool) → linked e b to .length ≡ e .length
-  unfolding linked
-  key-linked true = refl
-  key-linked false = refl
+  key-linked : (b : ℕ) → linked e b to .length ≡ e .length
+  key-linked b = split b 2 (λ v. rw linked-low) (λ v. rw linked-high)
 
 -- ---- a table with labels for its first entries
 
@@ -95,7 +122,7 @@ unlinked-more n t h = rw (add-one n) (go n t h)
 record Grown (t : List Label) (n : ℕ) (t′ : List Label) : Type 0 where
   plains : (i : ℕ) → i < n → plain (getD t′ i noLabel) ≡ plain (getD t i noLabel)
   keys : (i : ℕ) → i < n → getD t′ i noLabel .length ≡ getD t i noLabel .length
-  links : (i : ℕ) → i < n → (c : Bool) (l : ℕ) → (l ≡ 0 → ⊥) → link (getD t i noLabel) c ≡ l → link (getD t′ i noLabel) c ≡ l
+  links : (i : ℕ) → i < n → (c l : ℕ) → (l ≡ 0 → ⊥) → link (getD t i noLabel) c ≡ l → link (getD t′ i noLabel) c ≡ l
 
 module _ (s : List ℕ) (u : List ℕ) where
   -- Whether the entry at a place is of the spelling.
@@ -114,14 +141,14 @@ module _ (s : List ℕ) (u : List ℕ) where
     -- The way of the spelling from the first entry to another, past entries that are not of it.
     pub data Way : ℕ → Turns → Type 0 where
       start : Way 1 (firstTurns u)
-      step : {i l : ℕ} {z : Turns} → Way (suc i) z → i < n → hit t i ≡ false → link (getD t i noLabel) (isRight z) ≡ l → Way l (turned u z)
+      step : {i l : ℕ} {z : Turns} → Way (suc i) z → i < n → hit t i ≡ false → link (getD t i noLabel) (wayOf z) ≡ l → Way l (turned u z)
 
     -- If the spelling is found, it is found from any entry of its way on.
-    past : {m : ℕ} {z : Turns} → Finds s t n u m z → (i l : ℕ) → m ≡ suc i → hit t i ≡ false → link (getD t i noLabel) (isRight z) ≡ l → Finds s t n u l (turned u z)
+    past : {m : ℕ} {z : Turns} → Finds s t n u m z → (i l : ℕ) → m ≡ suc i → hit t i ≡ false → link (getD t i noLabel) (wayOf z) ≡ l → Finds s t n u l (turned u z)
     past (here {i = j} h y) i l e miss f = let k : j ≡ i = omega arith in no-both (rw k at y) miss
     past (there {i = j} {l = m} {z = z} h g x) i l e miss f =
         let k : j ≡ i = omega arith in
-        subst (λ (p : ℕ). Finds s t n u p (turned u z)) (sym g ∙ ap (λ (x : ℕ). link (getD t x noLabel) (isRight z)) k ∙ f) x
+        subst (λ (p : ℕ). Finds s t n u p (turned u z)) (sym g ∙ ap (λ (x : ℕ). link (getD t x noLabel) (wayOf z)) k ∙ f) x
 
     way-finds : {l : ℕ} {z : Turns} → Way l z → Finds s t n u 1 (firstTurns u) → Finds s t n u l z
     way-finds start x = x
@@ -143,12 +170,12 @@ module _ (s : List ℕ) (u : List ℕ) where
 
       finds-grown : {l : ℕ} {z : Turns} → Finds s t n u l z → Finds s t′ (suc n) u l z
       finds-grown (here {i = i} h y) = here {i = i} (omega arith) (hit-grown i h ∙ y)
-      finds-grown (there {i = i} {l = l} {z = z} h f x) = there {i = i} (omega arith) (g .links i h (isRight z) l (not-nowhere x) f) (finds-grown x)
+      finds-grown (there {i = i} {l = l} {z = z} h f x) = there {i = i} (omega arith) (g .links i h (wayOf z) l (not-nowhere x) f) (finds-grown x)
 
       -- What is found from an entry of the way on is found.
       way-back : {l : ℕ} {z : Turns} → Way l z → (l ≡ 0 → ⊥) → Finds s t′ (suc n) u l z → Finds s t′ (suc n) u 1 (firstTurns u)
       way-back start nz x = x
-      way-back (step {i = i} {l = l} {z = z} w h miss f) nz x = way-back w (λ e. omega arith) (there {i = i} (omega arith) (g .links i h (isRight z) l nz f) x)
+      way-back (step {i = i} {l = l} {z = z} w h miss f) nz x = way-back w (λ e. omega arith) (there {i = i} (omega arith) (g .links i h (wayOf z) l nz f) x)
 
 -- ---- searches
 
@@ -164,7 +191,7 @@ pub record AtEntry (s : List ℕ) (t : List Label) (n : ℕ) (l : Label) (q : Se
 pub data Lost (s : List ℕ) (t : List Label) (n : ℕ) (l : Label) (q : Search) : Type 0 where
   none-there : n ≡ 0 → q .last ≡ n → q .parent ≡ entryFor (spelled s l) l → Lost s t n l q
   behind : (z : Turns) → q .last < n → Way s (spelled s l) t n (suc (q .last)) z → hit s (spelled s l) t (q .last) ≡ false
-      → link (getD t (q .last) noLabel) (isRight z) ≡ 0 → q .parent ≡ linked (getD t (q .last) noLabel) (isRight z) (n + 1) → Lost s t n l q
+      → link (getD t (q .last) noLabel) (wayOf z) ≡ 0 → q .parent ≡ linked (getD t (q .last) noLabel) (wayOf z) (n + 1) → Lost s t n l q
 
 -- Where a search stands.
 pub record Seeking (s : List ℕ) (t : List Label) (n : ℕ) (l : Label) (q : Search) : Type 0 where
@@ -183,7 +210,8 @@ module _ (s : List ℕ) (t : List Label) (n : ℕ) (l : Label) (tree : Tree s t 
   entry-plain =
       let a : l .start % 2097152 ≡ l .start = omega (arith, ok .in-text, ok .short) in
       let b : keyOf u % 2097152 ≡ l .length = omega (arith, spelled-long s l (ok .in-text), ok .in-text, ok .short) in
-      λ i. record { start = a i; length = b i; address = l .address }
+      let c : l .address % 2097152 ≡ l .address = omega (arith, ok .near) in
+      λ i. record { start = a i; length = b i; address = c i }
 
   pub seek-begin : Seeking s t n l (begun s n l)
   seek-begin =
@@ -207,25 +235,26 @@ module _ (s : List ℕ) (t : List Label) (n : ℕ) (l : Label) (tree : Tree s t 
       inside = k .at-entry more .inside
 
       pub seek-visitable : Visitable s q e
-      unfolding link
+      unfolding link held
       seek-visitable =
           record {
             label-in-text = subst (InText s) (sym (ap plain (k .entry-is) ∙ entry-plain)) (ok .in-text);
             entry-in-text = tree .in-text (q .next) inside;
-            low = lead (e .start / 4398046511104) refl;
+            low = lead 1 (e .start / 4398046511104) refl;
+            low-address = lead 3 (e .address / 4398046511104) refl;
             few = rw (k .count-is) (ok .few);
           }
         where
-          lead : (m : ℕ) → link e true ≡ m → m ≤ 1048576
-          lead zero f = omega arith
-          lead (suc j) f = let h = tree .onward (q .next) inside true j f in omega (arith, h .1, ok .few)
+          lead : (c m : ℕ) → link e c ≡ m → m ≤ 1048576
+          lead c zero f = omega arith
+          lead c (suc j) f = let h = tree .onward (q .next) inside c j f in omega (arith, h .1, ok .few)
 
       hit-here : hits s e (q .entry .length) (spelled s (plain (q .entry))) ≡ hit s u t (q .next)
       unfolding entryFor
       hit-here = ap₂ (λ (m : ℕ) (w : List ℕ). hits s e m w) (ap (λ (v : Label). v .length) (k .entry-is)) spelled-is
 
       pub seek-visit : Seeking s t n l (visited s q e)
-      seek-visit = by-test (hit s u t (q .next)) found (λ miss. passing miss (link e (isRight (q .turns))) refl)
+      seek-visit = by-test (hit s u t (q .next)) found (λ miss. passing miss (link e (wayOf (q .turns))) refl)
         where
           found : hit s u t (q .next) ≡ true → Seeking s t n l (visited s q e)
           found h = subst (Seeking s t n l) (sym (visited-hit s q e (hit-here ∙ h))) (record {
@@ -236,19 +265,19 @@ module _ (s : List ℕ) (t : List Label) (n : ℕ) (l : Label) (tree : Tree s t 
             is-lost = λ _ f. absurd (true≢false f);
           })
 
-          passing : hit s u t (q .next) ≡ false → (m : ℕ) → link e (isRight (q .turns)) ≡ m → Seeking s t n l (visited s q e)
+          passing : hit s u t (q .next) ≡ false → (m : ℕ) → link e (wayOf (q .turns)) ≡ m → Seeking s t n l (visited s q e)
           passing miss zero f = subst (Seeking s t n l) (sym (visited-last s q e (hit-here ∙ miss) f)) (record {
             entry-is = k .entry-is;
             count-is = k .count-is;
             at-entry = λ g. absurd (true≢false (sym g));
             is-known = λ g. absurd (true≢false (sym g));
-            is-lost = λ _ _. behind (q .turns) inside (k .at-entry more .way) miss f (ap (λ (m : ℕ). linked e (isRight (q .turns)) (m + 1)) (k .count-is));
+            is-lost = λ _ _. behind (q .turns) inside (k .at-entry more .way) miss f (ap (λ (m : ℕ). linked e (wayOf (q .turns)) (m + 1)) (k .count-is));
           })
           passing miss (suc i) f = subst (Seeking s t n l) (sym (visited-on s q e (hit-here ∙ miss) i f)) (record {
             entry-is = k .entry-is;
             count-is = k .count-is;
             at-entry = λ _. record {
-              inside = tree .onward (q .next) inside (isRight (q .turns)) i f .1;
+              inside = tree .onward (q .next) inside (wayOf (q .turns)) i f .1;
               way = subst (λ (w : List ℕ). Way s u t n (suc i) (turned w (q .turns))) (sym spelled-is) (step (k .at-entry more .way) inside miss f);
             };
             is-known = λ g. absurd (true≢false (sym g));
@@ -257,7 +286,7 @@ module _ (s : List ℕ) (t : List Label) (n : ℕ) (l : Label) (tree : Tree s t 
 
       -- An entry less is left.
       pub seek-nearer : left n (visited s q e) < left n q
-      seek-nearer = by-test (hit s u t (q .next)) found (λ miss. passing miss (link e (isRight (q .turns))) refl)
+      seek-nearer = by-test (hit s u t (q .next)) found (λ miss. passing miss (link e (wayOf (q .turns))) refl)
         where
           now : left n q ≡ n - q .next
           now = rw more
@@ -265,10 +294,10 @@ module _ (s : List ℕ) (t : List Label) (n : ℕ) (l : Label) (tree : Tree s t 
           found : hit s u t (q .next) ≡ true → left n (visited s q e) < left n q
           found h = rw (visited-hit s q e (hit-here ∙ h)) (omega (arith, now, inside))
 
-          passing : hit s u t (q .next) ≡ false → (m : ℕ) → link e (isRight (q .turns)) ≡ m → left n (visited s q e) < left n q
+          passing : hit s u t (q .next) ≡ false → (m : ℕ) → link e (wayOf (q .turns)) ≡ m → left n (visited s q e) < left n q
           passing miss zero f = rw (visited-last s q e (hit-here ∙ miss) f) (omega (arith, now, inside))
           passing miss (suc i) f =
-              let h = tree .onward (q .next) inside (isRight (q .turns)) i f in
+              let h = tree .onward (q .next) inside (wayOf (q .turns)) i f in
               rw (visited-on s q e (hit-here ∙ miss) i f) (omega (arith, now, inside, h .0, h .1))
 
     -- ---- what it comes to
@@ -301,17 +330,17 @@ module _ (s : List ℕ) (t : List Label) (n : ℕ) (l : Label) (tree : Tree s t 
         record Joins : Type 0 where
           new : getD t′ n noLabel ≡ entryFor u l
           grown : Grown t n t′
-          onward : (i : ℕ) → i < n → (c : Bool) (j : ℕ) → link (getD t′ i noLabel) c ≡ suc j → (i < j) × (j < suc n)
+          onward : (i : ℕ) → i < n → (c j : ℕ) → link (getD t′ i noLabel) c ≡ suc j → (i < j) × (j < suc n)
           later : (i : ℕ) → n < i → getD t′ i noLabel ≡ getD t i noLabel
           leads : Finds s t′ (suc n) u 1 (firstTurns u)
 
         long : length t′ ≡ length t
         long = length-set (set t n (q .entry)) (q .last) (q .parent) ∙ length-set t n (q .entry)
 
-        entry-links : (c : Bool) → link (entryFor u l) c ≡ 0
-        unfolding link entryFor
-        entry-links true = omega (arith, ok .in-text, ok .short)
-        entry-links false = omega (arith, ok .in-text, ok .short)
+        entry-links : (c : ℕ) → link (entryFor u l) c ≡ 0
+        unfolding entryFor
+        entry-links c =
+            split c 2 (λ v. rw link-low (none-held (l .start) c (omega (arith, ok .in-text, ok .short)))) (λ v. rw link-high (none-held (l .address) c (ok .near)))
 
         hit-new : getD t′ n noLabel ≡ entryFor u l → hit s u t′ n ≡ true
         unfolding entryFor
@@ -352,14 +381,14 @@ module _ (s : List ℕ) (t : List Label) (n : ℕ) (l : Label) (tree : Tree s t 
             e : getD t′ n noLabel ≡ entryFor u l
             e = getD-set-other (set t n (q .entry)) (q .last) n (q .parent) noLabel (λ v. omega arith) ∙ getD-set-same t n (q .entry) noLabel room ∙ k .entry-is
 
-            parent : getD t′ (q .last) noLabel ≡ linked p (isRight z) (n + 1)
+            parent : getD t′ (q .last) noLabel ≡ linked p (wayOf z) (n + 1)
             parent = getD-set-same (set t n (q .entry)) (q .last) (q .parent) noLabel (rw (length-set t n (q .entry)) (omega arith)) ∙ g
 
             other : (i : ℕ) → i < n → (i ≡ q .last → ⊥) → getD t′ i noLabel ≡ getD t i noLabel
             other i d v = getD-set-other (set t n (q .entry)) (q .last) i (q .parent) noLabel v ∙ getD-set-other t n i (q .entry) noLabel (λ x. omega arith)
 
-            at-last : link (getD t′ (q .last) noLabel) (isRight z) ≡ n + 1
-            at-last = ap (λ (v : Label). link v (isRight z)) parent ∙ linked-adds p (n + 1) small (isRight z) f
+            at-last : link (getD t′ (q .last) noLabel) (wayOf z) ≡ n + 1
+            at-last = ap (λ (v : Label). link v (wayOf z)) parent ∙ linked-adds p (n + 1) small (wayOf z) f
 
             -- At the parent, or elsewhere.
             either : (X : ℕ → Type 0) → X (q .last) → ((i : ℕ) → (i ≡ q .last → ⊥) → X i) → (i : ℕ) → X i
@@ -368,18 +397,18 @@ module _ (s : List ℕ) (t : List Label) (n : ℕ) (l : Label) (tree : Tree s t 
             more : Grown t n t′
             more = record {
               plains = either (λ i. i < n → plain (getD t′ i noLabel) ≡ plain (getD t i noLabel))
-                  (λ _. ap plain parent ∙ plain-linked p (n + 1) small (isRight z)) (λ i v d. ap plain (other i d v));
+                  (λ _. ap plain parent ∙ plain-linked p (n + 1) small (wayOf z)) (λ i v d. ap plain (other i d v));
               keys = either (λ i. i < n → getD t′ i noLabel .length ≡ getD t i noLabel .length)
-                  (λ _. ap (λ (x : Label). x .length) parent ∙ key-linked p (n + 1) small (isRight z)) (λ i v d. ap (λ (x : Label). x .length) (other i d v));
-              links = either (λ i. i < n → (c : Bool) (m : ℕ) → (m ≡ 0 → ⊥) → link (getD t i noLabel) c ≡ m → link (getD t′ i noLabel) c ≡ m)
-                  (λ _ c m nz x. ap (λ (y : Label). link y c) parent ∙ linked-keeps p (n + 1) small (isRight z) c f m nz x)
+                  (λ _. ap (λ (x : Label). x .length) parent ∙ key-linked p (n + 1) small (wayOf z)) (λ i v d. ap (λ (x : Label). x .length) (other i d v));
+              links = either (λ i. i < n → (c m : ℕ) → (m ≡ 0 → ⊥) → link (getD t i noLabel) c ≡ m → link (getD t′ i noLabel) c ≡ m)
+                  (λ _ c m nz x. ap (λ (y : Label). link y c) parent ∙ linked-keeps p (n + 1) small (wayOf z) c f m nz x)
                   (λ i v d c m nz x. ap (λ (y : Label). link y c) (other i d v) ∙ x);
             }
 
-            onwards : (i : ℕ) → i < n → (c : Bool) (j : ℕ) → link (getD t′ i noLabel) c ≡ suc j → (i < j) × (j < suc n)
-            onwards = either (λ i. i < n → (c : Bool) (j : ℕ) → link (getD t′ i noLabel) c ≡ suc j → (i < j) × (j < suc n))
+            onwards : (i : ℕ) → i < n → (c j : ℕ) → link (getD t′ i noLabel) c ≡ suc j → (i < j) × (j < suc n)
+            onwards = either (λ i. i < n → (c j : ℕ) → link (getD t′ i noLabel) c ≡ suc j → (i < j) × (j < suc n))
                 (λ d c j x. by-test (eqb (n + 1) (suc j)) (λ v. let w = eqb-true (n + 1) (suc j) v in (omega arith, omega arith))
-                (λ v. wider (tree .onward (q .last) d c j (linked-only p (n + 1) small (isRight z) c f (suc j) (eqb-false (n + 1) (suc j) v) (ap (λ (y : Label). link y c) (sym parent) ∙ x)))))
+                (λ v. wider (tree .onward (q .last) d c j (linked-only p (n + 1) small (wayOf z) c f (suc j) (eqb-false (n + 1) (suc j) v) (ap (λ (y : Label). link y c) (sym parent) ∙ x)))))
                 (λ i v d c j x. wider (tree .onward i d c j (ap (λ (y : Label). link y c) (sym (other i d v)) ∙ x)))
 
         module _ (m : Joins) where
@@ -394,7 +423,7 @@ module _ (s : List ℕ) (t : List Label) (n : ℕ) (l : Label) (tree : Tree s t 
           is-tree = record {
             in-table = rw long room;
             in-text = each (λ i. InText s (plain (getD t′ i noLabel))) (subst (InText s) (sym joined-plain) (ok .in-text)) (λ i d. subst (InText s) (sym (m .grown .plains i d)) (tree .in-text i d));
-            onward = each (λ i. (c : Bool) (j : ℕ) → link (getD t′ i noLabel) c ≡ suc j → (i < j) × (j < suc n))
+            onward = each (λ i. (c j : ℕ) → link (getD t′ i noLabel) c ≡ suc j → (i < j) × (j < suc n))
                 (λ c j x. absurd (let w = sym x ∙ ap (λ (y : Label). link y c) (m .new) ∙ entry-links c in omega arith)) (m .onward);
             found = each (λ i. Finds s t′ (suc n) (spelled s (plain (getD t′ i noLabel))) 1 (firstTurns (spelled s (plain (getD t′ i noLabel)))))
                 (subst (λ (x : Label). Finds s t′ (suc n) (spelled s x) 1 (firstTurns (spelled s x))) (sym joined-plain) (m .leads))

@@ -1,4 +1,4 @@
--- A spelling's hash, its turns, and what a search behind an entry is.
+-- The ways of an entry, a spelling's hash and its turns, and what a search behind an entry is.
 use Prim.Native.Nat.{ℕ, zero, suc, _+_, _-_, _*_, _/_, _%_, _≤_, _<_}
 use mathlib.Core.Path.{_≡_, refl, sym, ap, _∙_}
 use native.Mathlib.Omega.{arith}
@@ -6,17 +6,66 @@ use native.Mathlib.Numerals.{add-one}
 use native.Mathlib.Nat.{mul-le-mul}
 use mathlib.Core.Bool.{Bool, true, false}
 use mathlib.Core.List.{List, [], _∷_}
+use lib.Dec.{eqb}
 use lib.ListN.{length, take, drop, getD}
 use lib.Seq.{drop-cons, getD-take, getD-drop}
-use borrow.Author.Tests.{lt-ltb, le-ltb, le-leb, lt-leb, eq-eqb, ne-eqb}
+use borrow.Author.Tests.{lt-ltb, le-ltb, le-leb, lt-leb, eqb-true, eqb-false, eq-eqb, ne-eqb}
 use Rattle.spelling.specs.Bytes.{same}
+use Rattle.spelling.proofs.Tests.{by-test}
 use Rattle.labels.specs.declared.label.Label.{Label}
 use Rattle.labels.specs.declared.tree.Digest.{Digest}
 use Rattle.labels.specs.declared.tree.Turns.{Turns}
 use Rattle.labels.specs.declared.tree.Search.{Search}
 use Rattle.labels.specs.Contracts.{InText, spelled}
-use Rattle.labels.specs.Tree.{plain, link, linked, mixed, hashFrom, noHash, hashOf, turned, isRight, hits, endedAt, passed, visited}
+use Rattle.labels.specs.Tree.{plain, held, link, raised, linked, mixed, hashFrom, noHash, hashOf, turned, wayOf, hits, endedAt, passed, visited}
 use Rattle.labels.proofs.Named.{part-is, spelled-long}
+
+-- ---- the ways
+
+-- A way is odd, or not.
+pub parity {ℓ} : {X : Type ℓ} (b : ℕ) → (b % 2 ≡ 1 → X) → ((b % 2 ≡ 1 → ⊥) → X) → X
+parity b f g = by-test (eqb (b % 2) 1) (λ v. f (eqb-true (b % 2) 1 v)) (λ v. g (eqb-false (b % 2) 1 v))
+
+module _ (n b : ℕ) where
+  module _ (odd : b % 2 ≡ 1) where
+    pub held-odd : held n b ≡ n / 4398046511104
+    unfolding held
+    held-odd = rw (held, eq-eqb (b % 2) 1 odd)
+
+    pub raised-odd : raised n b ≡ 4398046511104 * n
+    unfolding raised
+    raised-odd = rw (raised, eq-eqb (b % 2) 1 odd)
+
+  module _ (even : b % 2 ≡ 1 → ⊥) where
+    pub held-even : held n b ≡ n / 2097152 % 2097152
+    unfolding held
+    held-even = rw (held, ne-eqb (b % 2) 1 even)
+
+    pub raised-even : raised n b ≡ 2097152 * n
+    unfolding raised
+    raised-even = rw (raised, ne-eqb (b % 2) 1 even)
+
+  pub raised-fits : raised n b ≤ 4398046511104 * n
+  raised-fits = parity b (λ v. omega (arith, raised-odd v)) (λ v. omega (arith, raised-even v))
+
+module _ (e : Label) (b : ℕ) where
+  module _ (low : b < 2) where
+    pub link-low : link e b ≡ held (e .start) b
+    unfolding link
+    link-low = rw (link, lt-ltb b 2 low)
+
+    pub linked-low : (to : ℕ) → linked e b to ≡ record { start = e .start + raised to b; length = e .length; address = e .address }
+    unfolding linked
+    linked-low to = rw (linked, lt-ltb b 2 low)
+
+  module _ (high : 2 ≤ b) where
+    pub link-high : link e b ≡ held (e .address) b
+    unfolding link
+    link-high = rw (link, le-ltb b 2 high)
+
+    pub linked-high : (to : ℕ) → linked e b to ≡ record { start = e .start; length = e .length; address = e .address + raised to b }
+    unfolding linked
+    linked-high to = rw (linked, le-ltb b 2 high)
 
 -- ---- the hash
 
@@ -43,23 +92,23 @@ module _ (s : List ℕ) (h : Digest) where
 -- ---- the turns
 
 module _ (s : List ℕ) (l : Label) (t : Turns) (in-text : InText s l) where
-  pub turned-more : 1 < t .bits / 2 → turned (spelled s l) t ≡ record { bits = t .bits / 2; rest = t .rest; used = t .used }
+  pub turned-more : 1 < t .bits / 4 → turned (spelled s l) t ≡ record { bits = t .bits / 4; rest = t .rest; used = t .used }
   unfolding turned
-  turned-more f = rw (turned, lt-ltb 1 (t .bits / 2) f)
+  turned-more f = rw (turned, lt-ltb 1 (t .bits / 4) f)
 
-  module _ (f : t .bits / 2 ≤ 1) where
+  module _ (f : t .bits / 4 ≤ 1) where
     pub turned-rest : 0 < t .rest → turned (spelled s l) t ≡ record { bits = t .rest; rest = 0; used = t .used }
     unfolding turned
-    turned-rest g = rw (turned, le-ltb 1 (t .bits / 2) f, lt-ltb 0 (t .rest) g)
+    turned-rest g = rw (turned, le-ltb 1 (t .bits / 4) f, lt-ltb 0 (t .rest) g)
 
     pub turned-spent : t .rest ≤ 0 → l .length ≤ t .used → turned (spelled s l) t ≡ record { bits = 256; rest = 0; used = t .used }
     unfolding turned
-    turned-spent g h = rw (turned, le-ltb 1 (t .bits / 2) f, le-ltb 0 (t .rest) g, spelled-long s l in-text, le-leb (l .length) (t .used) h)
+    turned-spent g h = rw (turned, le-ltb 1 (t .bits / 4) f, le-ltb 0 (t .rest) g, spelled-long s l in-text, le-leb (l .length) (t .used) h)
 
     pub turned-byte : t .rest ≤ 0 → t .used < l .length → turned (spelled s l) t ≡ record { bits = 256 + getD s (l .start + t .used) 0; rest = 0; used = t .used + 1 }
     unfolding turned
     turned-byte g h =
-        rw (turned, le-ltb 1 (t .bits / 2) f, le-ltb 0 (t .rest) g, spelled-long s l in-text, lt-leb (l .length) (t .used) h, getD-take (l .length) (drop (l .start) s) (t .used) 0 h, getD-drop (l .start) s (t .used) 0)
+        rw (turned, le-ltb 1 (t .bits / 4) f, le-ltb 0 (t .rest) g, spelled-long s l in-text, lt-leb (l .length) (t .used) h, getD-take (l .length) (drop (l .start) s) (t .used) 0 h, getD-drop (l .start) s (t .used) 0)
 
 -- ---- behind an entry
 
@@ -71,11 +120,11 @@ module _ (s : List ℕ) (q : Search) (e : Label) where
   unfolding visited
   visited-hit h = rw (visited, h)
 
-  pub visited-last : is-hit ≡ false → link e (isRight (q .turns)) ≡ 0 → visited s q e ≡ endedAt q false (linked e (isRight (q .turns)) (q .count + 1))
+  pub visited-last : is-hit ≡ false → link e (wayOf (q .turns)) ≡ 0 → visited s q e ≡ endedAt q false (linked e (wayOf (q .turns)) (q .count + 1))
   unfolding visited
   visited-last h f = rw (visited, h, f)
 
-  pub visited-on : is-hit ≡ false → (i : ℕ) → link e (isRight (q .turns)) ≡ suc i → visited s q e ≡ passed s q e (suc i)
+  pub visited-on : is-hit ≡ false → (i : ℕ) → link e (wayOf (q .turns)) ≡ suc i → visited s q e ≡ passed s q e (suc i)
   unfolding visited
   visited-on h i f = rw (visited, h, f)
 

@@ -15,9 +15,9 @@ use Rattle.labels.specs.declared.tree.Search.{Search}
 
 -- ---- entries
 
--- The label of an entry. Above its start an entry holds where it leads to, above its length a part of its spelling's hash.
+-- The label of an entry. Above its start and its address an entry holds where it leads to, above its length a part of its spelling's hash.
 abbrev pub plain : Label → Label
-plain e = record { start = e .start % 2097152; length = e .length % 2097152; address = e .address }
+plain e = record { start = e .start % 2097152; length = e .length % 2097152; address = e .address % 2097152 }
 
 -- A table with labels for its first entries.
 unfoldable pub unlinked : ℕ → List Label → List Label
@@ -25,14 +25,23 @@ unlinked zero t = t
 unlinked (suc n) [] = []
 unlinked (suc n) (e ∷ t) = plain e ∷ unlinked n t
 
--- Where an entry leads to, on the right or on the left: to none (0), or to the entry before that number.
-unfoldable pub link : Label → Bool → ℕ
-link e true = e .start / 4398046511104
-link e false = e .start / 2097152 % 2097152
+-- One of the two numbers that are held above a part of an entry: the upper one for an odd way.
+unfoldable pub held : ℕ → ℕ → ℕ
+held part way = elim (eqb (way % 2) 1) [ true ↦ part / 4398046511104 | false ↦ part / 2097152 % 2097152 ]
 
-unfoldable pub linked : Label → Bool → ℕ → Label
-linked e true to = record { start = e .start + 4398046511104 * to; length = e .length; address = e .address }
-linked e false to = record { start = e .start + 2097152 * to; length = e .length; address = e .address }
+-- Where an entry leads to by a way, 0 to 3: to none (0), or to the entry before that number.
+unfoldable pub link : Label → ℕ → ℕ
+link e way = elim (ltb way 2) [ true ↦ held (e .start) way | false ↦ held (e .address) way ]
+
+unfoldable pub raised : ℕ → ℕ → ℕ
+raised to way = elim (eqb (way % 2) 1) [ true ↦ 4398046511104 * to | false ↦ 2097152 * to ]
+
+unfoldable pub linked : Label → ℕ → ℕ → Label
+linked e way to =
+    elim (ltb way 2) [
+      | true ↦ record { start = e .start + raised to way; length = e .length; address = e .address }
+      | false ↦ record { start = e .start; length = e .length; address = e .address + raised to way }
+    ]
 
 -- ---- spellings
 
@@ -53,15 +62,15 @@ noHash = record { first = 11400714819323198485; second = 13787848793156543929 }
 unfoldable pub hashOf : List ℕ → Digest
 hashOf u = hashFrom noHash u
 
--- The turns of a spelling: the bits of its hash, then those of its bytes, the lowest first. A 1 stands behind the last.
+-- The turns of a spelling, two bits each: those of its hash, then those of its bytes, the lowest first. A 1 stands behind the last.
 unfoldable pub firstTurns : List ℕ → Turns
 firstTurns u =
-    record { bits = 9223372036854775808 + hashOf u .first % 9223372036854775808; rest = 9223372036854775808 + hashOf u .second % 9223372036854775808; used = 0 }
+    record { bits = 4611686018427387904 + hashOf u .first % 4611686018427387904; rest = 4611686018427387904 + hashOf u .second % 4611686018427387904; used = 0 }
 
 unfoldable pub turned : List ℕ → Turns → Turns
 turned u t =
-    elim (ltb 1 (t .bits / 2)) [
-      | true ↦ record { bits = t .bits / 2; rest = t .rest; used = t .used }
+    elim (ltb 1 (t .bits / 4)) [
+      | true ↦ record { bits = t .bits / 4; rest = t .rest; used = t .used }
       | false ↦ elim (ltb 0 (t .rest)) [
         | true ↦ record { bits = t .rest; rest = 0; used = t .used }
         | false ↦ elim (leb (length u) (t .used)) [
@@ -71,8 +80,9 @@ turned u t =
       ]
     ]
 
-unfoldable pub isRight : Turns → Bool
-isRight t = eqb (t .bits % 2) 1
+-- The way of the next turn.
+unfoldable pub wayOf : Turns → ℕ
+wayOf t = t .bits % 4
 
 -- What an entry of a spelling holds for its length.
 unfoldable pub keyOf : List ℕ → ℕ
@@ -108,7 +118,7 @@ endedAt q known e =
     record { more = false; known = known; next = q .next; turns = q .turns; count = q .count; entry = q .entry; last = q .next; parent = e }
 
 abbrev pub passed : List ℕ → Search → Label → ℕ → Search
-passed s q e zero = endedAt q false (linked e (isRight (q .turns)) (q .count + 1))
+passed s q e zero = endedAt q false (linked e (wayOf (q .turns)) (q .count + 1))
 passed s q e (suc i) =
     record {
       more = true;
@@ -122,20 +132,20 @@ passed s q e (suc i) =
     }
 
 unfoldable pub visited : List ℕ → Search → Label → Search
-visited s q e = elim (hits s e (q .entry .length) (spelled s (plain (q .entry)))) [ true ↦ endedAt q true e | false ↦ passed s q e (link e (isRight (q .turns))) ]
+visited s q e = elim (hits s e (q .entry .length) (spelled s (plain (q .entry)))) [ true ↦ endedAt q true e | false ↦ passed s q e (link e (wayOf (q .turns))) ]
 
 -- ---- the tree
 
 -- A spelling is found among the first n entries of a table, from the entry before a number on, with the turns left.
 pub data Finds (s : List ℕ) (t : List Label) (n : ℕ) (u : List ℕ) : ℕ → Turns → Type 0 where
   here : {i : ℕ} {z : Turns} → i < n → hits s (getD t i noLabel) (keyOf u) u ≡ true → Finds s t n u (suc i) z
-  there : {i l : ℕ} {z : Turns} → i < n → link (getD t i noLabel) (isRight z) ≡ l → Finds s t n u l (turned u z) → Finds s t n u (suc i) z
+  there : {i l : ℕ} {z : Turns} → i < n → link (getD t i noLabel) (wayOf z) ≡ l → Finds s t n u l (turned u z) → Finds s t n u (suc i) z
 
 -- The first n entries of a table are a tree: each is a part of the source, leads to later ones only, and is found by its spelling.
 pub record Tree (s : List ℕ) (t : List Label) (n : ℕ) : Type 0 where
   pub in-table : n ≤ length t
   pub in-text : (i : ℕ) → i < n → InText s (plain (getD t i noLabel))
-  pub onward : (i : ℕ) → i < n → (right : Bool) (j : ℕ) → link (getD t i noLabel) right ≡ suc j → (i < j) × (j < n)
+  pub onward : (i : ℕ) → i < n → (way j : ℕ) → link (getD t i noLabel) way ≡ suc j → (i < j) × (j < n)
   pub found : (i : ℕ) → i < n → Finds s t n (spelled s (plain (getD t i noLabel))) 1 (firstTurns (spelled s (plain (getD t i noLabel))))
 
 -- A label may be entered behind n others: what an entry holds has room.
@@ -143,6 +153,7 @@ pub record Enterable (s : List ℕ) (n : ℕ) (l : Label) : Type 0 where
   pub in-text : InText s l
   pub short : length s ≤ 1048576
   pub few : n ≤ 1048576
+  pub near : l .address < 2097152
 
 -- A search's entry stored behind n others, and its parent's.
 abbrev pub joined : List Label → ℕ → Search → List Label
@@ -159,4 +170,5 @@ pub record Visitable (s : List ℕ) (q : Search) (e : Label) : Type 0 where
   pub label-in-text : InText s (plain (q .entry))
   pub entry-in-text : InText s (plain e)
   pub low : e .start / 4398046511104 ≤ 1048576
+  pub low-address : e .address / 4398046511104 ≤ 1048576
   pub few : q .count ≤ 1048576

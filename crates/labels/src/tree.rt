@@ -1,10 +1,11 @@
-// While labels are entered, their entries are the nodes of a tree. A label's start and length are below 2^21. Above its start an
-// entry holds two numbers of 21 bits, by which it leads to later entries, and above its length 43 bits of its spelling's hash.
+// While labels are entered, their entries are the nodes of a tree. A label's start, length and address are below 2^21. Above its start
+// and above its address an entry holds two numbers of 21 bits each, by which it leads to later entries in four ways, and above its
+// length 43 bits of its spelling's hash.
 ghost use mathlib.Core.Path.{_≡_};
 ghost use Prim.Native.Nat.{_+_, _/_, _≤_, _<_};
 ghost use Rattle.spelling.specs.Bytes.{same};
 ghost use Rattle.labels.specs.Contracts.{InText, spelled};
-ghost use Rattle.labels.specs.Tree.{plain as plainOf, link as linkOf, linked as linkedOf, mixed, hashOf, turned, hits as hitsOf, begun, endedAt, visited, Enterable, Visitable};
+ghost use Rattle.labels.specs.Tree.{plain as plainOf, held as heldOf, link as linkOf, raised as raisedOf, linked as linkedOf, mixed, hashOf, turned, hits as hitsOf, begun, endedAt, visited, Enterable, Visitable};
 use crate::label::Label;
 
 pub(crate) struct Digest {
@@ -12,8 +13,8 @@ pub(crate) struct Digest {
     pub(crate) second: u64,
 }
 
-// The turns that a spelling takes: bits with a 1 behind the last, others behind these (none: 0), and how many of its bytes have
-// been used up.
+// The turns that a spelling takes, two bits each: bits with a 1 behind the last, others behind these (none: 0), and how many of its
+// bytes have been used up.
 pub(crate) struct Turns {
     pub(crate) bits: u64,
     pub(crate) rest: u64,
@@ -40,39 +41,64 @@ pub(crate) fn plain(entry: Label) -> Label
     Label {
         start: entry.start % 2097152,
         length: entry.length % 2097152,
-        address: entry.address,
+        address: entry.address % 2097152,
     }
 }
 
-// Where an entry leads on a side: to none (0), or to the entry before that number.
-fn link(entry: Label, right: bool) -> usize
-    ensures { λ r. ⌜ r ≡ linkOf entry right ⌝ }
+// One of the two numbers that are held above a part of an entry: the upper one for an odd way.
+fn held(part: usize, way: u64) -> usize
+    ensures { λ r. ⌜ r ≡ heldOf part way ⌝ }
 {
-    if right {
-        return entry.start / 4398046511104;
+    if way % 2 == 1 {
+        return part / 4398046511104;
     }
-    entry.start / 2097152 % 2097152
+    part / 2097152 % 2097152
 }
 
-// An entry that leads to another on a side where it led to none.
-fn linked(entry: Label, right: bool, to: usize) -> Label
-    requires { ⌜ entry .start / 4398046511104 ≤ 1048576 ⌝ ∗ ⌜ to < 2097152 ⌝ }
-    ensures { λ r. ⌜ r ≡ linkedOf entry right to ⌝ }
+// Where an entry leads by a way: to none (0), or to the entry before that number. Both parts are looked at, so that the processor
+// need not guess which.
+fn link(entry: Label, way: u64) -> usize
+    ensures { λ r. ⌜ r ≡ linkOf entry way ⌝ }
+{
+    let by_start = held(entry.start, way);
+    let by_address = held(entry.address as usize, way);
+    if way < 2 {
+        return by_start;
+    }
+    by_address
+}
+
+// A number of 21 bits at the place where it is held.
+fn raised(to: usize, way: u64) -> usize
+    requires { ⌜ to < 2097152 ⌝ }
+    ensures { λ r. ⌜ r ≡ raisedOf to way ⌝ }
+{
+    if way % 2 == 1 {
+        return 4398046511104 * to;
+    }
+    2097152 * to
+}
+
+// An entry that leads to another by a way by which it led to none.
+fn linked(entry: Label, way: u64, to: usize) -> Label
+    requires { ⌜ entry .start / 4398046511104 ≤ 1048576 ⌝ ∗ ⌜ entry .address / 4398046511104 ≤ 1048576 ⌝ ∗ ⌜ to < 2097152 ⌝ }
+    ensures { λ r. ⌜ r ≡ linkedOf entry way to ⌝ }
 {
     let start = entry.start;
     let length = entry.length;
     let address = entry.address;
-    if right {
+    let more = raised(to, way);
+    if way < 2 {
         return Label {
-            start: start + 4398046511104 * to,
+            start: start + more,
             length,
             address,
         };
     }
     Label {
-        start: start + 2097152 * to,
+        start,
         length,
-        address,
+        address: address + more as u64,
     }
 }
 
@@ -118,7 +144,7 @@ fn turn(source: &[u8], label: Label, turns: Turns) -> Turns
     requires { ⌜ InText (now source) label ⌝ }
     ensures { λ r. ⌜ r ≡ turned (spelled (now (source .entry)) label) turns ⌝ }
 {
-    let bits = turns.bits / 2;
+    let bits = turns.bits / 4;
     let rest = turns.rest;
     let used = turns.used;
     if 1 < bits {
@@ -186,8 +212,8 @@ pub(crate) fn begin(source: &[u8], count: usize, label: Label) -> Search
         known: false,
         next: 0,
         turns: Turns {
-            bits: 9223372036854775808 + hash.first % 9223372036854775808,
-            rest: 9223372036854775808 + second % 9223372036854775808,
+            bits: 4611686018427387904 + hash.first % 4611686018427387904,
+            rest: 4611686018427387904 + second % 4611686018427387904,
             used: 0,
         },
         count,
@@ -227,10 +253,10 @@ pub(crate) fn visit(source: &[u8], search: Search, at: Label) -> Search
     if hits(source, at, entry.length, label) {
         return ended(search, true, at);
     }
-    let right = turns.bits % 2 == 1;
-    let to = link(at, right);
+    let way = turns.bits % 4;
+    let to = link(at, way);
     if to == 0 {
-        return ended(search, false, linked(at, right, count + 1));
+        return ended(search, false, linked(at, way, count + 1));
     }
     Search {
         more: true,

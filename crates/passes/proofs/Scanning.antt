@@ -195,6 +195,7 @@ module _ {s : List ℕ} {from first labels before : ℕ} {settings : Settings} {
             record {
               short = w .safe .short;
               in-text = h .in-text;
+              near = omega (arith, w .safe .few-words);
               few-lines = λ g. omega (arith, w .safe .few-lines, ends-behind g);
               line-fits = omega (arith, w .safe .few-lines, w .safe .in-text);
               few-labels = w .safe .few-labels;

@@ -141,10 +141,11 @@ pub record Stands (s : List ℕ) (room : ℕ) (labels : List Meant) (p : Pass) :
   pub at-label : p .found ≡ true → AtLabel s room labels p
   pub at-end : p .found ≡ false → AtEnd s room labels p (p .fault)
 
--- What is known of a pass at a label: it is a part of the source; a line but the last takes a byte at least, and each has a label at most.
+-- What is known of a pass at a label: it is a part of the source, at an address below 2^21; a line but the last takes a byte at least, and each has a label at most.
 pub record Sound (s : List ℕ) (p : Pass) : Type 0 where
   pub short : length s ≤ most-bytes
   pub in-text : InText s (p .label)
+  pub near : p .label .address < 2097152
   pub few-lines : p .fault ≡ Good → p .line ≤ p .end + 1
   pub line-fits : p .line ≤ length s + 1
   pub few-labels : p .labels + 1 ≤ p .line

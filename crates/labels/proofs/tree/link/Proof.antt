@@ -1,15 +1,21 @@
 -- `labels::tree::link` meets its contract.
-use Rattle.labels.specs.Tree.{link}
+use mathlib.Core.Path.{sym, _∙_}
+use borrow.Author.Needs.{needs}
+use Rattle.labels.proofs.Hashing.{link-low, link-high}
 use Rattle.labels.proofs.tree.link.Statement.{statement}
 use Rattle.labels.proofs.tree.link.Tie as tie
 
+held-requires : tie.Need-held-requires
+held-requires c κs = search needs
+
+held-requires-2 : tie.Need-held-requires-2
+held-requires-2 c κs = search needs
+
 returns : tie.Need-returns
-unfolding link
-returns c = rw (c .before .if1 .taken)
+returns c = let a = c .before .before .before .args in c .before .before .held .ensures ∙ sym (link-low (a .entry) (a .way) (c .if1 .taken))
 
 returns-2 : tie.Need-returns-2
-unfolding link
-returns-2 c = rw (c .before .if1 .left)
+returns-2 c = let a = c .before .before .before .args in c .before .held2 .ensures ∙ sym (link-high (a .entry) (a .way) (c .if1 .left))
 
 pub link-spec : {M : Type 1} → statement M
-link-spec = tie.close (tie.spec returns returns-2)
+link-spec = tie.close (tie.spec held-requires held-requires-2 returns returns-2)

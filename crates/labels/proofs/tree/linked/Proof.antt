@@ -1,28 +1,25 @@
 -- `labels::tree::linked` meets its contract.
+use mathlib.Core.Path.{sym}
+use native.Mathlib.Omega.{arith}
 use borrow.Author.Needs.{needs}
-use Rattle.labels.specs.Tree.{linked}
+use Rattle.labels.proofs.Hashing.{raised-fits, linked-low, linked-high}
 use Rattle.labels.proofs.tree.linked.Statement.{statement}
 use Rattle.labels.proofs.tree.linked.Tie as tie
 
-mul-t8 : tie.Need-mul-t8
-mul-t8 c = search needs
+raised-requires : tie.Need-raised-requires
+raised-requires c κs = search needs
 
 add-t9 : tie.Need-add-t9
-add-t9 c = search needs
+add-t9 c = let a = c .before .before .args in omega (arith, raised-fits (a .to) (a .way))
 
 returns : tie.Need-returns
-unfolding linked
-returns c = rw (c .if1 .taken)
-
-mul-t10 : tie.Need-mul-t10
-mul-t10 c = search needs
+returns c = let a = c .before .before .args in rw (c .before .raised .ensures) (sym (linked-low (a .entry) (a .way) (c .if1 .taken) (a .to)))
 
 add-t11 : tie.Need-add-t11
-add-t11 c = search needs
+add-t11 c = let a = c .before .before .args in omega (arith, raised-fits (a .to) (a .way))
 
 returns-2 : tie.Need-returns-2
-unfolding linked
-returns-2 c = rw (c .if1 .left)
+returns-2 c = let a = c .before .before .args in rw (c .before .raised .ensures) (sym (linked-high (a .entry) (a .way) (c .if1 .left) (a .to)))
 
 pub linked-spec : {M : Type 1} → statement M
-linked-spec = tie.close (tie.spec mul-t8 add-t9 returns mul-t10 add-t11 returns-2)
+linked-spec = tie.close (tie.spec raised-requires add-t9 returns add-t11 returns-2)

@@ -3,7 +3,7 @@ use Prim.Native.Nat.{suc, _-_}
 use mathlib.Core.Path.{_≡_, sym, _∙_}
 use native.Mathlib.Omega.{arith}
 use borrow.Author.Needs.{needs}
-use Rattle.labels.specs.Tree.{isRight}
+use Rattle.labels.specs.Tree.{wayOf}
 use Rattle.labels.proofs.Hashing.{visited-hit, visited-last, visited-on}
 use Rattle.labels.proofs.tree.visit.Statement.{statement}
 use Rattle.labels.proofs.tree.visit.Tie as tie
@@ -36,7 +36,7 @@ ended-requires-2 : tie.Need-ended-requires-2
 ended-requires-2 c κs = search needs
 
 returns-2 : tie.Need-returns-2
-unfolding isRight
+unfolding wayOf
 returns-2 c =
     let k = c .before .before .before .before .before in
     let a = c .before .before .before .before .before .before .before .before .before .before .before .args in
@@ -44,14 +44,14 @@ returns-2 c =
     ∙ rw (c .before .linked .ensures)
     (sym (visited-last (a .source .now) (a .search) (a .at) (sym (rw (k .before .before .plain .ensures) at (k .before .hits .ensures)) ∙ k .if1 .left) (sym (c .before .before .before .link .ensures) ∙ c .before .before .if2 .taken)))
 
-sub-t15 : tie.Need-sub-t15
-sub-t15 c = search needs
+sub-t14 : tie.Need-sub-t14
+sub-t14 c = search needs
 
 turn-requires : tie.Need-turn-requires
 turn-requires c κs = rw (c .before .before .before .before .before .plain .ensures) (c .before .before .before .before .before .before .before .before .before .pre .label-in-text)
 
 returns-3 : tie.Need-returns-3
-unfolding isRight
+unfolding wayOf
 returns-3 c =
     let k = c .before .before .before .before in
     let a = c .before .before .before .before .before .before .before .before .before .before .args in
@@ -73,6 +73,6 @@ visit-spec =
     linked-requires
     ended-requires-2
     returns-2
-    sub-t15
+    sub-t14
     turn-requires
     returns-3)
