@@ -311,7 +311,7 @@ module _ (s : List ℕ) (from start : ℕ) (l : from ≤ length s) (q : start �
   label-line form length′ f is t =
       let k : start + length′ - start ≡ length′ = omega arith in
       let n : tokens present (leftAt s start) ≡ some (identifier (part s start length′) ∷ colon ∷ []) =
-          rw k at (is .name .means) ∙ ap (infront (identifier (part s start length′))) (is .mark .means ∙ ap (infront colon) (none-left form f t)) in
+      rw k at (is .name .means) ∙ ap (infront (identifier (part s start length′))) (is .mark .means ∙ ap (infront colon) (none-left form f t)) in
       record {
         reads = line-reads s from start q ∙ rw n;
         starts = q ∙ ap (λ (x : ℕ). from + x) (sym (indent-at s from));

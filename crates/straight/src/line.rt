@@ -264,11 +264,7 @@ fn whole(start: usize, row: usize, length: usize, operands: Operands, end: usize
     ensures { λ r. ⌜ r ≡ wholeOf start row length operands end ⌝ }
 {
     if row < 50 {
-        return Straight::Instruction {
-            row,
-            operands,
-            end,
-        };
+        return Straight::Instruction { row, operands, end };
     }
     if 0 < length {
         return Straight::Label { start, length, end };
