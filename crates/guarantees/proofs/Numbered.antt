@@ -17,7 +17,7 @@ use Rattle.text.specs.Lines.{Line, lines, indent, readLine}
 use Rattle.instruction.specs.Table.{Place, reg, num, comma-place, opening-place, closing-place, Row, places, rowNamed, rowCoded}
 use Rattle.instruction.specs.Operands.{Instruction, readNumber, readIdentifier, readRegister, markByte, Operands, withRegister, withNumber, readPlace, readOperands, made, readRow, readMnemonic, readInstruction, behind}
 use Rattle.instruction.specs.Words.{unusedFrom, taken, instructionOf}
-use Rattle.image.specs.Settings.{Settings, settings, settingsFault, limb-bits-key, data-limbs-key, addr-limbs-key, set, checked, configuredBy, configuredWith, configured}
+use Rattle.image.specs.Settings.{Settings, settings, settingsFault, limb-bits-key, data-limbs-key, addr-limbs-key, setField, checked, configuredBy, configuredWith, configured}
 use Rattle.image.specs.Program.{Header, magic, version, header-size, headerOf, codeOf, imageLength}
 use Rattle.image.specs.Opening.{headerFault, openingFault}
 use Rattle.image.specs.Listing.{wordsOf, textOf, Refusal, refusal, isUsual, wordsFault, listingFault, Listing, written, rejected as unwritten, listing}
@@ -141,8 +141,8 @@ of-checked (value s) h =
     go none k = tt
     go (some n) k = k
 
-of-set : (s : Settings) (key : List ℕ) (v : ℕ) → OfResult (set s key v)
-unfolding set
+of-set : (s : Settings) (key : List ℕ) (v : ℕ) → OfResult (setField s key v)
+unfolding setField
 of-set s key v = go (same key limb-bits-key) (same key data-limbs-key) (same key addr-limbs-key)
   where
     go : (a b c : Bool) → OfResult {A = Settings} (elim a [
@@ -161,11 +161,11 @@ of-configured : (s : Settings) (l : Line) → OfResult (configured s l)
 unfolding configured configuredWith configuredBy
 of-configured s l = go (eqb (l .count) 3) (drop 1 (l .first))
   where
-    by-number : (k : List ℕ) (o : Option ℤ) → OfResult {A = Settings} (elim o [ none ↦ refused 8 | some z ↦ checked (set s k (residue 8 z)) ])
+    by-number : (k : List ℕ) (o : Option ℤ) → OfResult {A = Settings} (elim o [ none ↦ refused 8 | some z ↦ checked (setField s k (residue 8 z)) ])
     by-number k none = (omega arith, omega arith)
-    by-number k (some z) = of-checked (set s k (residue 8 z)) (of-set s k (residue 8 z))
+    by-number k (some z) = of-checked (setField s k (residue 8 z)) (of-set s k (residue 8 z))
 
-    by-key : (v : Token) (o : Option (List ℕ)) → OfResult {A = Settings} (elim o [ none ↦ refused 7 | some k ↦ elim (readNumber v) [ none ↦ refused 8 | some z ↦ checked (set s k (residue 8 z)) ] ])
+    by-key : (v : Token) (o : Option (List ℕ)) → OfResult {A = Settings} (elim o [ none ↦ refused 7 | some k ↦ elim (readNumber v) [ none ↦ refused 8 | some z ↦ checked (setField s k (residue 8 z)) ] ])
     by-key v none = (omega arith, omega arith)
     by-key v (some k) = by-number k (readNumber v)
 

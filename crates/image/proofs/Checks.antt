@@ -21,7 +21,7 @@ use Rattle.text.specs.declared.parser.Line.{Line}
 use Rattle.text.proofs.lexer.Kind as kind
 use Rattle.instruction.specs.Operands.{readIdentifier}
 use Rattle.reading.proofs.Parsing.{number-kind}
-use Rattle.image.specs.Settings.{Settings, settings, settingsFault, limb-bits-key, data-limbs-key, addr-limbs-key, set, checked, configuredBy, configuredWith, configured}
+use Rattle.image.specs.Settings.{Settings, settings, settingsFault, limb-bits-key, data-limbs-key, addr-limbs-key, setField, checked, configuredBy, configuredWith, configured}
 use Rattle.image.specs.Contracts.{recordMeant}
 
 -- ---- the checks, in order
@@ -62,23 +62,23 @@ module _ (s : Settings) where
 
 module _ (s : Settings) (key : List ℕ) (v : ℕ) where
   -- by each key, in order
-  pub set-limb-bits : same key limb-bits-key ≡ true → set s key v ≡ value (settings v (s .data-limbs) (s .addr-limbs))
-  unfolding set
-  set-limb-bits e = rw (set, e)
+  pub set-limb-bits : same key limb-bits-key ≡ true → setField s key v ≡ value (settings v (s .data-limbs) (s .addr-limbs))
+  unfolding setField
+  set-limb-bits e = rw (setField, e)
 
   module _ (a : same key limb-bits-key ≡ false) where
-    pub set-data-limbs : same key data-limbs-key ≡ true → set s key v ≡ value (settings (s .limb-bits) v (s .addr-limbs))
-    unfolding set
-    set-data-limbs e = rw (set, a, e)
+    pub set-data-limbs : same key data-limbs-key ≡ true → setField s key v ≡ value (settings (s .limb-bits) v (s .addr-limbs))
+    unfolding setField
+    set-data-limbs e = rw (setField, a, e)
 
-    pub set-addr-limbs : same key data-limbs-key ≡ false → same key addr-limbs-key ≡ true → set s key v ≡ value (settings (s .limb-bits) (s .data-limbs) v)
-    unfolding set
-    set-addr-limbs e f = rw (set, a, e, f)
+    pub set-addr-limbs : same key data-limbs-key ≡ false → same key addr-limbs-key ≡ true → setField s key v ≡ value (settings (s .limb-bits) (s .data-limbs) v)
+    unfolding setField
+    set-addr-limbs e f = rw (setField, a, e, f)
 
     -- and by no other
-    pub set-none : same key data-limbs-key ≡ false → same key addr-limbs-key ≡ false → set s key v ≡ refused 9
-    unfolding set
-    set-none e f = rw (set, a, e, f)
+    pub set-none : same key data-limbs-key ≡ false → same key addr-limbs-key ≡ false → setField s key v ≡ refused 9
+    unfolding setField
+    set-none e f = rw (setField, a, e, f)
 
 -- ---- the line
 
@@ -130,7 +130,7 @@ module _ (setup : Settings) (s : List ℕ) (l : Line) (d : Token) (nine : length
   module _ (named : getD (l .tokens) 1 d .kind ≡ Identifier) where
     -- and the third a number
     by-number : (o : Option ℤ) → numberOf (getD (l .tokens) 2 d .kind) ≡ o
-        → configured setup (recordMeant s l) ≡ elim o [ none ↦ refused 8 | some z ↦ checked (set setup (spelling s (getD (l .tokens) 1 d)) (residue 8 z)) ]
+        → configured setup (recordMeant s l) ≡ elim o [ none ↦ refused 8 | some z ↦ checked (setField setup (spelling s (getD (l .tokens) 1 d)) (residue 8 z)) ]
     unfolding configuredBy readIdentifier
     by-number o e = config-by ∙ rw (configuredBy, named, number-kind (getD (l .tokens) 2 d .kind) (spelling s (getD (l .tokens) 2 d)), e)
 
@@ -139,5 +139,5 @@ module _ (setup : Settings) (s : List ℕ) (l : Line) (d : Token) (nine : length
 
     -- which the field is set to
     pub config-sets : (z : ℤ) → numberOf (getD (l .tokens) 2 d .kind) ≡ some z
-        → configured setup (recordMeant s l) ≡ checked (set setup (spelling s (getD (l .tokens) 1 d)) (residue 8 z))
+        → configured setup (recordMeant s l) ≡ checked (setField setup (spelling s (getD (l .tokens) 1 d)) (residue 8 z))
     config-sets z e = by-number (some z) e

@@ -18,7 +18,7 @@ use Rattle.text.specs.Lines.{Line, lines, kept, lineOf, readLine}
 use Rattle.text.proofs.Tokens.{tokens-nil, Within64, reads-directive, reads-space, reads-identifier, reads-decimal}
 use Rattle.text.proofs.Lines.{visible, closed-append, Trimmed, decimal-visible, decimal-closed, high-plain, read-visible}
 use Rattle.instruction.specs.Operands.{readIdentifier, readNumber}
-use Rattle.image.specs.Settings.{Settings, begin, settingsFault, set, checked, configuredBy, configuredWith, configured}
+use Rattle.image.specs.Settings.{Settings, begin, settingsFault, setField, checked, configuredBy, configuredWith, configured}
 use Rattle.image.specs.Assembling.{State, Kind, empty, labelled, config, ignored, plain, kindOf, next, withSettings, stepOn, step}
 use Rattle.image.specs.Meaning.{changedBy, settingsOn, settingsFrom, settingsOf}
 use Rattle.image.proofs.Settings.{no-fault, begin-good}
@@ -42,13 +42,13 @@ good-by : (s : Settings) (key v : Token) → GoodIf (configuredBy s key v)
 unfolding configuredBy
 good-by s key v = go (readIdentifier key)
   where
-    by-number : (k : List ℕ) (o : Option ℤ) → GoodIf (elim o [ none ↦ refused 8 | some z ↦ checked (set s k (residue 8 z)) ])
+    by-number : (k : List ℕ) (o : Option ℤ) → GoodIf (elim o [ none ↦ refused 8 | some z ↦ checked (setField s k (residue 8 z)) ])
     by-number k none = tt
-    by-number k (some z) = good-checked (set s k (residue 8 z))
+    by-number k (some z) = good-checked (setField s k (residue 8 z))
 
     go : (o : Option (List ℕ)) → GoodIf (elim o [
       | none ↦ refused 7
-      | some k ↦ elim (readNumber v) [ none ↦ refused 8 | some z ↦ checked (set s k (residue 8 z)) ]
+      | some k ↦ elim (readNumber v) [ none ↦ refused 8 | some z ↦ checked (setField s k (residue 8 z)) ]
     ])
     go none = tt
     go (some k) = by-number k (readNumber v)
@@ -145,7 +145,7 @@ module _ (names : List Name) (ok : each (λ n. isIdentifier (n .spelling)) names
   config-short = omega (arith, length-append key (32 ∷ decimal v), k .is-short, decimal-length 1 v small)
 
   -- It sets the field of its key.
-  pub config-step : (room : ℕ) (st : State) (at : ℕ) (s : Settings) → set (st .setup) key v ≡ value s → settingsFault s ≡ none
+  pub config-step : (room : ℕ) (st : State) (at : ℕ) (s : Settings) → setField (st .setup) key v ≡ value s → settingsFault s ≡ none
       → step room st at (readLine names (configText key v)) ≡ next (record { labels = st .labels; instructions = st .instructions; setup = s })
   unfolding step stepOn kindOf same bytes lineOf kept configured configuredWith configuredBy readIdentifier readNumber checked withSettings
   config-step room st at s e g =

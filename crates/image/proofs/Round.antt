@@ -16,7 +16,7 @@ use Rattle.text.proofs.Lines.{lines-cons, visible, visible-inside, visible-asci
 use Rattle.instruction.specs.Operands.{Instruction, readInstruction}
 use Rattle.instruction.specs.Words.{instructionOf}
 use Rattle.instruction.specs.Text.{instructionText}
-use Rattle.image.specs.Settings.{Settings, settings, begin, limb-bits-key, data-limbs-key, addr-limbs-key, set}
+use Rattle.image.specs.Settings.{Settings, settings, begin, limb-bits-key, data-limbs-key, addr-limbs-key, setField}
 use Rattle.image.specs.Assembling.{State, start, next, plain, kindOf, most-words, withInstruction, stepOn, step, finished, walk, accepted, readTo, most-bytes, reading}
 use Rattle.image.specs.Listing.{lineText, settingText, settingsText, wordText}
 use Rattle.image.proofs.Settings.{Good, no-fault, small-bits, small-data, small-addr}
@@ -115,16 +115,16 @@ pub record Keys (names : List Name) : Type 0 where
   pub data-limbs : Key names data-limbs-key
   pub addr-limbs : Key names addr-limbs-key
 
-set-bits : (s : Settings) (v : ℕ) → set s limb-bits-key v ≡ value (settings v (s .data-limbs) (s .addr-limbs))
-unfolding set same bytes limb-bits-key
+set-bits : (s : Settings) (v : ℕ) → setField s limb-bits-key v ≡ value (settings v (s .data-limbs) (s .addr-limbs))
+unfolding setField same bytes limb-bits-key
 set-bits s v = refl
 
-set-data : (s : Settings) (v : ℕ) → set s data-limbs-key v ≡ value (settings (s .limb-bits) v (s .addr-limbs))
-unfolding set same bytes limb-bits-key data-limbs-key
+set-data : (s : Settings) (v : ℕ) → setField s data-limbs-key v ≡ value (settings (s .limb-bits) v (s .addr-limbs))
+unfolding setField same bytes limb-bits-key data-limbs-key
 set-data s v = refl
 
-set-addr : (s : Settings) (v : ℕ) → set s addr-limbs-key v ≡ value (settings (s .limb-bits) (s .data-limbs) v)
-unfolding set same bytes limb-bits-key data-limbs-key addr-limbs-key
+set-addr : (s : Settings) (v : ℕ) → setField s addr-limbs-key v ≡ value (settings (s .limb-bits) (s .data-limbs) v)
+unfolding setField same bytes limb-bits-key data-limbs-key addr-limbs-key
 set-addr s v = refl
 
 module _ (names : List Name) (ok : each (λ n. isIdentifier (n .spelling)) names ≡ true) (k : Keys names) (s : Settings) (g : Good s) where

@@ -50,8 +50,8 @@ unfoldable pub addr-limbs-key : List ℕ
 addr-limbs-key = bytes "addr_limbs"
 
 -- The settings with the field of a key set; "9 unknown key".
-unfoldable pub set : Settings → List ℕ → ℕ → Result Settings
-set s key v =
+unfoldable pub setField : Settings → List ℕ → ℕ → Result Settings
+setField s key v =
     elim (same key limb-bits-key) [
       | true ↦ value (settings v (s .data-limbs) (s .addr-limbs))
       | false ↦ elim (same key data-limbs-key) [
@@ -70,7 +70,7 @@ unfoldable pub configuredBy : Settings → Token → Token → Result Settings
 configuredBy s key v =
     elim (readIdentifier key) [
       | none ↦ refused 7
-      | some k ↦ elim (readNumber v) [ none ↦ refused 8 | some z ↦ checked (set s k (residue 8 z)) ]
+      | some k ↦ elim (readNumber v) [ none ↦ refused 8 | some z ↦ checked (setField s k (residue 8 z)) ]
     ]
 
 unfoldable pub configuredWith : Settings → List Token → Result Settings

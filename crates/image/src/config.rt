@@ -1,7 +1,7 @@
 // The three settings: their checks, and the `.config` line.
 ghost use mathlib.Core.Path.{_≡_};
 ghost use Rattle.spelling.specs.Bytes.{value as good};
-ghost use Rattle.image.specs.Settings.{begin as initial, settingsFault, checked, set, configured};
+ghost use Rattle.image.specs.Settings.{begin as initial, settingsFault, checked, setField, configured};
 ghost use Rattle.image.specs.Contracts.{settingsMeant, faultMeant, configuredMeant, recordMeant};
 ghost use Rattle.reading.specs.Contracts.{Kept};
 use text::lexer::Kind;
@@ -72,7 +72,7 @@ fn validated(config: Config) -> Configured
 
 // The settings with the field of a key set, and checked: 9, then 10 to 13.
 fn set_field(config: Config, key: &[u8], value: u8) -> Configured
-    ensures { λ r. ⌜ configuredMeant r ≡ checked (set (settingsMeant config) (now (key .entry)) value) ⌝ }
+    ensures { λ r. ⌜ configuredMeant r ≡ checked (setField (settingsMeant config) (now (key .entry)) value) ⌝ }
 {
     let limb_bits = config.limb_bits;
     let data_limbs = config.data_limbs;

@@ -9,7 +9,7 @@ use mathlib.Core.Logic.{_⊎_, inl, inr}
 use mathlib.Core.Option.{Option, none, some}
 use mathlib.Core.List.{List, [], _∷_, _++_, map, map-append}
 use lib.ListN.{length, take, drop, getD, length-append, length-map, length-take, length-drop}
-use lib.Seq.{take-suc, getD-drop, take-all}
+use lib.Seq.{drop-drop, take-suc, getD-drop, take-all}
 use lib.Dec.{leb, eqb}
 use borrow.Author.Tests.{leb-true, le-leb, lt-leb, lt-ltb, eq-eqb}
 use Rattle.spelling.specs.Bytes.{Result, value, bytes, between, letter, digit, nameStart, namePart, lower, margin, every, same, run, find, isSome, each}
@@ -18,7 +18,7 @@ use Rattle.spelling.specs.Contracts.{packed, keyOf, nameNumber}
 use Rattle.spelling.specs.declared.name.RegisterName.the-variants.{Other}
 use Rattle.spelling.proofs.Keys.{Below}
 use Rattle.spelling.proofs.Tests.{split, by-test, no-both, not-true, or-left, between-true}
-use Rattle.spelling.proofs.Strings.{every-tail, same-eq, found}
+use Rattle.spelling.proofs.Strings.{every-tail, run-past, run-yes, same-eq, found}
 use Rattle.text.specs.Tokens.{Token, identifier, register, number, hex, binary, directive, comma, colon, opening, closing, infront, tokens}
 use Rattle.text.specs.Lines.{kept, lineOf, recordOf, readLine}
 use Rattle.text.specs.Places.{restAt, leftAt, endAt}
@@ -54,49 +54,34 @@ pub lower-small : (b : ℕ) → b < 256 → lower b < 256
 unfolding lower
 lower-small b h = by-test (between 65 90 b) (λ e. rw (lower, e) (omega (arith, between-true 65 90 b e .1))) (λ e. rw (lower, e) h)
 
--- The key of a word's first bytes, as long as there are seven at most.
-pub record Short (s : List ℕ) (at sum scale i : ℕ) : Type 0 where
-  scale-is : scale ≡ 256 ^ (i - at)
-  key-is : sum + scale ≡ packed (map lower (part s at (i - at)))
-  pub small : sum < scale
-
 -- The first bytes of a word, and their key so far.
 pub record Spelling (s : List ℕ) (at sum scale i : ℕ) : Type 0 where
   pub on : at ≤ i
   pub in-text : i ≤ length s
+  pub few : i ≤ at + 7
   parts : every namePart (part s at (i - at)) ≡ true
-  pub short : i ≤ at + 7 → Short s at sum scale i
-  long : at + 7 < i → (sum ≡ 0) × (scale ≡ 0)
+  scale-is : scale ≡ 256 ^ (i - at)
+  key-is : sum + scale ≡ packed (map lower (part s at (i - at)))
+  pub small : sum < scale
 
 pub spelling-begin : (s : List ℕ) (at : ℕ) → at ≤ length s → Spelling s at 0 1 at
 unfolding every packed
 spelling-begin s at h =
     let z : at - at ≡ 0 = omega arith in
-    record {
-      on = omega arith;
-      in-text = h;
-      parts = rw z;
-      short = λ _. record { scale-is = rw z; key-is = rw z; small = omega arith };
-      long = λ l. absurd (omega arith);
-    }
+    record { on = omega arith; in-text = h; few = omega arith; parts = rw z; scale-is = rw z; key-is = rw z; small = omega arith }
 
 -- There is room for a byte more.
 powers : Each (λ k. 256 ^ k ≤ 2 ^ 48) 0 7
 powers = (omega arith, (omega arith, (omega arith, (omega arith, (omega arith, (omega arith, (omega arith, tt)))))))
 
-pub scale-small : (s : List ℕ) (at sum scale i : ℕ) → Short s at sum scale i → i - at < 7 → scale ≤ 2 ^ 48
+pub scale-small : (s : List ℕ) (at sum scale i : ℕ) → Spelling s at sum scale i → i - at < 7 → scale ≤ 2 ^ 48
 scale-small s at sum scale i q h = rw (q .scale-is) (in-run (λ k. 256 ^ k ≤ 2 ^ 48) 0 7 (i - at) (omega arith) h powers)
 
 wide-powers : Each (λ k. 256 ^ k ≤ 2 ^ 56) 0 8
 wide-powers = (omega arith, (omega arith, (omega arith, (omega arith, (omega arith, (omega arith, (omega arith, (omega arith, tt))))))))
 
-pub key-fits : (s : List ℕ) (at sum scale i : ℕ) → Spelling s at sum scale i → sum + scale < 2 ^ 58
-key-fits s at sum scale i q =
-    split i (at + 8)
-    (λ h. let k = q .short (omega arith) in
-    let f : scale ≤ 2 ^ 56 = rw (k .scale-is) (in-run (λ k. 256 ^ k ≤ 2 ^ 56) 0 8 (i - at) (omega arith) (omega (arith, q .on)) wide-powers) in
-    omega (arith, k .small))
-    (λ h. let (y, z) = q .long (omega arith) in omega arith)
+pub scale-fits : (s : List ℕ) (at sum scale i : ℕ) → Spelling s at sum scale i → scale ≤ 2 ^ 56
+scale-fits s at sum scale i q = rw (q .scale-is) (in-run (λ k. 256 ^ k ≤ 2 ^ 56) 0 8 (i - at) (omega arith) (omega (arith, q .few, q .on)) wide-powers)
 
 pub product-small : (l scale : ℕ) → l < 256 → l * scale ≤ 255 * scale
 product-small l scale h = mul-le-mul-right scale (omega arith)
@@ -112,36 +97,27 @@ parts-more s at i h l =
     let g : getD (drop at s) (i - at) 0 ≡ getD s i 0 = getD-drop at s (i - at) 0 ∙ ap (λ (x : ℕ). getD s x 0) a in
     rw m (take-suc (drop at s) (i - at) 0 (omega (arith, length-drop at s)) ∙ rw g)
 
-module _ (s : List ℕ) (at sum scale i : ℕ) (q : Spelling s at sum scale i) (l : i < length s) (h : namePart (getD s i 0) ≡ true) where
-  parts-on : every namePart (part s at (i + 1 - at)) ≡ true
-  parts-on = rw (parts-more s at i (q .on) l) (every-more namePart (part s at (i - at)) (getD s i 0) (q .parts) h)
-
-  pub spelling-more : i - at < 7 → getD s i 0 < 256 → Spelling s at (sum + lower (getD s i 0) * scale) (scale * 256) (i + 1)
-  spelling-more k byte =
-      let r = q .short (omega arith) in
-      let u = map lower (part s at (i - at)) in
-      let b = lower (getD s i 0) in
-      let m : i + 1 - at ≡ suc (i - at) = omega (arith, q .on) in
-      let n : length u ≡ i - at = length-part s at i (q .on) (omega arith) in
-      let e : scale ≡ 256 ^ length u = r .scale-is ∙ ap (λ (x : ℕ). 256 ^ x) (sym n) in
-      let p : packed (u ++ (b ∷ [])) + scale ≡ packed u + scale * (b + 256) = rw e (packed-more u b) in
-      let d : scale * (b + 256) ≡ b * scale + scale * 256 = mul-add scale b 256 ∙ ap (λ (x : ℕ). x + scale * 256) (mul-comm scale b) in
-      let w = product-small b scale (lower-small (getD s i 0) byte) in
-      record {
-        on = omega (arith, q .on);
-        in-text = omega arith;
-        parts = parts-on;
-        short = λ _. record {
-          scale-is = rw (m, pow-suc 256 (i - at), ← r .scale-is) (omega arith);
-          key-is = rw (parts-more s at i (q .on) l, map-append lower (part s at (i - at)) (getD s i 0 ∷ [])) (omega (arith, p, d, r .key-is));
-          small = omega (arith, r .small, w);
-        };
-        long = λ f. absurd (omega (arith, q .on));
-      }
-
-  pub spelling-long : 7 ≤ i - at → Spelling s at 0 0 (i + 1)
-  spelling-long k =
-      record { on = omega (arith, q .on); in-text = omega arith; parts = parts-on; short = λ f. absurd (omega (arith, q .on)); long = λ _. (refl, refl) }
+pub spelling-more : (s : List ℕ) (at sum scale i : ℕ) → Spelling s at sum scale i → i < length s → i - at < 7 → namePart (getD s i 0) ≡ true → getD s i 0 < 256
+    → Spelling s at (sum + lower (getD s i 0) * scale) (scale * 256) (i + 1)
+spelling-more s at sum scale i q l k h byte =
+    let u = map lower (part s at (i - at)) in
+    let b = lower (getD s i 0) in
+    let m : i + 1 - at ≡ suc (i - at) = omega (arith, q .on) in
+    let t = parts-more s at i (q .on) l in
+    let n : length u ≡ i - at = length-part s at i (q .on) (omega arith) in
+    let e : scale ≡ 256 ^ length u = q .scale-is ∙ ap (λ (x : ℕ). 256 ^ x) (sym n) in
+    let p : packed (u ++ (b ∷ [])) + scale ≡ packed u + scale * (b + 256) = rw e (packed-more u b) in
+    let d : scale * (b + 256) ≡ b * scale + scale * 256 = mul-add scale b 256 ∙ ap (λ (x : ℕ). x + scale * 256) (mul-comm scale b) in
+    let w = product-small b scale (lower-small (getD s i 0) byte) in
+    record {
+      on = omega (arith, q .on);
+      in-text = omega arith;
+      few = omega (arith, q .on);
+      parts = rw t (every-more namePart (part s at (i - at)) (getD s i 0) (q .parts) h);
+      scale-is = rw (m, pow-suc 256 (i - at), ← q .scale-is) (omega arith);
+      key-is = rw (t, map-append lower (part s at (i - at)) (getD s i 0 ∷ [])) (omega (arith, p, d, q .key-is));
+      small = omega (arith, q .small, w);
+    }
 
 start-part : (b : ℕ) → nameStart b ≡ true → namePart b ≡ true
 unfolding namePart
@@ -155,14 +131,26 @@ spelling-ends s at sum scale i q l g start =
     split at i
     (λ less. record {
       ends = run-to namePart s (at + 1) i (omega arith) (q .in-text) (every-tail namePart _ _ (rw (part-cons s at i less l) at (q .parts))) g;
-      key-is = split i (at + 8)
-          (λ h. q .short (omega arith) .key-is ∙ sym (rw (keyOf, le-leb (length (map lower (part s at (i - at)))) 7 (omega (arith, long)))))
-          (λ h. let (y, z) = q .long (omega arith) in rw (y, z, keyOf, lt-leb (length (map lower (part s at (i - at)))) 7 (omega (arith, long))));
+      key-is = q .key-is ∙ sym (rw (keyOf, le-leb (length (map lower (part s at (i - at)))) 7 (omega (arith, length-part s at i (q .on) (q .in-text), q .few))));
     })
     (λ ge. let e : i ≡ at = omega (arith, q .on) in no-both (start-part (getD s at 0) start) (rw e at (g (omega arith))))
-  where
-    long : length (map lower (part s at (i - at))) ≡ i - at
-    long = length-part s at i (q .on) (q .in-text)
+
+-- It goes on behind seven bytes.
+pub spelling-long : (s : List ℕ) (at sum scale i end : ℕ) → Spelling s at sum scale i → i < length s → 7 ≤ i - at → namePart (getD s i 0) ≡ true → end ≡ i + run namePart (drop i s)
+    → WordIs s at (record { key = 0; end = end })
+unfolding keyOf
+spelling-long s at sum scale i end q l k h e =
+    let d = length-drop (at + 1) s in
+    let f = every-tail namePart _ _ (rw (part-cons s at i (omega arith) (omega arith)) at (q .parts)) in
+    let p = run-past namePart (i - (at + 1)) (drop (at + 1) s) (omega arith) f in
+    let m : at + 1 + (i - (at + 1)) ≡ i = omega arith in
+    let r : run namePart (drop (at + 1) s) ≡ i - (at + 1) + run namePart (drop i s) = rw (drop-drop (i - (at + 1)) (at + 1) s, m) at p in
+    let more : 0 < run namePart (drop i s) = omega (arith, run-yes namePart s i l h) in
+    let in-text : end ≤ length s = omega (arith, run-in namePart s i (omega arith)) in
+    record {
+      ends = omega (arith, r);
+      key-is = sym (rw (keyOf, lt-leb (length (map lower (part s at (end - at)))) 7 (omega (arith, length-part s at end (omega arith) in-text))));
+    }
 
 -- ---- a mnemonic is no register's name
 

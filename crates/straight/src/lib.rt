@@ -1,3 +1,3 @@
-// A line with an instruction, or an empty one, read straight from its bytes, without its record of tokens.
+// A line with an instruction or a label, or an empty one, read straight from its bytes, without its record of tokens.
 pub mod line;
-pub mod operand;
+mod operand;

@@ -170,14 +170,15 @@ fn lower_word(text: &[u8], at: usize) -> Word
                 end: i,
             };
         }
-        if i - at < 7 {
-            sum = sum + spelling::number::wide(spelling::bytes::to_lower(b)) * scale;
-            scale = scale * 256;
-        } else {
+        if 7 <= i - at {
             // the key of a longer word is 0
-            sum = 0;
-            scale = 0;
+            return Word {
+                key: 0,
+                end: spelling::bytes::run_end(text, i, Class::NamePart),
+            };
         }
+        sum = sum + spelling::number::wide(spelling::bytes::to_lower(b)) * scale;
+        scale = scale * 256;
         i += 1;
     }
     Word {

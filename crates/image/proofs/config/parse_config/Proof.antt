@@ -11,7 +11,7 @@ use Rattle.text.specs.Contracts.{filler}
 use Rattle.text.specs.declared.lexer.Kind.the-variants.{Identifier}
 use Rattle.text.specs.declared.lexer.Token.{Token}
 use Rattle.reading.proofs.Line.{getD-any}
-use Rattle.image.specs.Settings.{set, checked}
+use Rattle.image.specs.Settings.{setField, checked}
 use Rattle.image.specs.Contracts.{settingsMeant, recordMeant}
 use Rattle.image.proofs.Checks.{config-count, config-key, config-number, config-sets}
 use Rattle.image.proofs.config.parse_config.Statement.{statement}
@@ -104,7 +104,7 @@ returns-4 c =
     let t = getD (a .line .tokens) 1 past in
     let n : t .start + t .length - t .start ≡ t .length = omega arith in
     c .set-field .ensures
-    ∙ ap₂ (λ (n v : ℕ). checked (set (settingsMeant (a .config)) (take n (drop (t .start) (a .source .now))) v)) n (left r)
+    ∙ ap₂ (λ (n v : ℕ). checked (setField (settingsMeant (a .config)) (take n (drop (t .start) (a .source .now))) v)) n (left r)
     ∙ sym (config-sets (settingsMeant (a .config)) (a .source .now) (a .line) past (s .pre .nine) (e .if1 .left) (k .enum-told .given .1)
     (wholeMeant (w .whole .given .0 .0)) (sym (rw (w .whole .given .1) at (x .extract-number .ensures))))
 

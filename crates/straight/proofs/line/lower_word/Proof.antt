@@ -1,12 +1,11 @@
 -- `straight::line::lower_word` meets its contract. The loop's invariant: the bytes so far are parts of a name, and their key.
 use Prim.Native.Nat.{_+_, _-_, _*_, _^_, _≤_, _<_}
 use mathlib.Core.Path.{sym, _∙_}
-use mathlib.Core.Logic.{⊎-elim}
 use native.Mathlib.Omega.{arith}
 use lib.ListN.{length, getD}
 use borrow.Author.Needs.{needs}
 use borrow.Author.Tests.{not-true, not-false}
-use Rattle.straight.proofs.Lines.{Spelling, spelling-begin, spelling-more, spelling-long, spelling-ends, scale-small, key-fits, product-small, lower-small}
+use Rattle.straight.proofs.Lines.{Spelling, spelling-begin, spelling-more, spelling-long, spelling-ends, scale-small, scale-fits, product-small, lower-small}
 use Rattle.straight.proofs.line.lower_word.Statement.{statement}
 use Rattle.straight.proofs.line.lower_word.Tie as tie
 
@@ -25,8 +24,8 @@ shared-slice-read-b c = search needs
 is-name-part-requires : tie.Need-is-name-part-requires Inv-loop μ-loop
 is-name-part-requires c κs = search needs
 
-fits : (k : tie.At-loop Inv-loop μ-loop) → let b = k .before .before in k .loop .sum + k .loop .scale < 2 ^ 58
-fits k = let b = k .before .before in key-fits (b .args .text .now) (b .args .at) (k .loop .sum) (k .loop .scale) (k .loop .i) (k .loop .inv)
+fits : (k : tie.At-loop Inv-loop μ-loop) → k .loop .sum + k .loop .scale < 2 ^ 58
+fits k = let b = k .before .before in omega (arith, scale-fits (b .args .text .now) (b .args .at) (k .loop .sum) (k .loop .scale) (k .loop .i) (k .loop .inv), k .loop .inv .small)
 
 add-t12 : tie.Need-add-t12 Inv-loop μ-loop
 add-t12 c = omega (arith, fits (c .before .before .before .before))
@@ -40,6 +39,20 @@ returns c =
 
 sub-if2 : tie.Need-sub-if2 Inv-loop μ-loop
 sub-if2 c = c .before .before .before .before .loop .inv .on
+
+run-end-requires : tie.Need-run-end-requires Inv-loop μ-loop
+run-end-requires c κs = search needs
+
+returns-2 : tie.Need-returns-2 Inv-loop μ-loop
+returns-2 c =
+    let t = c .before in
+    let e = t .before in
+    let p = e .before in
+    let l = p .before .before in
+    let k = l .before in
+    let b = k .before .before in
+    spelling-long (b .args .text .now) (b .args .at) (k .loop .sum) (k .loop .scale) (k .loop .i) (c .run-end .result) (k .loop .inv) (l .loop-test .taken) (t .if2 .taken)
+    (sym (p .is-name-part .ensures) ∙ not-false _ (e .if1 .left)) (c .run-end .ensures)
 
 to-lower-requires : tie.Need-to-lower-requires Inv-loop μ-loop
 to-lower-requires c κs = search needs
@@ -55,11 +68,10 @@ bounds c =
     let p = e .before .before in
     let k = p .before .before .before in
     let b = k .before .before in
-    let i = k .loop .i in
-    let short = k .loop .inv .short (omega (arith, e .if2 .taken)) in (
-      scale-small (b .args .text .now) (b .args .at) (k .loop .sum) (k .loop .scale) i short (e .if2 .taken),
+    let i = k .loop .i in (
+      scale-small (b .args .text .now) (b .args .at) (k .loop .sum) (k .loop .scale) i (k .loop .inv) (omega (arith, e .if2 .left)),
       (
-        short .small,
+        k .loop .inv .small,
         product-small (c .wide .result) (k .loop .scale) (omega (arith, c .wide .ensures, c .before .to-lower .ensures, lower-small (getD (b .args .text .now) i 0) (omega (arith, p .before .shared-slice-known2 .given i)))),
       ),
     )
@@ -81,24 +93,21 @@ loop-less c = search needs
 
 loop-again : tie.Need-loop-again Inv-loop μ-loop
 loop-again c =
-    let e = c .before in
-    let p = e .before in
+    let e = c .before .before in
+    let p = e .before .before in
     let l = p .before .before in
     let k = l .before in
     let b = k .before .before in
     let i = k .loop .i in
-    let part = sym (p .is-name-part .ensures) ∙ not-false _ (e .if1 .left) in
-    ⊎-elim
-    (λ w. rw (w .3, w .4, w .2 .ensures ∙ w .1 .ensures)
-    (spelling-more (b .args .text .now) (b .args .at) (k .loop .sum) (k .loop .scale) i (k .loop .inv) (l .loop-test .taken) part (w .0 .taken) (omega (arith, p .before .shared-slice-known2 .given i))))
-    (λ w. rw (w .1, w .2) (spelling-long (b .args .text .now) (b .args .at) (k .loop .sum) (k .loop .scale) i (k .loop .inv) (l .loop-test .taken) part (omega (arith, w .0 .left))))
-    (c .if2 .came)
+    rw (c .wide .ensures ∙ c .before .to-lower .ensures)
+    (spelling-more (b .args .text .now) (b .args .at) (k .loop .sum) (k .loop .scale) i (k .loop .inv) (l .loop-test .taken) (omega (arith, e .if2 .left))
+    (sym (p .is-name-part .ensures) ∙ not-false _ (e .before .if1 .left)) (omega (arith, p .before .shared-slice-known2 .given i)))
 
-add-t16 : tie.Need-add-t16 Inv-loop μ-loop
-add-t16 c = omega (arith, fits (c .before))
+add-t17 : tie.Need-add-t17 Inv-loop μ-loop
+add-t17 c = omega (arith, fits (c .before))
 
-returns-2 : tie.Need-returns-2 Inv-loop μ-loop
-returns-2 c =
+returns-3 : tie.Need-returns-3 Inv-loop μ-loop
+returns-3 c =
     let k = c .before in
     let b = k .before .before in
     spelling-ends (b .args .text .now) (b .args .at) (k .loop .sum) (k .loop .scale) (k .loop .i) (k .loop .inv) (b .pre .0) (λ h. absurd (omega (arith, c .loop-test .left))) (b .pre .1)
@@ -115,6 +124,8 @@ lower-word-spec =
     add-t12
     returns
     sub-if2
+    run-end-requires
+    returns-2
     to-lower-requires
     wide-requires
     mul-sum
@@ -123,5 +134,5 @@ lower-word-spec =
     add-i
     loop-less
     loop-again
-    add-t16
-    returns-2)
+    add-t17
+    returns-3)
