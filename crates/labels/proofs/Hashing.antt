@@ -11,13 +11,13 @@ use lib.ListN.{length, take, drop, getD}
 use lib.Seq.{drop-cons, getD-take, getD-drop}
 use borrow.Author.Tests.{lt-ltb, le-ltb, le-leb, lt-leb, eqb-true, eqb-false, eq-eqb, ne-eqb}
 use Rattle.spelling.specs.Bytes.{same}
-use Rattle.spelling.proofs.Tests.{by-test}
+use Rattle.spelling.proofs.Tests.{by-test, split}
 use Rattle.labels.specs.declared.label.Label.{Label}
 use Rattle.labels.specs.declared.tree.Digest.{Digest}
 use Rattle.labels.specs.declared.tree.Turns.{Turns}
 use Rattle.labels.specs.declared.tree.Search.{Search}
 use Rattle.labels.specs.Contracts.{InText, spelled}
-use Rattle.labels.specs.Tree.{plain, held, link, raised, linked, mixed, hashFrom, noHash, hashOf, turned, wayOf, hits, endedAt, passed, visited}
+use Rattle.labels.specs.Tree.{plain, held, link, raised, linked, mixed, threeAt, hashFrom, noHash, hashOf, turned, wayOf, hits, endedAt, passed, visited}
 use Rattle.labels.proofs.Named.{part-is, spelled-long}
 
 -- ---- the ways
@@ -74,18 +74,34 @@ pub mix-fits : (h f : ℕ) → f ≤ 4294967295 → h % 4294967296 * f ≤ 42949
 mix-fits h f g = mul-le-mul {n₂ = 4294967295} {m₂ = 4294967295} (omega arith) g
 
 module _ (s : List ℕ) (h : Digest) where
-  pub hash-step : (at end : ℕ) → at < end → end ≤ length s → hashFrom h (take (end - at) (drop at s)) ≡ hashFrom (mixed h (getD s at 0)) (take (end - (at + 1)) (drop (at + 1) s))
+  -- Three bytes, as long as there are so many,
+  pub hash-three : (at end : ℕ) → 3 ≤ end - at → end ≤ length s
+      → hashFrom h (take (end - at) (drop at s)) ≡ hashFrom (mixed h (threeAt s at)) (take (end - (at + 3)) (drop (at + 3) s))
+  unfolding hashFrom threeAt
+  hash-three at end f g =
+      let e : end - at ≡ suc (suc (suc (end - suc (suc (suc at))))) = omega arith in
+      let v : at + 2 ≡ suc (suc at) = omega arith in
+      let w : at + 3 ≡ suc (suc (suc at)) = omega arith in
+      rw (drop-cons s at 0 (omega arith), drop-cons s (suc at) 0 (omega arith), drop-cons s (suc (suc at)) 0 (omega arith), e, threeAt, add-one at, v, w)
+
+  -- and the last by themselves.
+  pub hash-one : (at end : ℕ) → at < end → end - at < 3 → end ≤ length s
+      → hashFrom h (take (end - at) (drop at s)) ≡ hashFrom (mixed h (getD s at 0)) (take (end - (at + 1)) (drop (at + 1) s))
   unfolding hashFrom
-  hash-step at end f g =
-      let e : end - at ≡ suc (end - suc at) = omega arith in
-      let k : at < length s = omega arith in
-      rw (drop-cons s at 0 k, e, add-one at)
+  hash-one at end f k g =
+      split (suc at) end
+      (λ two. let e : end - at ≡ suc (suc zero) = omega arith in
+      let d : end - suc at ≡ suc zero = omega arith in
+      rw (add-one at, drop-cons s at 0 (omega arith), drop-cons s (suc at) 0 (omega arith), e, d))
+      (λ one. let e : end - at ≡ suc zero = omega arith in
+      let d : end - suc at ≡ zero = omega arith in
+      rw (add-one at, drop-cons s at 0 (omega arith), e, d))
 
   pub hash-done : (at end : ℕ) → end ≤ at → hashFrom h (take (end - at) (drop at s)) ≡ h
   unfolding hashFrom
   hash-done at end f = let e : end - at ≡ 0 = omega arith in rw e
 
-  pub hash-all : (l : Label) → hashFrom noHash (take (l .start + l .length - l .start) (drop (l .start) s)) ≡ hashOf (spelled s l)
+  pub hash-all : (l : Label) → mixed (hashFrom noHash (take (l .start + l .length - l .start) (drop (l .start) s))) 0 ≡ hashOf (spelled s l)
   unfolding hashOf
   hash-all l = rw (part-is s (l .start) (l .length))
 

@@ -45,22 +45,29 @@ linked e way to =
 
 -- ---- spellings
 
+-- A hash with up to three bytes more, as one number, the first byte lowest.
 unfoldable pub mixed : Digest → ℕ → Digest
-mixed h b =
+mixed h w =
     record {
-      first = h .first % 4294967296 * (2654435761 + 6364137 * b) + h .second / 4294967296;
-      second = h .second % 4294967296 * (2246822519 + 8000009 * b) + h .first / 4294967296;
+      first = h .first % 4294967296 * (2654435761 + 89 * w) + h .second / 4294967296;
+      second = h .second % 4294967296 * (2246822519 + 113 * w) + h .first / 4294967296;
     }
+
+unfoldable pub threeAt : List ℕ → ℕ → ℕ
+threeAt s at = getD s at 0 + 256 * getD s (at + 1) 0 + 65536 * getD s (at + 2) 0
 
 unfoldable pub hashFrom : Digest → List ℕ → Digest
 hashFrom h [] = h
-hashFrom h (b ∷ u) = hashFrom (mixed h b) u
+hashFrom h (a ∷ []) = mixed h a
+hashFrom h (a ∷ b ∷ []) = mixed (mixed h a) b
+hashFrom h (a ∷ b ∷ c ∷ u) = hashFrom (mixed h (a + 256 * b + 65536 * c)) u
 
 abbrev pub noHash : Digest
 noHash = record { first = 11400714819323198485; second = 13787848793156543929 }
 
+-- The last bytes are mixed once more, so that they reach the lowest bits.
 unfoldable pub hashOf : List ℕ → Digest
-hashOf u = hashFrom noHash u
+hashOf u = mixed (hashFrom noHash u) 0
 
 -- The turns of a spelling, two bits each: those of its hash, then those of its bytes, the lowest first. A 1 stands behind the last.
 unfoldable pub firstTurns : List ℕ → Turns

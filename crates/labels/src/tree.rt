@@ -3,9 +3,10 @@
 // length 43 bits of its spelling's hash.
 ghost use mathlib.Core.Path.{_≡_};
 ghost use Prim.Native.Nat.{_+_, _/_, _≤_, _<_};
+ghost use lib.ListN.{length};
 ghost use Rattle.spelling.specs.Bytes.{same};
 ghost use Rattle.labels.specs.Contracts.{InText, spelled};
-ghost use Rattle.labels.specs.Tree.{plain as plainOf, held as heldOf, link as linkOf, raised as raisedOf, linked as linkedOf, mixed, hashOf, turned, hits as hitsOf, begun, endedAt, visited, Enterable, Visitable};
+ghost use Rattle.labels.specs.Tree.{plain as plainOf, held as heldOf, link as linkOf, raised as raisedOf, linked as linkedOf, mixed, threeAt, hashOf, turned, hits as hitsOf, begun, endedAt, visited, Enterable, Visitable};
 use crate::label::Label;
 
 pub(crate) struct Digest {
@@ -102,17 +103,25 @@ fn linked(entry: Label, way: u64, to: usize) -> Label
     }
 }
 
-// A hash with a byte more. Its two numbers are mixed with one another.
-fn mix(hash: Digest, byte: u8) -> Digest
-    ensures { λ r. ⌜ r ≡ mixed hash byte ⌝ }
+// A hash with up to three bytes more. Its two numbers are mixed with one another.
+fn mix(hash: Digest, letters: u64) -> Digest
+    requires { ⌜ letters < 16777216 ⌝ }
+    ensures { λ r. ⌜ r ≡ mixed hash letters ⌝ }
 {
-    let wide = byte as u64;
     let first = hash.first;
     let second = hash.second;
     Digest {
-        first: first % 4294967296 * (2654435761 + 6364137 * wide) + second / 4294967296,
-        second: second % 4294967296 * (2246822519 + 8000009 * wide) + first / 4294967296,
+        first: first % 4294967296 * (2654435761 + 89 * letters) + second / 4294967296,
+        second: second % 4294967296 * (2246822519 + 113 * letters) + first / 4294967296,
     }
+}
+
+// The three bytes from `at` on as one number.
+fn three(source: &[u8], at: usize) -> u64
+    requires { ⌜ at + 3 ≤ length (now source) ⌝ }
+    ensures { λ r. ⌜ r ≡ threeAt (now (source .entry)) at ⌝ ∗ ⌜ r < 16777216 ⌝ }
+{
+    source[at] as u64 + 256 * (source[at + 1] as u64) + 65536 * (source[at + 2] as u64)
 }
 
 fn hash(source: &[u8], label: Label) -> Digest
@@ -125,11 +134,16 @@ fn hash(source: &[u8], label: Label) -> Digest
         first: 11400714819323198485,
         second: 13787848793156543929,
     };
+    while 3 <= end - at {
+        hash = mix(hash, three(source, at));
+        at += 3;
+    }
     while at < end {
-        hash = mix(hash, source[at]);
+        hash = mix(hash, source[at] as u64);
         at += 1;
     }
-    hash
+    // so that the last bytes reach the lowest bits, by which the first turns go
+    mix(hash, 0)
 }
 
 // The bits of a byte, with a 1 behind them.
