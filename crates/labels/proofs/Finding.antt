@@ -9,7 +9,7 @@ use native.Mathlib.Numerals.{add-one}
 use mathlib.Core.Bool.{Bool, true, false, true≢false}
 use mathlib.Core.List.{List, [], _∷_}
 use lib.Dec.{ltb, eqb}
-use lib.ListN.{length, take, drop, getD, set, length-take, length-drop, length-set}
+use lib.ListN.{length, take, getD, set, length-take, length-set}
 use lib.Seq.{getD-take, getD-set-same, getD-set-other, set-out, ext-getD}
 use borrow.Author.Tests.{eqb-true, eqb-false, eq-eqb, ltb-true, ltb-false}
 use Rattle.spelling.specs.Bytes.{same}
@@ -20,7 +20,7 @@ use Rattle.labels.specs.declared.label.Label.{Label}
 use Rattle.labels.specs.declared.tree.Turns.{Turns}
 use Rattle.labels.specs.declared.tree.Search.{Search}
 use Rattle.labels.specs.Contracts.{InText, spelled, noLabel, anyNamed, Enters}
-use Rattle.labels.specs.Tree.{plain, unlinked, held, link, raised, linked, firstTurns, turned, wayOf, keyOf, entryFor, hits, begun, endedAt, passed, visited, Finds, here, there, Tree, Enterable, joined, Searched, Visitable}
+use Rattle.labels.specs.Tree.{plain, unlinked, held, link, raised, linked, firstTurns, turned, wayOf, keyOf, entryFor, hits, begun, visited, Finds, here, there, Tree, Enterable, joined, Searched, Visitable}
 use Rattle.labels.proofs.Hashing.{parity, held-odd, raised-odd, held-even, raised-even, link-low, linked-low, link-high, linked-high, visited-hit, visited-last, visited-on}
 use Rattle.labels.proofs.Named.{spelled-long, one-named, none-named, enters-known, enters-new, enters-full}
 

@@ -1,23 +1,21 @@
 -- A line's mnemonic by its key, and the line that it begins.
-use Prim.Native.Nat.{ℕ, zero, suc, _+_, _-_, _*_, _^_, _≤_, _<_}
+use Prim.Native.Nat.{ℕ, suc, _+_, _-_, _*_, _^_, _≤_, _<_}
 use mathlib.Core.Path.{_≡_, refl, sym, ap, _∙_}
 use native.Mathlib.Nat.{pow-suc, mul-add, mul-assoc, mul-comm, mul-le-mul-right}
 use native.Mathlib.Omega.{arith}
-use native.Mathlib.Numerals.{add-one}
-use mathlib.Core.Bool.{Bool, true, false, not, true≢false}
-use mathlib.Core.Logic.{_⊎_, inl, inr}
+use mathlib.Core.Bool.{true, false, not, true≢false}
 use mathlib.Core.Option.{Option, none, some}
 use mathlib.Core.List.{List, [], _∷_, _++_, map, map-append}
-use lib.ListN.{length, take, drop, getD, length-append, length-map, length-take, length-drop}
+use lib.ListN.{length, drop, getD, length-map, length-take, length-drop}
 use lib.Seq.{drop-drop, take-suc, getD-drop, take-all}
 use lib.Dec.{leb, eqb}
 use borrow.Author.Tests.{leb-true, le-leb, lt-leb, lt-ltb, eq-eqb}
-use Rattle.spelling.specs.Bytes.{Result, value, bytes, between, letter, digit, nameStart, namePart, lower, margin, every, same, run, find, isSome, each}
+use Rattle.spelling.specs.Bytes.{Result, value, bytes, between, digit, nameStart, namePart, lower, margin, every, same, run, find, isSome, each}
 use Rattle.spelling.specs.Names.{Name, name, named, numbered, conventional, present}
 use Rattle.spelling.specs.Contracts.{packed, keyOf, nameNumber}
 use Rattle.spelling.specs.declared.name.RegisterName.the-variants.{Other}
 use Rattle.spelling.proofs.Keys.{Below}
-use Rattle.spelling.proofs.Tests.{split, by-test, no-both, not-true, or-left, between-true}
+use Rattle.spelling.proofs.Tests.{split, by-test, no-both, or-left, between-true}
 use Rattle.spelling.proofs.Strings.{every-tail, run-past, run-yes, same-eq, found}
 use Rattle.text.specs.Tokens.{Token, identifier, register, number, hex, binary, directive, comma, colon, opening, closing, infront, tokens}
 use Rattle.text.specs.Lines.{kept, lineOf, recordOf, readLine}
@@ -26,8 +24,8 @@ use Rattle.text.specs.declared.lexer.Kind.the-variants.{Identifier}
 use Rattle.text.proofs.Left.{start-solid, content-at, indent-at}
 use Rattle.text.proofs.Fronts.{run-in, part-cons, word-at}
 use Rattle.text.proofs.Stepping.{solid-step, margin-on}
-use Rattle.instruction.specs.Table.{Place, reg, Form, R, I, Shift, Load, Store, Branch, Jump, System, places, row, table, rowNamed}
-use Rattle.instruction.specs.Operands.{Operands, readIdentifier, readRegister, withRegister, markByte, readPlace, readOperands, made, readRow, readMnemonic, readInstruction}
+use Rattle.instruction.specs.Table.{reg, Form, R, I, Shift, Load, Store, Branch, Jump, System, places, row, table, rowNamed}
+use Rattle.instruction.specs.Operands.{Operands, readIdentifier, readRegister, markByte, readPlace, readOperands, made, readRow, readMnemonic, readInstruction}
 use Rattle.instruction.specs.Contracts.{IsRow, rowAt, formAt, formNumber, operandsMeant, partsMeant}
 use Rattle.instruction.specs.declared.instruction.Operands.{Operands as Kept}
 use Rattle.instruction.specs.declared.opcode.Row.{Row as Looked}

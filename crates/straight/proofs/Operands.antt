@@ -1,17 +1,16 @@
 -- The operands of a form, read one by one from the line: what has been read of them, and what is still ahead.
-use Prim.Native.Nat.{ℕ, zero, suc, _+_, _*_, _/_, _%_, _≤_, _<_}
+use Prim.Native.Nat.{ℕ, zero, suc, _+_, _/_, _%_, _≤_, _<_}
 use mathlib.Core.Path.{_≡_, refl, sym, ap, _∙_}
 use native.Mathlib.Omega.{arith}
 use native.Mathlib.Numerals.{add-one}
-use mathlib.Core.Bool.{Bool, true, false, true≢false, _||_}
+use mathlib.Core.Bool.{Bool, true, false, true≢false}
 use mathlib.Core.Logic.{_⊎_, inl, inr}
 use mathlib.Core.Option.{Option, none, some}
 use mathlib.Core.List.{List, [], _∷_, _++_, map, map-append, append-assoc, append-nil}
 use lib.ListN.{length, take, getD, set, replicate, length-append, length-set}
 use lib.Seq.{take-suc-set}
-use lib.Dec.{eqb}
 use lib.IntN.{ℤ}
-use Rattle.spelling.specs.Bytes.{Result, value, refused}
+use Rattle.spelling.specs.Bytes.{Result, value}
 use Rattle.spelling.specs.Names.{present}
 use Rattle.spelling.specs.Contracts.{indexOf, signedMeant}
 use Rattle.spelling.specs.declared.register.Register.{Register}

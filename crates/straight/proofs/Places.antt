@@ -3,7 +3,7 @@ use Prim.Native.Nat.{ℕ, zero, suc, _+_, _-_, _*_, _^_, _≤_, _<_}
 use mathlib.Core.Path.{_≡_, refl, sym, ap, _∙_}
 use native.Mathlib.Omega.{arith}
 use native.Mathlib.Numerals.{add-one}
-use mathlib.Core.Bool.{Bool, true, false, true≢false}
+use mathlib.Core.Bool.{Bool, true, false}
 use mathlib.Core.Logic.{_⊎_, inl, inr}
 use mathlib.Core.Option.{Option, none, some}
 use mathlib.Core.List.{List, [], _∷_, _++_}
@@ -15,14 +15,14 @@ use borrow.Author.Tests.{le-leb, eqb-true}
 use Rattle.spelling.specs.Bytes.{between, letter, digit, mark, nameStart, namePart, blank, inside, margin, every, before, run, isSome}
 use Rattle.spelling.specs.Numbers.{digitValue, valueFrom, valueOf, minus}
 use Rattle.spelling.specs.Names.{Name, named, present}
-use Rattle.spelling.specs.Contracts.{indexOf, nameNumber, signedMeant}
+use Rattle.spelling.specs.Contracts.{indexOf, nameNumber}
 use Rattle.spelling.specs.declared.register.Register.{Register}
 use Rattle.spelling.specs.declared.name.RegisterName.the-variants.{Is}
-use Rattle.spelling.proofs.Tests.{split, by-test, both, not-true, no-both, or-left, or-right, between-true}
+use Rattle.spelling.proofs.Tests.{split, both, not-true, no-both, or-right, between-true}
 use Rattle.spelling.proofs.Strings.{every-head, every-tail, every-mono, every-run, take-run, run-past, run-no, run-yes, run-end, run-le}
 use Rattle.text.specs.Tokens.{Token, isIdentifier, isRegister, register, number, comma, colon, opening, closing, markToken, tokens}
 use Rattle.text.specs.Places.{restAt, leftAt, endAt}
-use Rattle.text.specs.Contracts.{meant, At, Stepped, NoWord}
+use Rattle.text.specs.Contracts.{meant, Stepped, NoWord}
 use Rattle.text.specs.declared.lexer.Token.{Token as KeptToken}
 use Rattle.text.specs.declared.lexer.Kind.the-variants.{Register as RegisterKind, Number, Negative, Comma, Colon, LParen, RParen}
 use Rattle.text.specs.declared.lexer.Scan.the-variants.{Found}

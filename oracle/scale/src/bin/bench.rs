@@ -39,6 +39,8 @@ fn main() {
         "Library, ns a byte",
         "Rust, ns a byte",
         "Library / Rust",
+        "Library against 16 KB",
+        "Rust against 16 KB",
     ]);
     for kind in large::KINDS {
         assembling(&mut buffers, &kind);
@@ -49,6 +51,7 @@ fn main() {
         "Length",
         "Library, ns a word",
         "Text, MB a second",
+        "Against 16 KB",
     ]);
     listing(&mut buffers, "ordinary instructions", large::instruction);
     listing(&mut buffers, "all ecall", |_| "ecall".to_string());
@@ -57,10 +60,10 @@ fn main() {
     });
 }
 
-/// A table's head. The last column is the library's time a byte, or a word, against that at 16 KB.
+/// A table's head. The last columns are the time a byte, or a word, against that at 16 KB.
 fn head(columns: &[&str]) {
-    println!("| {} | Against 16 KB |", columns.join(" | "));
-    println!("|---|{}", "---:|".repeat(columns.len()));
+    println!("| {} |", columns.join(" | "));
+    println!("|---|{}", "---:|".repeat(columns.len() - 1));
 }
 
 /// The best time of a call for all inputs, in nanoseconds: of at least three runs, and of as many
@@ -99,10 +102,10 @@ fn assembling(Buffers { table, image, .. }: &mut Buffers, kind: &Kind) {
     };
     let times: Vec<[f64; 2]> = lengths.iter().copied().map(times).collect();
     for (length, [library, reference]) in lengths.iter().zip(&times) {
-        let (name, length) = (kind.name, length / KB);
-        let (ratio, flat) = (library / reference, library / times[1][0]);
+        let (name, length, ratio) = (kind.name, length / KB, library / reference);
+        let [ours, theirs] = [library / times[1][0], reference / times[1][1]];
         println!(
-            "| {name} | {length} KB | {library:.1} | {reference:.1} | {ratio:.2} | {flat:.2} |"
+            "| {name} | {length} KB | {library:.1} | {reference:.1} | {ratio:.2} | {ours:.2} | {theirs:.2} |"
         );
     }
 }

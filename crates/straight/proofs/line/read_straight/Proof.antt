@@ -5,7 +5,6 @@ use lib.ListN.{length}
 use borrow.Author.Needs.{needs}
 use Rattle.spelling.specs.Bytes.{margin}
 use Rattle.text.proofs.Fronts.{run-in}
-use Rattle.straight.specs.Contracts.{FrontIs}
 use Rattle.straight.proofs.Lines.{front-in, line-is}
 use Rattle.straight.proofs.line.read_straight.Statement.{statement}
 use Rattle.straight.proofs.line.read_straight.Tie as tie
