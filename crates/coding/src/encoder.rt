@@ -5,7 +5,7 @@ ghost use lib.Dec.{ltb};
 ghost use Rattle.spelling.specs.Contracts.{indexOf, wholeMeant, Reduced};
 ghost use Rattle.instruction.specs.Table.{places};
 ghost use Rattle.instruction.specs.Words.{wordOf, fields as fieldSum, unusedFrom, registersIn, numberIn, instructionOf};
-ghost use Rattle.instruction.specs.Contracts.{formAt, formNumbers, opcodeNumbers, instructionMeant, numberFor, operandsMeant, partsMeant};
+ghost use Rattle.instruction.specs.Contracts.{formAt, formNumbers, opcodeNumbers, instructionMeant, numberFor, operandsMeant};
 ghost use Rattle.coding.specs.Contracts.{decodedMeant, Power, Signed};
 use instruction::instruction::Instruction;
 use instruction::instruction::Operands;
@@ -63,21 +63,15 @@ fn fields(form: u8, operands: Operands) -> u32
     }
 }
 
-// The word of an instruction by its row and operands.
-pub fn encode_parts(row: usize, operands: Operands, opcodes: &[u8; 50], forms: &[u8; 50]) -> u32
-    requires { ⌜ row < 50 ⌝ ∗ ⌜ now opcodes ≡ opcodeNumbers ⌝ ∗ ⌜ now forms ≡ formNumbers ⌝ }
-    ensures { λ r. ⌜ r ≡ wordOf (partsMeant (record { row = row; operands = operands })) ⌝ }
-{
-    wide(opcodes[row]) + fields(forms[row], operands)
-}
-
 // The word of an instruction.
 pub fn encode(instruction: Instruction, opcodes: &[u8; 50], forms: &[u8; 50]) -> u32
     requires { ⌜ now opcodes ≡ opcodeNumbers ⌝ ∗ ⌜ now forms ≡ formNumbers ⌝ }
     ensures { λ r. ⌜ r ≡ wordOf (instructionMeant instruction) ⌝ }
 {
     let parts = instruction.to_parts();
-    encode_parts(parts.row, parts.operands, opcodes, forms)
+    let row = parts.row;
+    let operands = parts.operands;
+    wide(opcodes[row]) + fields(forms[row], operands)
 }
 
 pub enum Decoded {

@@ -1,5 +1,5 @@
--- While labels are entered, their entries are the nodes of a tree, in which a spelling is looked for. Which way a spelling takes and how
--- it is hashed is free: what is found does not depend on it.
+-- While labels are entered, their entries are the nodes of a tree, in which a spelling is looked for. Document 01 knows nothing of it:
+-- which way a spelling takes and how it is hashed could be otherwise, and what is found does not depend on it.
 use Prim.Native.Nat.{ℕ, zero, suc, _+_, _*_, _/_, _%_, _≤_, _<_}
 use mathlib.Core.Path.{_≡_}
 use mathlib.Core.Bool.{Bool, true, false}
@@ -49,8 +49,8 @@ linked e way to =
 unfoldable pub mixed : Digest → ℕ → Digest
 mixed h w =
     record {
-      first = h .first % 4294967296 * (2654435761 + 89 * w) + h .second / 4294967296;
-      second = h .second % 4294967296 * (2246822519 + 113 * w) + h .first / 4294967296;
+      first = h .first % 4294967296 * (2654435761 + 89 * w) + (h .second / 4294967296 + w);
+      second = h .second % 4294967296 * (2246822519 + 113 * w) + (h .first / 4294967296 + w);
     }
 
 unfoldable pub threeAt : List ℕ → ℕ → ℕ

@@ -50,7 +50,7 @@ pub fn enter(source: &[u8], table: &mut [Label], count: usize, label: Label) -> 
         return Checked::Refused(4);
     }
     if append(table, count, search.entry) {
-        // its parent leads to it
+        // its parent leads to it (the first label of all is stored again)
         append(table, search.last, search.parent);
         return Checked::Good;
     }

@@ -23,7 +23,7 @@ pub(crate) struct Turns {
 }
 
 // A spelling that is looked for. `entry` is that of its label, behind `count` others; `parent` is the entry that is to lead to
-// it, and stands at `last`.
+// it, and stands at `last`: for the first label of all, which nothing leads to, its own.
 pub(crate) struct Search {
     pub(crate) more: bool,
     pub(crate) known: bool,
@@ -103,21 +103,22 @@ fn linked(entry: Label, way: u64, to: usize) -> Label
     }
 }
 
-// A hash with up to three bytes more. Its two numbers are mixed with one another.
-fn mix(hash: Digest, letters: u64) -> Digest
-    requires { ⌜ letters < 16777216 ⌝ }
-    ensures { λ r. ⌜ r ≡ mixed hash letters ⌝ }
+// A hash with up to three bytes more, as one number. Its two numbers are mixed with one another; the bytes are added too, since a factor
+// of 0 would lose them.
+fn mix(hash: Digest, bytes: u64) -> Digest
+    requires { ⌜ bytes < 16777216 ⌝ }
+    ensures { λ r. ⌜ r ≡ mixed hash bytes ⌝ }
 {
     let first = hash.first;
     let second = hash.second;
     Digest {
-        first: first % 4294967296 * (2654435761 + 89 * letters) + second / 4294967296,
-        second: second % 4294967296 * (2246822519 + 113 * letters) + first / 4294967296,
+        first: first % 4294967296 * (2654435761 + 89 * bytes) + (second / 4294967296 + bytes),
+        second: second % 4294967296 * (2246822519 + 113 * bytes) + (first / 4294967296 + bytes),
     }
 }
 
 // The three bytes from `at` on as one number.
-fn three(source: &[u8], at: usize) -> u64
+fn three_bytes(source: &[u8], at: usize) -> u64
     requires { ⌜ at + 3 ≤ length (now source) ⌝ }
     ensures { λ r. ⌜ r ≡ threeAt (now (source .entry)) at ⌝ ∗ ⌜ r < 16777216 ⌝ }
 {
@@ -135,7 +136,7 @@ fn hash(source: &[u8], label: Label) -> Digest
         second: 13787848793156543929,
     };
     while 3 <= end - at {
-        hash = mix(hash, three(source, at));
+        hash = mix(hash, three_bytes(source, at));
         at += 3;
     }
     while at < end {

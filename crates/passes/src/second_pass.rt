@@ -7,7 +7,7 @@ ghost use lib.ListN.{length};
 ghost use Rattle.spelling.specs.Numbers.{little};
 ghost use Rattle.instruction.specs.Operands.{readInstruction, behind};
 ghost use Rattle.instruction.specs.Words.{wordOf};
-ghost use Rattle.instruction.specs.Contracts.{opcodeNumbers};
+ghost use Rattle.instruction.specs.Contracts.{opcodeNumbers, formNumbers, partsMeant};
 ghost use Rattle.coding.specs.Contracts.{Written};
 ghost use Rattle.image.specs.Meaning.{oneOf, instructionOn};
 ghost use Rattle.image.specs.Contracts.{recordMeant, settingsMeant};
@@ -17,6 +17,8 @@ use crate::first_pass::Pass;
 use crate::line::LineKind;
 use image::config::Checked;
 use image::config::Config;
+use instruction::instruction::Instruction;
+use instruction::instruction::Operands;
 use reading::assembler::Parsed;
 use straight::line::Straight;
 use text::parser::Line;
@@ -92,6 +94,15 @@ fn line_word(
     }
 }
 
+// The word of an instruction by its row and operands.
+fn straight_word(row: usize, operands: Operands, opcodes: &[u8; 50], forms: &[u8; 50]) -> u32
+    requires { ⌜ row < 50 ⌝ ∗ ⌜ now opcodes ≡ opcodeNumbers ⌝ ∗ ⌜ now forms ≡ formNumbers ⌝ }
+    ensures { λ r. ⌜ r ≡ wordOf (partsMeant (record { row = row; operands = operands })) ⌝ }
+{
+    let instruction = Instruction::from_parts(row, operands);
+    coding::encoder::encode(instruction, opcodes, forms)
+}
+
 // The word of the line that begins at `at`, if it has one, and where the line ends.
 fn coded_line(
     source: &[u8],
@@ -106,7 +117,7 @@ fn coded_line(
 {
     match straight::line::read_straight(source, at, mnemonics, forms, slots) {
         Straight::Instruction { row, operands, end } => {
-            let word = coding::encoder::encode_parts(row, operands, opcodes, forms);
+            let word = straight_word(row, operands, opcodes, forms);
             CodedLine {
                 coded: Coded::Word(word),
                 end,

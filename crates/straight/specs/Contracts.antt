@@ -134,7 +134,7 @@ pub record Labels (s : List ℕ) (at end next : ℕ) : Type 0 where
 abbrev pub LabelIs : List ℕ → ℕ → ℕ → ℕ → Type 0
 LabelIs s at end next = (next ≡ 0 → ⊥) → Labels s at end next
 
--- What a line begins with, behind its margin: nothing, a mnemonic or a label.
+-- What a line begins with, behind its margin: a mnemonic or a label, or nothing that is read here.
 pub data FrontIs (s : List ℕ) (start row form length at : ℕ) : Type 0 where
   no-front : row ≡ 50 → form ≡ 7 → length ≡ 0 → at ≡ start → FrontIs s start row form length at
   mnemonic : (u : List ℕ) → row < 50 → rowNamed (map lower u) ≡ some (rowAt row) → formAt form ≡ rowAt row .form → Reads s start (identifier u) at

@@ -187,7 +187,8 @@ fn lower_word(text: &[u8], at: usize) -> Word
     }
 }
 
-// The place behind the colon of a label that is the word from `at` to `end`; 0 if it is none. Register names have four bytes at most.
+// The place behind the colon of a label that is the word from `at` to `end`; 0 if no colon stands right behind it, or it is a register's
+// name. These have four bytes at most.
 fn behind_label(source: &[u8], at: usize, end: usize) -> usize
     requires { ⌜ at < length (now source) ⌝ ∗ ⌜ nameStart (getD (now source) at 0) ≡ true ⌝ ∗ ⌜ end ≡ wordEnd (now source) at ⌝ }
     ensures { λ r. ⌜ LabelIs (now (source .entry)) at end r ⌝ }

@@ -1,5 +1,5 @@
-// What an operand's place is expected to hold, read at once: a register, a number, a mark, the line's end. Anything else, and a form that
-// is seldom met, is left to the record of the line's tokens.
+// What an operand's place is expected to hold, read at once: a register, a number, a mark, the line's end. Anything else is left to the
+// record of the line's tokens.
 ghost use mathlib.Core.Path.{_≡_};
 ghost use mathlib.Core.Bool.{true};
 ghost use mathlib.Core.Logic.{_⊎_};

@@ -33,11 +33,11 @@ loop-holds c = (omega arith, omega arith, refl)
 sub-loop : tie.Need-sub-loop Inv-loop μ-loop Inv-loop2 μ-loop2
 sub-loop c = c .loop .inv .0
 
-three-requires : tie.Need-three-requires Inv-loop μ-loop Inv-loop2 μ-loop2
-three-requires c κs = omega (arith, c .loop-test .taken, c .before .loop .inv .0, c .before .loop .inv .1)
+three-bytes-requires : tie.Need-three-bytes-requires Inv-loop μ-loop Inv-loop2 μ-loop2
+three-bytes-requires c κs = omega (arith, c .loop-test .taken, c .before .loop .inv .0, c .before .loop .inv .1)
 
 mix-requires : tie.Need-mix-requires Inv-loop μ-loop Inv-loop2 μ-loop2
-mix-requires c κs = c .three .ensures .1
+mix-requires c κs = c .three-bytes .ensures .1
 
 add-at : tie.Need-add-at Inv-loop μ-loop Inv-loop2 μ-loop2
 add-at c = omega arith
@@ -49,7 +49,7 @@ loop-again : tie.Need-loop-again Inv-loop μ-loop Inv-loop2 μ-loop2
 loop-again c =
     let k = c .before .before .before in
     let s = k .before .before .before .args .source .now in
-    (omega arith, omega arith, rw (c .mix .ensures, c .before .three .ensures .0) (sym (hash-three s (k .loop .hash) (k .loop .at) _ (omega arith) (omega arith)) ∙ k .loop .inv .2))
+    (omega arith, omega arith, rw (c .mix .ensures, c .before .three-bytes .ensures .0) (sym (hash-three s (k .loop .hash) (k .loop .at) _ (omega arith) (omega arith)) ∙ k .loop .inv .2))
 
 loop2-holds : tie.Need-loop2-holds Inv-loop μ-loop Inv-loop2 μ-loop2
 loop2-holds c = let i = c .before .loop .inv in (i .0, i .1, omega (arith, c .loop-test .left), refl)
@@ -98,7 +98,7 @@ hash-spec =
     add-end
     loop-holds
     sub-loop
-    three-requires
+    three-bytes-requires
     mix-requires
     add-at
     loop-less

@@ -15,26 +15,32 @@ add-t7 : tie.Need-add-t7
 add-t7 c = search needs
 
 mul-t8 : tie.Need-mul-t8
-mul-t8 c = omega (arith, mix-fits (c .args .hash .first) (2654435761 + 89 * c .args .letters) (omega arith))
+mul-t8 c = omega (arith, mix-fits (c .args .hash .first) (2654435761 + 89 * c .args .bytes) (omega arith))
 
 add-t10 : tie.Need-add-t10
-add-t10 c = omega (arith, mix-fits (c .args .hash .first) (2654435761 + 89 * c .args .letters) (omega arith))
+add-t10 c = search needs
 
-mul-t12 : tie.Need-mul-t12
-mul-t12 c = search needs
+add-t11 : tie.Need-add-t11
+add-t11 c = omega (arith, mix-fits (c .args .hash .first) (2654435761 + 89 * c .args .bytes) (omega arith))
 
-add-t13 : tie.Need-add-t13
-add-t13 c = search needs
+mul-t13 : tie.Need-mul-t13
+mul-t13 c = search needs
 
-mul-t14 : tie.Need-mul-t14
-mul-t14 c = omega (arith, mix-fits (c .args .hash .second) (2246822519 + 113 * c .args .letters) (omega arith))
+add-t14 : tie.Need-add-t14
+add-t14 c = search needs
 
-add-t16 : tie.Need-add-t16
-add-t16 c = omega (arith, mix-fits (c .args .hash .second) (2246822519 + 113 * c .args .letters) (omega arith))
+mul-t15 : tie.Need-mul-t15
+mul-t15 c = omega (arith, mix-fits (c .args .hash .second) (2246822519 + 113 * c .args .bytes) (omega arith))
+
+add-t17 : tie.Need-add-t17
+add-t17 c = search needs
+
+add-t18 : tie.Need-add-t18
+add-t18 c = omega (arith, mix-fits (c .args .hash .second) (2246822519 + 113 * c .args .bytes) (omega arith))
 
 returns : tie.Need-returns
 unfolding mixed
 returns c = refl
 
 pub mix-spec : {M : Type 1} → statement M
-mix-spec = tie.close (tie.spec mul-t6 add-t7 mul-t8 add-t10 mul-t12 add-t13 mul-t14 add-t16 returns)
+mix-spec = tie.close (tie.spec mul-t6 add-t7 mul-t8 add-t10 add-t11 mul-t13 add-t14 mul-t15 add-t17 add-t18 returns)

@@ -12,8 +12,8 @@ read-straight-requires c κs = search needs
 enum-known-row : tie.Need-enum-known-row
 enum-known-row c = search needs
 
-encode-parts-requires : tie.Need-encode-parts-requires
-encode-parts-requires c κs =
+straight-word-requires : tie.Need-straight-word-requires
+straight-word-requires c κs =
     let b = c .before .before .before .before .before in
     (rw (c .before .row .given .1) at (c .before .before .before .read-straight .ensures) .in-table, (b .pre .1 .1, b .pre .1 .0 .form-column))
 
@@ -37,7 +37,7 @@ returns c =
     let w = c .before .before in
     let r = w .before .before in
     let a = r .before .before .args in
-    codes-straight (a .source .now) (a .at) _ (c .encode-parts .result) _ _ (rw (w .row .given .1) at (r .read-straight .ensures)) (c .encode-parts .ensures)
+    codes-straight (a .source .now) (a .at) _ (c .straight-word .result) _ _ (rw (w .row .given .1) at (r .read-straight .ensures)) (c .straight-word .ensures)
 
 returns-2 : tie.Need-returns-2
 returns-2 c =
@@ -65,7 +65,7 @@ coded-line-spec =
     (tie.spec
     read-straight-requires
     enum-known-row
-    encode-parts-requires
+    straight-word-requires
     enum-known-end
     enum-known-end-2
     enum-told

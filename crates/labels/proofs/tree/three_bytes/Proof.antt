@@ -1,11 +1,11 @@
--- `labels::tree::three` meets its contract.
+-- `labels::tree::three_bytes` meets its contract.
 use Prim.Native.Nat.{_+_}
 use mathlib.Core.Path.{refl}
 use native.Mathlib.Omega.{arith}
 use borrow.Author.Needs.{needs}
 use Rattle.labels.specs.Tree.{threeAt}
-use Rattle.labels.proofs.tree.three.Statement.{statement}
-use Rattle.labels.proofs.tree.three.Tie as tie
+use Rattle.labels.proofs.tree.three_bytes.Statement.{statement}
+use Rattle.labels.proofs.tree.three_bytes.Tie as tie
 
 shared-slice-read-result : tie.Need-shared-slice-read-result
 shared-slice-read-result c = search needs
@@ -51,8 +51,8 @@ returns c =
     let at = c .before .before .before .args .at in
     (refl, omega (arith, c .shared-slice-known3 .given at, c .shared-slice-known3 .given (at + 1), c .shared-slice-known3 .given (at + 2)))
 
-pub three-spec : {M : Type 1} → statement M
-three-spec =
+pub three-bytes-spec : {M : Type 1} → statement M
+three-bytes-spec =
     tie.close
     (tie.spec
     shared-slice-read-result
