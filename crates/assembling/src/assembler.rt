@@ -1,4 +1,5 @@
 // Assembling: the first walk enters the labels, the second writes the image.
+ghost use Rattle.labels.specs.Tree.{Bare};
 ghost use Rattle.passes.specs.Contracts.{Tables};
 ghost use Rattle.assembling.specs.Contracts.{Walks, Assembles};
 use labels::label::Label;
@@ -6,6 +7,69 @@ use passes::first_pass::Pass;
 use passes::second_pass::Assembled;
 
 // The first walk over a source, its labels entered into a table.
+fn walk(
+    source: &[u8],
+    table: &mut [Label],
+    roots: &mut [u32],
+    mnemonics: &[u64; 50],
+    forms: &[u8; 50],
+    slots: &[u8; 293],
+) -> Pass
+    requires { ⌜ Tables (now mnemonics) (now forms) (now slots) ⌝ ∗ ⌜ Bare (now roots) ⌝ }
+    ensures { λ r. ⌜ Walks (now (source .entry)) (now (table .entry)) (now (table .exit)) r ⌝ }
+{
+    let mut pass = passes::first_pass::begin(source, mnemonics, forms, slots);
+    while pass.found {
+        let entered = labels::label::enter(source, table, roots, pass.labels, pass.label);
+        pass = passes::first_pass::go_on(source, pass, entered, mnemonics, forms, slots);
+    }
+    labels::label::unlink(table, pass.labels);
+    pass
+}
+
+fn few_roots() -> [u32; 1024]
+    ensures { λ r. ⌜ Bare r ⌝ }
+{
+    [0; 1024]
+}
+
+fn many_roots() -> [u32; 65536]
+    ensures { λ r. ⌜ Bare r ⌝ }
+{
+    [0; 65536]
+}
+
+// The first walk over a short source, which must not pay for clearing many roots,
+fn short_walk(
+    source: &[u8],
+    table: &mut [Label],
+    mnemonics: &[u64; 50],
+    forms: &[u8; 50],
+    slots: &[u8; 293],
+) -> Pass
+    requires { ⌜ Tables (now mnemonics) (now forms) (now slots) ⌝ }
+    ensures { λ r. ⌜ Walks (now (source .entry)) (now (table .entry)) (now (table .exit)) r ⌝ }
+{
+    let mut roots = few_roots();
+    walk(source, table, &mut roots, mnemonics, forms, slots)
+}
+
+// and over a long one.
+fn long_walk(
+    source: &[u8],
+    table: &mut [Label],
+    mnemonics: &[u64; 50],
+    forms: &[u8; 50],
+    slots: &[u8; 293],
+) -> Pass
+    requires { ⌜ Tables (now mnemonics) (now forms) (now slots) ⌝ }
+    ensures { λ r. ⌜ Walks (now (source .entry)) (now (table .entry)) (now (table .exit)) r ⌝ }
+{
+    let mut roots = many_roots();
+    walk(source, table, &mut roots, mnemonics, forms, slots)
+}
+
+// The first walk over a source.
 fn first_pass(
     source: &[u8],
     table: &mut [Label],
@@ -16,13 +80,10 @@ fn first_pass(
     requires { ⌜ Tables (now mnemonics) (now forms) (now slots) ⌝ }
     ensures { λ r. ⌜ Walks (now (source .entry)) (now (table .entry)) (now (table .exit)) r ⌝ }
 {
-    let mut pass = passes::first_pass::begin(source, mnemonics, forms, slots);
-    while pass.found {
-        let entered = labels::label::enter(source, table, pass.labels, pass.label);
-        pass = passes::first_pass::go_on(source, pass, entered, mnemonics, forms, slots);
+    if source.len() < 65536 {
+        return short_walk(source, table, mnemonics, forms, slots);
     }
-    labels::label::unlink(table, pass.labels);
-    pass
+    long_walk(source, table, mnemonics, forms, slots)
 }
 
 // The image of a source, and its labels.

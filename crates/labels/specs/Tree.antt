@@ -1,5 +1,6 @@
--- While labels are entered, their entries are the nodes of a tree, in which a spelling is looked for. Document 01 knows nothing of it:
--- which way a spelling takes and how it is hashed could be otherwise, and what is found does not depend on it.
+-- While labels are entered, their entries are the nodes of trees, in which a spelling is looked for from the root of its tree on. Document
+-- 01 knows nothing of them: which root and which way a spelling takes and how it is hashed could be otherwise, and what is found does not
+-- depend on it.
 use Prim.Native.Nat.{ℕ, zero, suc, _+_, _*_, _/_, _%_, _≤_, _<_}
 use mathlib.Core.Path.{_≡_}
 use mathlib.Core.Bool.{Bool, true, false}
@@ -7,6 +8,8 @@ use mathlib.Core.List.{List, [], _∷_}
 use lib.ListN.{length, take, getD, set}
 use lib.Dec.{leb, ltb, eqb}
 use Rattle.spelling.specs.Bytes.{same}
+use Rattle.image.specs.declared.config.Checked.{Checked}
+use Rattle.image.specs.declared.config.Checked.the-variants.{Good, Refused}
 use Rattle.labels.specs.Contracts.{InText, spelled, noLabel, anyNamed}
 use Rattle.labels.specs.declared.label.Label.{Label}
 use Rattle.labels.specs.declared.tree.Digest.{Digest}
@@ -95,6 +98,30 @@ wayOf t = t .bits % 4
 unfoldable pub keyOf : List ℕ → ℕ
 keyOf u = length u + 2097152 * (hashOf u .second / 2097152)
 
+-- ---- roots
+
+-- There are roots, and not too many.
+pub record Rootable (roots : List ℕ) : Type 0 where
+  pub some : 0 < length roots
+  pub few : length roots ≤ 65536
+
+-- The place of a hash among some roots: its upper bits, in proportion.
+unfoldable pub slotOf : Digest → ℕ → ℕ
+slotOf h k = h .first / 4294967296 * k / 4294967296
+
+-- The root of a spelling: none (0), or the entry before that number.
+abbrev pub rootOf : List ℕ → List ℕ → ℕ
+rootOf roots u = getD roots (slotOf (hashOf u) (length roots)) 0
+
+-- Roots once a label of a spelling is entered behind n others: it is one where there was none.
+unfoldable pub planted : List ℕ → ℕ → List ℕ → List ℕ
+planted roots n u = elim (eqb (rootOf roots u) 0) [ true ↦ set roots (slotOf (hashOf u) (length roots)) (n + 1) | false ↦ roots ]
+
+-- None of them leads to an entry as yet.
+pub record Bare (roots : List ℕ) : Type 0 where
+  pub rootable : Rootable roots
+  pub none-there : (i : ℕ) → getD roots i 0 ≡ 0
+
 -- ---- searches
 
 -- The entry of a label of a spelling.
@@ -105,19 +132,16 @@ entryFor u l = record { start = l .start; length = keyOf u; address = l .address
 unfoldable pub hits : List ℕ → Label → ℕ → List ℕ → Bool
 hits s e key u = elim (eqb (e .length) key) [ true ↦ same (spelled s (plain e)) u | false ↦ false ]
 
--- The search for a label behind `count` others,
-abbrev pub begun : List ℕ → ℕ → Label → Search
-begun s count l =
-    record {
-      more = ltb 0 count;
-      known = false;
-      next = 0;
-      turns = firstTurns (spelled s l);
-      count = count;
-      entry = entryFor (spelled s l) l;
-      last = count;
-      parent = entryFor (spelled s l) l;
-    }
+-- The search for a label behind `count` others, from its root on,
+abbrev pub startedAt : Bool → ℕ → Turns → ℕ → Label → Search
+startedAt more next turns count e = record { more = more; known = false; next = next; turns = turns; count = count; entry = e; last = count; parent = e }
+
+abbrev pub begunAt : List ℕ → ℕ → Label → ℕ → Search
+begunAt s count l zero = startedAt false 0 (firstTurns (spelled s l)) count (entryFor (spelled s l) l)
+begunAt s count l (suc i) = startedAt true i (firstTurns (spelled s l)) count (entryFor (spelled s l) l)
+
+abbrev pub begun : List ℕ → List ℕ → ℕ → Label → Search
+begun s roots count l = begunAt s count l (rootOf roots (spelled s l))
 
 -- and behind an entry that it has come to: it has ended, or goes on.
 abbrev pub endedAt : Search → Bool → Label → Search
@@ -148,12 +172,20 @@ pub data Finds (s : List ℕ) (t : List Label) (n : ℕ) (u : List ℕ) : ℕ �
   here : {i : ℕ} {z : Turns} → i < n → hits s (getD t i noLabel) (keyOf u) u ≡ true → Finds s t n u (suc i) z
   there : {i l : ℕ} {z : Turns} → i < n → link (getD t i noLabel) (wayOf z) ≡ l → Finds s t n u l (turned u z) → Finds s t n u (suc i) z
 
--- The first n entries of a table are a tree: each is a part of the source, leads to later ones only, and is found by its spelling.
-pub record Tree (s : List ℕ) (t : List Label) (n : ℕ) : Type 0 where
+-- The first n entries of a table are trees: each is a part of the source, leads to later ones only, and is found by its spelling.
+pub record Tree (s : List ℕ) (t : List Label) (roots : List ℕ) (n : ℕ) : Type 0 where
   pub in-table : n ≤ length t
   pub in-text : (i : ℕ) → i < n → InText s (plain (getD t i noLabel))
   pub onward : (i : ℕ) → i < n → (way j : ℕ) → link (getD t i noLabel) way ≡ suc j → (i < j) × (j < n)
-  pub found : (i : ℕ) → i < n → Finds s t n (spelled s (plain (getD t i noLabel))) 1 (firstTurns (spelled s (plain (getD t i noLabel))))
+  pub rootable : Rootable roots
+  pub rooted : (slot j : ℕ) → getD roots slot 0 ≡ suc j → j < n
+  pub found : (i : ℕ) → i < n
+      → Finds s t n (spelled s (plain (getD t i noLabel))) (rootOf roots (spelled s (plain (getD t i noLabel)))) (firstTurns (spelled s (plain (getD t i noLabel))))
+
+-- They are again behind a label that has been entered. (A refused one may have been made a root, and is the last.)
+abbrev pub TreeBehind : List ℕ → List Label → List ℕ → ℕ → Checked → Type 0
+TreeBehind s t roots n Good = Tree s t roots (suc n)
+TreeBehind s t roots n (Refused k) = Unit {0}
 
 -- A label may be entered behind n others: what an entry holds has room.
 pub record Enterable (s : List ℕ) (n : ℕ) (l : Label) : Type 0 where
@@ -166,10 +198,10 @@ pub record Enterable (s : List ℕ) (n : ℕ) (l : Label) : Type 0 where
 abbrev pub joined : List Label → ℕ → Search → List Label
 joined t n q = set (set t n (q .entry)) (q .last) (q .parent)
 
--- A search that has ended: whether the label is known, and what a table becomes where it is not.
-pub record Searched (s : List ℕ) (t : List Label) (n : ℕ) (l : Label) (q : Search) : Type 0 where
+-- A search that has ended, with the roots as they are then: whether the label is known, and what a table becomes where it is not.
+pub record Searched (s : List ℕ) (t : List Label) (roots : List ℕ) (n : ℕ) (l : Label) (q : Search) : Type 0 where
   pub known-is : q .known ≡ anyNamed s (take n (unlinked n t)) (spelled s l)
-  pub tree : q .known ≡ false → n < length t → Tree s (joined t n q) (suc n)
+  pub tree : q .known ≡ false → n < length t → Tree s (joined t n q) roots (suc n)
   pub holds : q .known ≡ false → n < length t → unlinked (suc n) (joined t n q) ≡ set (unlinked n t) n l
 
 -- What a search asks of an entry that it has come to.

@@ -4,7 +4,7 @@ ghost use Prim.Native.Nat.{_≤_};
 ghost use lib.ListN.{length, set};
 ghost use lib.Dec.{ltb};
 ghost use Rattle.labels.specs.Contracts.{countBehind, Enters};
-ghost use Rattle.labels.specs.Tree.{unlinked, Tree, Enterable, Searched};
+ghost use Rattle.labels.specs.Tree.{unlinked, Tree, TreeBehind, Enterable, Searched};
 use crate::tree::Search;
 use image::config::Checked;
 
@@ -17,11 +17,11 @@ pub struct Label {
 }
 
 // The search for a label among the first `count` entries of a table.
-fn find(source: &[u8], table: &[Label], count: usize, label: Label) -> Search
-    requires { ⌜ Tree (now source) (now table) count ⌝ ∗ ⌜ Enterable (now source) count label ⌝ }
-    ensures { λ r. ⌜ Searched (now (source .entry)) (now (table .entry)) count label r ⌝ }
+fn find(source: &[u8], table: &[Label], roots: &mut [u32], count: usize, label: Label) -> Search
+    requires { ⌜ Tree (now source) (now table) (now roots) count ⌝ ∗ ⌜ Enterable (now source) count label ⌝ }
+    ensures { λ r. ⌜ Searched (now (source .entry)) (now (table .entry)) (now (roots .exit)) count label r ⌝ }
 {
-    let mut search = crate::tree::begin(source, count, label);
+    let mut search = crate::tree::begin(source, roots, count, label);
     while search.more {
         let at = search.next;
         search = crate::tree::visit(source, search, table[at]);
@@ -41,16 +41,22 @@ fn append(table: &mut [Label], at: usize, entry: Label) -> bool
 }
 
 // A label entered behind `count` others: 4, 5.
-pub fn enter(source: &[u8], table: &mut [Label], count: usize, label: Label) -> Checked
-    requires { ⌜ Tree (now source) (now table) count ⌝ ∗ ⌜ Enterable (now source) count label ⌝ }
-    ensures { λ r. ⌜ Enters (now (source .entry)) (unlinked count (now (table .entry))) count label (unlinked (countBehind count r) (now (table .exit))) r ⌝ ∗ ⌜ Tree (now (source .entry)) (now (table .exit)) (countBehind count r) ⌝ }
+pub fn enter(
+    source: &[u8],
+    table: &mut [Label],
+    roots: &mut [u32],
+    count: usize,
+    label: Label,
+) -> Checked
+    requires { ⌜ Tree (now source) (now table) (now roots) count ⌝ ∗ ⌜ Enterable (now source) count label ⌝ }
+    ensures { λ r. ⌜ Enters (now (source .entry)) (unlinked count (now (table .entry))) count label (unlinked (countBehind count r) (now (table .exit))) r ⌝ ∗ ⌜ TreeBehind (now (source .entry)) (now (table .exit)) (now (roots .exit)) count r ⌝ }
 {
-    let search = find(source, table, count, label);
+    let search = find(source, table, roots, count, label);
     if search.known {
         return Checked::Refused(4);
     }
     if append(table, count, search.entry) {
-        // its parent leads to it (the first label of all is stored again)
+        // its parent leads to it (a root is stored again)
         append(table, search.last, search.parent);
         return Checked::Good;
     }

@@ -6,7 +6,7 @@ ghost use Prim.Native.Nat.{_+_, _/_, _≤_, _<_};
 ghost use lib.ListN.{length};
 ghost use Rattle.spelling.specs.Bytes.{same};
 ghost use Rattle.labels.specs.Contracts.{InText, spelled};
-ghost use Rattle.labels.specs.Tree.{plain as plainOf, held as heldOf, link as linkOf, raised as raisedOf, linked as linkedOf, mixed, threeAt, hashOf, turned, hits as hitsOf, begun, endedAt, visited, Enterable, Visitable};
+ghost use Rattle.labels.specs.Tree.{plain as plainOf, held as heldOf, link as linkOf, raised as raisedOf, linked as linkedOf, mixed, threeAt, hashOf, turned, hits as hitsOf, Rootable, slotOf, planted, startedAt, begun, endedAt, visited, Enterable, Visitable};
 use crate::label::Label;
 
 pub(crate) struct Digest {
@@ -210,10 +210,35 @@ fn hits(source: &[u8], at: Label, key: usize, label: Label) -> bool
     same_spelling(source, plain(at), label)
 }
 
-// The search for a label that is to be entered behind `count` others.
-pub(crate) fn begin(source: &[u8], count: usize, label: Label) -> Search
-    requires { ⌜ Enterable (now source) count label ⌝ }
-    ensures { λ r. ⌜ r ≡ begun (now (source .entry)) count label ⌝ }
+// A search that has come to no entry as yet.
+fn started(more: bool, next: usize, turns: Turns, count: usize, entry: Label) -> Search
+    ensures { λ r. ⌜ r ≡ startedAt more next turns count entry ⌝ }
+{
+    Search {
+        more,
+        known: false,
+        next,
+        turns,
+        count,
+        entry,
+        last: count,
+        parent: entry,
+    }
+}
+
+// The place of a hash among some roots: its upper bits, in proportion.
+fn slot(hash: Digest, roots: usize) -> usize
+    requires { ⌜ 0 < roots ⌝ ∗ ⌜ roots ≤ 65536 ⌝ }
+    ensures { λ r. ⌜ r ≡ slotOf hash roots ⌝ ∗ ⌜ r < roots ⌝ }
+{
+    (hash.first / 4294967296) as usize * roots / 4294967296
+}
+
+// The search for a label that is to be entered behind `count` others, from the entry before a root on. The label is the root of its
+// place where there is none.
+pub(crate) fn begin(source: &[u8], roots: &mut [u32], count: usize, label: Label) -> Search
+    requires { ⌜ Enterable (now source) count label ⌝ ∗ ⌜ Rootable (now roots) ⌝ }
+    ensures { λ r. ⌜ r ≡ begun (now (source .entry)) (now (roots .entry)) count label ⌝ ∗ ⌜ now (roots .exit) ≡ planted (now (roots .entry)) count (spelled (now (source .entry)) label) ⌝ }
 {
     let hash = hash(source, label);
     let second = hash.second;
@@ -222,20 +247,18 @@ pub(crate) fn begin(source: &[u8], count: usize, label: Label) -> Search
         length: label.length + 2097152 * (second as usize / 2097152),
         address: label.address,
     };
-    Search {
-        more: 0 < count,
-        known: false,
-        next: 0,
-        turns: Turns {
-            bits: 4611686018427387904 + hash.first % 4611686018427387904,
-            rest: 4611686018427387904 + second % 4611686018427387904,
-            used: 0,
-        },
-        count,
-        entry,
-        last: count,
-        parent: entry,
+    let turns = Turns {
+        bits: 4611686018427387904 + hash.first % 4611686018427387904,
+        rest: 4611686018427387904 + second % 4611686018427387904,
+        used: 0,
+    };
+    let slot = slot(hash, roots.len());
+    let root = roots[slot] as usize;
+    if root == 0 {
+        roots[slot] = (count + 1) as u32;
+        return started(false, 0, turns, count, entry);
     }
+    started(true, root - 1, turns, count, entry)
 }
 
 // A search that has ended at an entry.
