@@ -1,3 +1,4 @@
+pub mod Bare
 pub mod Called
 pub mod Shared
 pub mod Walks
