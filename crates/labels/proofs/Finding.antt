@@ -21,7 +21,8 @@ use Rattle.labels.specs.declared.tree.Turns.{Turns}
 use Rattle.labels.specs.declared.tree.Search.{Search}
 use Rattle.labels.specs.Contracts.{InText, spelled, noLabel, anyNamed, Enters}
 use Rattle.labels.specs.Tree.{plain, unlinked, held, link, raised, linked, hashOf, firstTurns, turned, wayOf, keyOf, entryFor, hits, slotOf, rootOf, planted, begunAt, begun, visited, Finds, here, there, Rootable, Tree, TreeBehind, Enterable, joined, Searched, Visitable}
-use Rattle.labels.proofs.Hashing.{parity, held-odd, raised-odd, held-even, raised-even, link-low, linked-low, link-high, linked-high, visited-hit, visited-last, visited-on, slot-inside}
+use Rattle.labels.proofs.Hashing.{parity, held-odd, raised-odd, held-even, raised-even, link-low, linked-low, link-high, linked-high, visited-hit, visited-last, visited-on}
+use Rattle.labels.proofs.Roots.{planted-long, planted-new, planted-kept, planted-rooted}
 use Rattle.labels.proofs.Named.{spelled-long, one-named, none-named, enters-known, enters-new, enters-full}
 
 -- ---- entries
@@ -176,45 +177,6 @@ module _ (s : List ℕ) (u : List ℕ) where
       way-back : {l : ℕ} {z : Turns} → Way l z → (l ≡ 0 → ⊥) → Finds s t′ (suc n) u l z → Finds s t′ (suc n) u root (firstTurns u)
       way-back start nz x = x
       way-back (step {i = i} {l = l} {z = z} w h miss f) nz x = way-back w (λ e. omega arith) (there {i = i} (omega arith) (g .links i h (wayOf z) l nz f) x)
-
--- ---- roots
-
-module _ (roots : List ℕ) (n : ℕ) (u : List ℕ) where
-  abbrev slot : ℕ
-  slot = slotOf (hashOf u) (length roots)
-
-  planted-empty : rootOf roots u ≡ 0 → planted roots n u ≡ set roots slot (n + 1)
-  unfolding planted
-  planted-empty f = rw (planted, eq-eqb (rootOf roots u) 0 f)
-
-  planted-same : (rootOf roots u ≡ 0 → ⊥) → planted roots n u ≡ roots
-  unfolding planted
-  planted-same f = by-test (eqb (rootOf roots u) 0) (λ y. absurd (f (eqb-true _ _ y))) (λ y. rw (planted, y))
-
-  -- There was a root, or not.
-  either-root : (X : List ℕ → Type 0) → (rootOf roots u ≡ 0 → X (set roots slot (n + 1))) → X roots → X (planted roots n u)
-  either-root X a b = by-test (eqb (rootOf roots u) 0) (λ y. subst X (sym (planted-empty (eqb-true _ _ y))) (a (eqb-true _ _ y))) (λ y. subst X (sym (planted-same (eqb-false _ _ y))) b)
-
-  planted-long : length (planted roots n u) ≡ length roots
-  planted-long = either-root (λ rs. length rs ≡ length roots) (λ _. length-set roots slot (n + 1)) refl
-
-  -- The spelling has a root then; what had one has the same.
-  planted-new : 0 < length roots → rootOf roots u ≡ 0 → rootOf (planted roots n u) u ≡ n + 1
-  planted-new some f = ap (λ (k : ℕ). getD (planted roots n u) (slotOf (hashOf u) k) 0) planted-long ∙ ap (λ (rs : List ℕ). getD rs slot 0) (planted-empty f)
-      ∙ getD-set-same roots slot (n + 1) 0 (slot-inside (hashOf u) (length roots) some)
-
-  planted-kept : (w : List ℕ) → (rootOf roots w ≡ 0 → ⊥) → rootOf (planted roots n u) w ≡ rootOf roots w
-  planted-kept w f = either-root (λ rs. rootOf rs w ≡ rootOf roots w)
-      (λ none. ap (λ (k : ℕ). getD (set roots slot (n + 1)) (slotOf (hashOf w) k) 0) (length-set roots slot (n + 1))
-      ∙ getD-set-other roots slot (slotOf (hashOf w) (length roots)) (n + 1) 0 (λ e. f (ap (λ (k : ℕ). getD roots k 0) e ∙ none))) refl
-
-  planted-rooted : 0 < length roots → ((i j : ℕ) → getD roots i 0 ≡ suc j → j < n) → (i j : ℕ) → getD (planted roots n u) i 0 ≡ suc j → j < suc n
-  planted-rooted some g i j = either-root (λ rs. getD rs i 0 ≡ suc j → j < suc n) (λ none. at none (eqb i slot) refl) (λ e. let h = g i j e in omega arith)
-    where
-      at : rootOf roots u ≡ 0 → (b : Bool) → eqb i slot ≡ b → getD (set roots slot (n + 1)) i 0 ≡ suc j → j < suc n
-      at none true y e =
-          let h = sym (getD-set-same roots slot (n + 1) 0 (slot-inside (hashOf u) (length roots) some)) ∙ ap (λ (k : ℕ). getD (set roots slot (n + 1)) k 0) (sym (eqb-true _ _ y)) ∙ e in omega arith
-      at none false y e = let h = g i j (sym (getD-set-other roots slot i (n + 1) 0 (eqb-false _ _ y)) ∙ e) in omega arith
 
 -- ---- searches
 

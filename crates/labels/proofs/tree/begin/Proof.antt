@@ -1,87 +1,98 @@
+-- `labels::tree::begin` meets its contract.
+use Prim.Native.Nat.{ℕ, suc, _+_, _-_}
+use mathlib.Core.Path.{_≡_, sym, ap, _∙_}
+use native.Mathlib.Omega.{arith}
+use mathlib.Core.List.{List}
+use lib.ListN.{length, getD, set}
 use borrow.Author.Needs.{needs}
+use Rattle.labels.specs.declared.tree.Digest.{Digest}
+use Rattle.labels.specs.Contracts.{spelled}
+use Rattle.labels.specs.Tree.{hashOf, firstTurns, keyOf, entryFor, slotOf, rootOf}
+use Rattle.labels.proofs.Named.{spelled-long}
+use Rattle.labels.proofs.Roots.{planted-empty, planted-same, begun-none, begun-some}
 use Rattle.labels.proofs.tree.begin.Statement.{statement}
 use Rattle.labels.proofs.tree.begin.Tie as tie
-use Rattle.labels.proofs.tree.begin.Reads as reads
-use Rattle.labels.proofs.tree.begin.Lts as lts
-use Rattle.labels.proofs.tree.hash.Reads as hash-reads
-use Rattle.labels.proofs.tree.slot.Reads as slot-reads
-use Rattle.labels.proofs.tree.started.Reads as started-reads
 
--- src/tree.rt:243:9
 hash-requires : tie.Need-hash-requires
 hash-requires c κs = search needs
 
--- src/tree.rt:247:32
 mul-t13 : tie.Need-mul-t13
 mul-t13 c = search needs
 
--- src/tree.rt:247:17
 add-t14 : tie.Need-add-t14
 add-t14 c = search needs
 
--- src/tree.rt:251:15
 add-t16 : tie.Need-add-t16
 add-t16 c = search needs
 
--- src/tree.rt:252:15
 add-t18 : tie.Need-add-t18
 add-t18 c = search needs
 
--- src/tree.rt:255:9
 slot-requires : tie.Need-slot-requires
 slot-requires c κs = search needs
 
--- src/tree.rt:256:16
 mul-root : tie.Need-mul-root
 mul-root c = search needs
 
--- src/tree.rt:256:16
 slice-read-root : tie.Need-slice-read-root
 slice-read-root c = search needs
 
--- src/tree.rt:256:16
 cast-root : tie.Need-cast-root
-cast-root c = ?
+cast-root c = omega (arith, c .slice-known2 .given (c .before .slot .result))
 
--- src/tree.rt:258:24
 add-roots : tie.Need-add-roots
 add-roots c = search needs
 
--- src/tree.rt:258:23
 cast-roots : tie.Need-cast-roots
 cast-roots c = search needs
 
--- src/tree.rt:258:9
 mul-roots : tie.Need-mul-roots
 mul-roots c = search needs
 
--- src/tree.rt:258:9
 slice-write-roots : tie.Need-slice-write-roots
 slice-write-roots c = search needs
 
--- src/tree.rt:259:9
 started-requires : tie.Need-started-requires
 started-requires c κs = search needs
 
--- src/tree.rt:259:9
 same-length : tie.Need-same-length
 same-length c = search needs
 
--- src/tree.rt:259:9
 returns : tie.Need-returns
-returns c = ?
+unfolding firstTurns keyOf entryFor
+returns c =
+    let f = c .before .before .before in
+    let h = f .before .before .before .hash in
+    let k = f .before .before .before .before .before .before in
+    let roots : List ℕ = k .args .roots .now in
+    let u : List ℕ = spelled (k .args .source .now) (k .args .label) in
+    let at : f .slot .result ≡ slotOf (hashOf u) (length roots) = f .slot .ensures .0 ∙ ap (λ (d : Digest). slotOf d (length roots)) (h .ensures) in
+    let none : rootOf roots u ≡ 0 = ap (λ (i : ℕ). getD roots i 0) (sym at) ∙ c .before .if1 .taken in (
+      rw (begun-none (k .args .source .now) roots (k .args .count) (k .args .label) none, c .started .ensures, h .ensures, spelled-long (k .args .source .now) (k .args .label) (k .pre .0 .in-text)),
+      ap (λ (i : ℕ). set roots i (k .args .count + 1)) at ∙ sym (planted-empty roots (k .args .count) u none),
+    )
 
--- src/tree.rt:261:19
 sub-started : tie.Need-sub-started
 sub-started c = search needs
 
--- src/tree.rt:261:5
 started-requires-2 : tie.Need-started-requires-2
 started-requires-2 c κs = search needs
 
--- src/tree.rt:239:1
 returns-2 : tie.Need-returns-2
-returns-2 c = ?
+unfolding firstTurns keyOf entryFor
+returns-2 c =
+    let f = c .before .before .before in
+    let h = f .before .before .before .hash in
+    let k = f .before .before .before .before .before .before in
+    let roots : List ℕ = k .args .roots .now in
+    let u : List ℕ = spelled (k .args .source .now) (k .args .label) in
+    let at : f .slot .result ≡ slotOf (hashOf u) (length roots) = f .slot .ensures .0 ∙ ap (λ (d : Digest). slotOf d (length roots)) (h .ensures) in
+    let root : ℕ = getD roots (f .slot .result) 0 in
+    let same : rootOf roots u ≡ root = ap (λ (i : ℕ). getD roots i 0) (sym at) in
+    let one : root ≡ suc (root - 1) = omega (arith, c .before .if1 .left) in (
+      rw (begun-some (k .args .source .now) roots (k .args .count) (k .args .label) (root - 1) (same ∙ one), c .started2 .ensures, h .ensures, spelled-long (k .args .source .now) (k .args .label) (k .pre .0 .in-text)),
+      sym (planted-same roots (k .args .count) u (λ e. c .before .if1 .left (sym same ∙ e))),
+    )
 
 pub begin-spec : {M : Type 1} → statement M
 begin-spec =
