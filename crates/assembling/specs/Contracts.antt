@@ -1,9 +1,9 @@
 -- What assembling promises. Quotations are document 01's.
-use Prim.Native.Nat.{ℕ, _≤_}
+use Prim.Native.Nat.{ℕ, _≤_, _<_}
 use mathlib.Core.Path.{_≡_}
 use mathlib.Core.Bool.{true, false}
 use mathlib.Core.List.{List, map}
-use lib.ListN.{length}
+use lib.ListN.{length, getD}
 use Rattle.spelling.specs.Names.{present}
 use Rattle.image.specs.Assembling.{assembling}
 use Rattle.image.specs.Assembling.{Label as Meant}
@@ -33,3 +33,12 @@ pub record Assembles (source : List ℕ) (table : List Label) (image : List ℕ)
   pub answer : answerMeant r ≡ answerOf (assembling present source (length table) (length image))
   pub table-holds : table′ ≡ over (map entryOf (entered (assembling present source (length table) (length image)))) table
   pub image-holds : image′ ≡ imageAfter present source (assembling present source (length table) (length image)) image
+
+-- stand-in for labels' Tree.Bare
+pub record Rootable (roots : List ℕ) : Type 0 where
+  pub some : 0 < length roots
+  pub few : length roots ≤ 65536
+
+pub record Bare (roots : List ℕ) : Type 0 where
+  pub rootable : Rootable roots
+  pub none-there : (i : ℕ) → getD roots i 0 ≡ 0

@@ -1,7 +1,6 @@
 // Assembling: the first walk enters the labels, the second writes the image.
-ghost use Rattle.labels.specs.Tree.{Bare};
 ghost use Rattle.passes.specs.Contracts.{Tables};
-ghost use Rattle.assembling.specs.Contracts.{Walks, Assembles};
+ghost use Rattle.assembling.specs.Contracts.{Bare, Walks, Assembles};
 use labels::label::Label;
 use passes::first_pass::Pass;
 use passes::second_pass::Assembled;
@@ -20,7 +19,7 @@ fn walk(
 {
     let mut pass = passes::first_pass::begin(source, mnemonics, forms, slots);
     while pass.found {
-        let entered = labels::label::enter(source, table, roots, pass.labels, pass.label);
+        let entered = labels::label::enter(source, table, pass.labels, pass.label);
         pass = passes::first_pass::go_on(source, pass, entered, mnemonics, forms, slots);
     }
     labels::label::unlink(table, pass.labels);
