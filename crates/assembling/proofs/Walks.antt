@@ -1,5 +1,5 @@
 -- Laws of the first walk over a label table: how it begins, goes on from a label to the next, and what it comes to.
-use Prim.Native.Nat.{ℕ, _+_, _-_, _≤_, _<_}
+use Prim.Native.Nat.{ℕ, suc, _+_, _-_, _≤_, _<_}
 use mathlib.Core.Path.{_≡_, refl, sym, ap, ap₂, subst, _∙_}
 use native.Mathlib.Omega.{arith}
 use native.Mathlib.Numerals.{add-one}
@@ -18,7 +18,7 @@ use Rattle.image.specs.Contracts.{faultMeant}
 use Rattle.image.specs.declared.config.Checked.{Checked}
 use Rattle.image.specs.declared.config.Checked.the-variants.{Good, Refused}
 use Rattle.labels.specs.Contracts.{entryOf, InText, spelled, anyNamed, entryFault, countBehind, Enters, Spelled}
-use Rattle.labels.specs.Tree.{unlinked, Tree, Enterable}
+use Rattle.labels.specs.Tree.{unlinked, Bare, Tree, TreeBehind, Enterable}
 use Rattle.labels.proofs.Named.{spelled-long}
 use Rattle.labels.proofs.Finding.{unlinked-long}
 use Rattle.labels.specs.declared.label.Label.{Label}
@@ -152,25 +152,36 @@ module _ {s : List ℕ} {old table : List Label} {p : Pass} (w : Standing s old 
         let a = stands-answers (w .stands) ended f in
         record { answer = a .answer; table-holds = w .table-is ∙ ap (λ (ls : List Meant). over (map entryOf ls) old) (a .labels-are); image-holds = a .image-holds }
 
--- ---- the walk over a table whose labels are a tree
+-- ---- the walk over a table whose labels are trees
 
--- Where it stands: the labels so far, and the tree.
-pub record Walking (s : List ℕ) (old table : List Label) (p : Pass) : Type 0 where
+-- Where it stands: the labels so far, and the trees while there is a label to enter.
+pub record Walking (s : List ℕ) (old table : List Label) (roots : List ℕ) (p : Pass) : Type 0 where
   pub standing : Standing s old (unlinked (p .labels) table) p
-  pub tree : Tree s table (p .labels)
+  pub tree : p .found ≡ true → Tree s table roots (p .labels)
 
-pub walking-begin : {s : List ℕ} {p : Pass} (old : List Label) → Begins s p → Walking s old old p
+pub walking-begin : {s : List ℕ} {p : Pass} {roots : List ℕ} (old : List Label) → Begins s p → Bare roots → Walking s old old roots p
 unfolding unlinked
-walking-begin {s} {p} old b =
+walking-begin {s} {p} {roots} old b bare =
     let none : p .labels ≡ 0 = b .stands (length old) .count in
     record {
       standing = subst (λ (n : ℕ). Standing s old (unlinked n old) p) (sym none) (standing-begin old b);
-      tree = record { in-table = rw none (omega arith); in-text = λ i h. absurd (omega arith); onward = λ i h. absurd (omega arith); found = λ i h. absurd (omega arith) };
+      tree = λ _. record {
+        in-table = rw none (omega arith);
+        in-text = λ i h. absurd (omega arith);
+        onward = λ i h. absurd (omega arith);
+        rootable = bare .rootable;
+        rooted = λ slot j e. let y : 0 ≡ suc j = sym (bare .none-there slot) ∙ e in absurd (omega arith);
+        found = λ i h. absurd (omega arith);
+      };
     }
 
-module _ {s : List ℕ} {old table : List Label} {p : Pass} (w : Walking s old table p) where
+module _ {s : List ℕ} {old table : List Label} {roots : List ℕ} {p : Pass} (w : Walking s old table roots p) where
   pub walking-long : length table ≡ length old
   walking-long = sym (unlinked-long (p .labels) table) ∙ standing-long (w .standing)
+
+  -- What `unlink` asks for.
+  pub walking-fits : p .labels ≤ length table
+  walking-fits = omega (arith, w .standing .stands .count, w .standing .fits, walking-long)
 
   -- What entering a label asks for.
   pub walking-enterable : p .found ≡ true → Enterable s (p .labels) (p .label)
@@ -179,11 +190,16 @@ module _ {s : List ℕ} {old table : List Label} {p : Pass} (w : Walking s old t
       let k = w .standing .sound found in
       record { in-text = k .in-text; short = k .short; few = omega (arith, k .short, k .line-fits, k .few-labels); near = k .near }
 
-  pub walking-on : {table′ : List Label} {e : Checked} {r : Pass} → p .found ≡ true → Enters s (unlinked (p .labels) table) (p .labels) (p .label) (unlinked (countBehind (p .labels) e) table′) e
-      → Tree s table′ (countBehind (p .labels) e) → GoesOn s p e r → Walking s old table′ r
-  walking-on {table′} {e} {r} found x t g =
+  pub walking-on : {table′ : List Label} {roots′ : List ℕ} {e : Checked} {r : Pass} → p .found ≡ true → Enters s (unlinked (p .labels) table) (p .labels) (p .label) (unlinked (countBehind (p .labels) e) table′) e
+      → TreeBehind s table′ roots′ (p .labels) e → GoesOn s p e r → Walking s old table′ roots′ r
+  walking-on {table′} {roots′} {e} {r} found x t g =
       let n : r .labels ≡ countBehind (p .labels) e = count-on (w .standing) found x g in
-      record { standing = subst (λ (k : ℕ). Standing s old (unlinked k table′) r) (sym n) (standing-on (w .standing) found x g); tree = subst (Tree s table′) (sym n) t }
+      record {
+        standing = subst (λ (k : ℕ). Standing s old (unlinked k table′) r) (sym n) (standing-on (w .standing) found x g);
+        tree = λ more.
+            let good : e ≡ Good = g .entered more in
+            subst (Tree s table′ roots′) (sym (n ∙ ap (countBehind (p .labels)) good)) (subst (TreeBehind s table′ roots′ (p .labels)) good t);
+      }
 
   -- It has ended, and the labels stand alone in the table.
   pub walking-ends : {table′ : List Label} → p .found ≡ false → table′ ≡ unlinked (p .labels) table → Walks s old table′ p
@@ -193,8 +209,8 @@ module _ {s : List ℕ} {old table : List Label} {p : Pass} (w : Walking s old t
 abbrev pub left : List ℕ → Pass → ℕ
 left s p = elim (p .found) [ true ↦ length s + 2 - p .line | false ↦ 0 ]
 
-pub nearer : {s : List ℕ} {old table : List Label} {p r : Pass} {e : Checked} → Walking s old table p → p .found ≡ true → GoesOn s p e r → left s r < left s p
-nearer {s} {old} {table} {p} {r} w found g = by-test (r .found) more done
+pub nearer : {s : List ℕ} {old table : List Label} {roots : List ℕ} {p r : Pass} {e : Checked} → Walking s old table roots p → p .found ≡ true → GoesOn s p e r → left s r < left s p
+nearer {s} {old} {table} {roots} {p} {r} w found g = by-test (r .found) more done
   where
     fits : p .line ≤ length s + 1
     fits = w .standing .sound found .line-fits

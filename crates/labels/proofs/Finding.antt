@@ -1,4 +1,4 @@
--- Looking for a spelling in the tree that the first entries of a table are, and entering a label into it. Nothing here depends on what a spelling's turns or its hash are.
+-- Looking for a spelling in the trees that the first entries of a table are, and entering a label into them. Nothing here depends on what a spelling's turns or its hash are.
 --     Way            the way of a spelling to an entry.        Seeking        where a search stands
 --     seek-begin, seek-visit, seek-end       how a search begins, goes on behind an entry, and what it comes to
 use Prim.Native.Nat.{ℕ, zero, suc, _+_, _-_, _/_, _%_, _≤_, _<_}
@@ -20,8 +20,9 @@ use Rattle.labels.specs.declared.label.Label.{Label}
 use Rattle.labels.specs.declared.tree.Turns.{Turns}
 use Rattle.labels.specs.declared.tree.Search.{Search}
 use Rattle.labels.specs.Contracts.{InText, spelled, noLabel, anyNamed, Enters}
-use Rattle.labels.specs.Tree.{plain, unlinked, held, link, raised, linked, firstTurns, turned, wayOf, keyOf, entryFor, hits, begun, visited, Finds, here, there, Tree, Enterable, joined, Searched, Visitable}
+use Rattle.labels.specs.Tree.{plain, unlinked, held, link, raised, linked, hashOf, firstTurns, turned, wayOf, keyOf, entryFor, hits, slotOf, rootOf, planted, begunAt, begun, visited, Finds, here, there, Rootable, Tree, TreeBehind, Enterable, joined, Searched, Visitable}
 use Rattle.labels.proofs.Hashing.{parity, held-odd, raised-odd, held-even, raised-even, link-low, linked-low, link-high, linked-high, visited-hit, visited-last, visited-on}
+use Rattle.labels.proofs.Roots.{planted-long, planted-new, planted-kept, planted-rooted}
 use Rattle.labels.proofs.Named.{spelled-long, one-named, none-named, enters-known, enters-new, enters-full}
 
 -- ---- entries
@@ -137,10 +138,10 @@ module _ (s : List ℕ) (u : List ℕ) where
   unfolding hits
   hit-is t i f g = and-both (eqb (getD t i noLabel .length) (keyOf u)) _ (eq-eqb _ _ f) (eq-same _ _ g)
 
-  module _ (t : List Label) (n : ℕ) where
-    -- The way of the spelling from the first entry to another, past entries that are not of it.
+  module _ (t : List Label) (root n : ℕ) where
+    -- The way of the spelling from its root to another entry, past entries that are not of it.
     pub data Way : ℕ → Turns → Type 0 where
-      start : Way 1 (firstTurns u)
+      start : Way root (firstTurns u)
       step : {i l : ℕ} {z : Turns} → Way (suc i) z → i < n → hit t i ≡ false → link (getD t i noLabel) (wayOf z) ≡ l → Way l (turned u z)
 
     -- If the spelling is found, it is found from any entry of its way on.
@@ -150,13 +151,13 @@ module _ (s : List ℕ) (u : List ℕ) where
         let k : j ≡ i = omega arith in
         subst (λ (p : ℕ). Finds s t n u p (turned u z)) (sym g ∙ ap (λ (x : ℕ). link (getD t x noLabel) (wayOf z)) k ∙ f) x
 
-    way-finds : {l : ℕ} {z : Turns} → Way l z → Finds s t n u 1 (firstTurns u) → Finds s t n u l z
+    way-finds : {l : ℕ} {z : Turns} → Way l z → Finds s t n u root (firstTurns u) → Finds s t n u l z
     way-finds start x = x
     way-finds (step {i = i} {l = l} w h miss f) x = past (way-finds w x) i l refl miss f
 
-    some-there : {l : ℕ} {z : Turns} → Finds s t n u l z → 0 < n
-    some-there (here h y) = omega arith
-    some-there (there h g x) = omega arith
+    way-rooted : {l : ℕ} {z : Turns} → Way l z → (l ≡ 0 → ⊥) → root ≡ 0 → ⊥
+    way-rooted start h = h
+    way-rooted (step w h miss f) _ = way-rooted w (λ e. omega arith)
 
     not-nowhere : {l : ℕ} {z : Turns} → Finds s t n u l z → l ≡ 0 → ⊥
     not-nowhere (here h y) e = omega arith
@@ -173,7 +174,7 @@ module _ (s : List ℕ) (u : List ℕ) where
       finds-grown (there {i = i} {l = l} {z = z} h f x) = there {i = i} (omega arith) (g .links i h (wayOf z) l (not-nowhere x) f) (finds-grown x)
 
       -- What is found from an entry of the way on is found.
-      way-back : {l : ℕ} {z : Turns} → Way l z → (l ≡ 0 → ⊥) → Finds s t′ (suc n) u l z → Finds s t′ (suc n) u 1 (firstTurns u)
+      way-back : {l : ℕ} {z : Turns} → Way l z → (l ≡ 0 → ⊥) → Finds s t′ (suc n) u l z → Finds s t′ (suc n) u root (firstTurns u)
       way-back start nz x = x
       way-back (step {i = i} {l = l} {z = z} w h miss f) nz x = way-back w (λ e. omega arith) (there {i = i} (omega arith) (g .links i h (wayOf z) l nz f) x)
 
@@ -183,27 +184,32 @@ module _ (s : List ℕ) (u : List ℕ) where
 abbrev pub left : ℕ → Search → ℕ
 left n q = elim (q .more) [ true ↦ n - q .next | false ↦ 0 ]
 
-pub record AtEntry (s : List ℕ) (t : List Label) (n : ℕ) (l : Label) (q : Search) : Type 0 where
+pub record AtEntry (s : List ℕ) (t : List Label) (roots : List ℕ) (n : ℕ) (l : Label) (q : Search) : Type 0 where
   pub inside : q .next < n
-  pub way : Way s (spelled s l) t n (suc (q .next)) (q .turns)
+  pub way : Way s (spelled s l) t (rootOf roots (spelled s l)) n (suc (q .next)) (q .turns)
 
--- A search that has found nothing ends where there is no entry, or behind one that leads nowhere.
-pub data Lost (s : List ℕ) (t : List Label) (n : ℕ) (l : Label) (q : Search) : Type 0 where
-  none-there : n ≡ 0 → q .last ≡ n → q .parent ≡ entryFor (spelled s l) l → Lost s t n l q
-  behind : (z : Turns) → q .last < n → Way s (spelled s l) t n (suc (q .last)) z → hit s (spelled s l) t (q .last) ≡ false
-      → link (getD t (q .last) noLabel) (wayOf z) ≡ 0 → q .parent ≡ linked (getD t (q .last) noLabel) (wayOf z) (n + 1) → Lost s t n l q
+-- A search that has found nothing ends where there is no root, or behind an entry that leads nowhere.
+pub data Lost (s : List ℕ) (t : List Label) (roots : List ℕ) (n : ℕ) (l : Label) (q : Search) : Type 0 where
+  none-there : rootOf roots (spelled s l) ≡ 0 → q .last ≡ n → q .parent ≡ entryFor (spelled s l) l → Lost s t roots n l q
+  behind : (z : Turns) → q .last < n → Way s (spelled s l) t (rootOf roots (spelled s l)) n (suc (q .last)) z
+      → hit s (spelled s l) t (q .last) ≡ false → link (getD t (q .last) noLabel) (wayOf z) ≡ 0
+      → q .parent ≡ linked (getD t (q .last) noLabel) (wayOf z) (n + 1) → Lost s t roots n l q
 
 -- Where a search stands.
-pub record Seeking (s : List ℕ) (t : List Label) (n : ℕ) (l : Label) (q : Search) : Type 0 where
+pub record Seeking (s : List ℕ) (t : List Label) (roots : List ℕ) (n : ℕ) (l : Label) (q : Search) : Type 0 where
   pub entry-is : q .entry ≡ entryFor (spelled s l) l
   pub count-is : q .count ≡ n
-  pub at-entry : q .more ≡ true → AtEntry s t n l q
+  pub at-entry : q .more ≡ true → AtEntry s t roots n l q
   pub is-known : q .known ≡ true → (i : ℕ) × ((i < n) × (hit s (spelled s l) t i ≡ true))
-  pub is-lost : q .more ≡ false → q .known ≡ false → Lost s t n l q
+  pub is-lost : q .more ≡ false → q .known ≡ false → Lost s t roots n l q
 
-module _ (s : List ℕ) (t : List Label) (n : ℕ) (l : Label) (tree : Tree s t n) (ok : Enterable s n l) where
+module _ (s : List ℕ) (t : List Label) (roots : List ℕ) (n : ℕ) (l : Label) (tree : Tree s t roots n) (ok : Enterable s n l) where
   abbrev u : List ℕ
   u = spelled s l
+
+  -- its root
+  abbrev root : ℕ
+  root = rootOf roots u
 
   entry-plain : plain (entryFor u l) ≡ l
   unfolding entryFor keyOf
@@ -213,17 +219,29 @@ module _ (s : List ℕ) (t : List Label) (n : ℕ) (l : Label) (tree : Tree s t 
       let c : l .address % 2097152 ≡ l .address = omega (arith, ok .near) in
       λ i. record { start = a i; length = b i; address = c i }
 
-  pub seek-begin : Seeking s t n l (begun s n l)
-  seek-begin =
-      record {
+  pub seek-begin : Seeking s t roots n l (begun s roots n l)
+  seek-begin = go root refl
+    where
+      go : (m : ℕ) → root ≡ m → Seeking s t roots n l (begunAt s n l m)
+      go zero f = record {
         entry-is = refl;
         count-is = refl;
-        at-entry = λ e. record { inside = ltb-true 0 n e; way = start };
+        at-entry = λ e. absurd (true≢false (sym e));
         is-known = λ e. absurd (true≢false (sym e));
-        is-lost = λ e _. none-there (let h = ltb-false 0 n e in omega arith) refl refl;
+        is-lost = λ _ _. none-there f refl refl;
+      }
+      go (suc i) f = record {
+        entry-is = refl;
+        count-is = refl;
+        at-entry = λ _. record {
+          inside = tree .rooted (slotOf (hashOf u) (length roots)) i f;
+          way = subst (λ (m : ℕ). Way s u t root n m (firstTurns u)) f start;
+        };
+        is-known = λ e. absurd (true≢false (sym e));
+        is-lost = λ e _. absurd (true≢false e);
       }
 
-  module _ (q : Search) (k : Seeking s t n l q) where
+  module _ (q : Search) (k : Seeking s t roots n l q) where
     spelled-is : spelled s (plain (q .entry)) ≡ u
     spelled-is = ap (λ (e : Label). spelled s (plain e)) (k .entry-is) ∙ ap (spelled s) entry-plain
 
@@ -253,11 +271,11 @@ module _ (s : List ℕ) (t : List Label) (n : ℕ) (l : Label) (tree : Tree s t 
       unfolding entryFor
       hit-here = ap₂ (λ (m : ℕ) (w : List ℕ). hits s e m w) (ap (λ (v : Label). v .length) (k .entry-is)) spelled-is
 
-      pub seek-visit : Seeking s t n l (visited s q e)
+      pub seek-visit : Seeking s t roots n l (visited s q e)
       seek-visit = by-test (hit s u t (q .next)) found (λ miss. passing miss (link e (wayOf (q .turns))) refl)
         where
-          found : hit s u t (q .next) ≡ true → Seeking s t n l (visited s q e)
-          found h = subst (Seeking s t n l) (sym (visited-hit s q e (hit-here ∙ h))) (record {
+          found : hit s u t (q .next) ≡ true → Seeking s t roots n l (visited s q e)
+          found h = subst (Seeking s t roots n l) (sym (visited-hit s q e (hit-here ∙ h))) (record {
             entry-is = k .entry-is;
             count-is = k .count-is;
             at-entry = λ f. absurd (true≢false (sym f));
@@ -265,20 +283,20 @@ module _ (s : List ℕ) (t : List Label) (n : ℕ) (l : Label) (tree : Tree s t 
             is-lost = λ _ f. absurd (true≢false f);
           })
 
-          passing : hit s u t (q .next) ≡ false → (m : ℕ) → link e (wayOf (q .turns)) ≡ m → Seeking s t n l (visited s q e)
-          passing miss zero f = subst (Seeking s t n l) (sym (visited-last s q e (hit-here ∙ miss) f)) (record {
+          passing : hit s u t (q .next) ≡ false → (m : ℕ) → link e (wayOf (q .turns)) ≡ m → Seeking s t roots n l (visited s q e)
+          passing miss zero f = subst (Seeking s t roots n l) (sym (visited-last s q e (hit-here ∙ miss) f)) (record {
             entry-is = k .entry-is;
             count-is = k .count-is;
             at-entry = λ g. absurd (true≢false (sym g));
             is-known = λ g. absurd (true≢false (sym g));
             is-lost = λ _ _. behind (q .turns) inside (k .at-entry more .way) miss f (ap (λ (m : ℕ). linked e (wayOf (q .turns)) (m + 1)) (k .count-is));
           })
-          passing miss (suc i) f = subst (Seeking s t n l) (sym (visited-on s q e (hit-here ∙ miss) i f)) (record {
+          passing miss (suc i) f = subst (Seeking s t roots n l) (sym (visited-on s q e (hit-here ∙ miss) i f)) (record {
             entry-is = k .entry-is;
             count-is = k .count-is;
             at-entry = λ _. record {
               inside = tree .onward (q .next) inside (wayOf (q .turns)) i f .1;
-              way = subst (λ (w : List ℕ). Way s u t n (suc i) (turned w (q .turns))) (sym spelled-is) (step (k .at-entry more .way) inside miss f);
+              way = subst (λ (w : List ℕ). Way s u t root n (suc i) (turned w (q .turns))) (sym spelled-is) (step (k .at-entry more .way) inside miss f);
             };
             is-known = λ g. absurd (true≢false (sym g));
             is-lost = λ g _. absurd (true≢false g);
@@ -310,21 +328,24 @@ module _ (s : List ℕ) (t : List Label) (n : ℕ) (l : Label) (tree : Tree s t 
           one-named s u (take n (unlinked n t)) (x .0) (omega (arith, length-take n (unlinked n t), unlinked-long n t, tree .in-table, x .1 .0))
           (rw (getD-take n (unlinked n t) (x .0) noLabel (x .1 .0), unlinked-at n t (x .0) (x .1 .0)) (hit-named s u t (x .0) (x .1 .1)))
 
-      not-found : Lost s t n l q → Finds s t n u 1 (firstTurns u) → ⊥
-      not-found (none-there f g h) x = let y = some-there s u t n x in omega arith
-      not-found (behind z inside w miss f g) x = not-nowhere s u t n (past s u t n (way-finds s u t n w x) (q .last) 0 refl miss f) refl
+      not-found : Lost s t roots n l q → Finds s t n u root (firstTurns u) → ⊥
+      not-found (none-there f g h) x = not-nowhere s u t root n x f
+      not-found (behind z inside w miss f g) x = not-nowhere s u t root n (past s u t root n (way-finds s u t root n w x) (q .last) 0 refl miss f) refl
 
       -- and if not, it was not there.
       unknown-there : q .known ≡ false → anyNamed s (take n (unlinked n t)) u ≡ false
       unknown-there y = none-named s u (take n (unlinked n t)) (λ i h f.
           let less : i < n = omega (arith, length-take n (unlinked n t)) in
           let g : spelled s (plain (getD t i noLabel)) ≡ u = ap (spelled s) (sym (getD-take n (unlinked n t) i noLabel less ∙ unlinked-at n t i less)) ∙ f in
-          not-found (k .is-lost ended y) (subst (λ (w : List ℕ). Finds s t n w 1 (firstTurns w)) g (tree .found i less)))
+          not-found (k .is-lost ended y) (subst (λ (w : List ℕ). Finds s t n w (rootOf roots w) (firstTurns w)) g (tree .found i less)))
 
       -- Then the table has the label's entry behind the others, and is a tree again.
       module _ (y : q .known ≡ false) (room : n < length t) where
         abbrev t′ : List Label
         t′ = joined t n q
+
+        abbrev roots′ : List ℕ
+        roots′ = planted roots n u
 
         -- What is known of it in either case.
         record Joins : Type 0 where
@@ -332,7 +353,7 @@ module _ (s : List ℕ) (t : List Label) (n : ℕ) (l : Label) (tree : Tree s t 
           grown : Grown t n t′
           onward : (i : ℕ) → i < n → (c j : ℕ) → link (getD t′ i noLabel) c ≡ suc j → (i < j) × (j < suc n)
           later : (i : ℕ) → n < i → getD t′ i noLabel ≡ getD t i noLabel
-          leads : Finds s t′ (suc n) u 1 (firstTurns u)
+          leads : Finds s t′ (suc n) u (rootOf roots′ u) (firstTurns u)
 
         long : length t′ ≡ length t
         long = length-set (set t n (q .entry)) (q .last) (q .parent) ∙ length-set t n (q .entry)
@@ -353,23 +374,27 @@ module _ (s : List ℕ) (t : List Label) (n : ℕ) (l : Label) (tree : Tree s t 
         wider : {i j : ℕ} → (i < j) × (j < n) → (i < j) × (j < suc n)
         wider h = (h .0, omega (arith, h .1))
 
-        joins : Lost s t n l q → Joins
+        joins : Lost s t roots n l q → Joins
         joins (none-there f g h) =
             let e : getD t′ n noLabel ≡ entryFor u l = rw (g, h) (getD-set-same (set t n (q .entry)) n (entryFor u l) noLabel (rw (length-set t n (q .entry)) room)) in
             record {
               new = e;
-              grown = record { plains = λ i d. absurd (omega arith); keys = λ i d. absurd (omega arith); links = λ i d. absurd (omega arith) };
-              onward = λ i d. absurd (omega arith);
+              grown = record { plains = λ i d. ap plain (same i d); keys = λ i d. ap (λ (v : Label). v .length) (same i d); links = λ i d c m _ x. ap (λ (v : Label). link v c) (same i d) ∙ x };
+              onward = λ i d c j x. wider (tree .onward i d c j (ap (λ (v : Label). link v c) (sym (same i d)) ∙ x));
               later = later-is (omega arith);
-              leads = subst (λ (m : ℕ). Finds s t′ (suc n) u (suc m) (firstTurns u)) f (here {i = n} (omega arith) (hit-new e));
+              leads = subst (λ (m : ℕ). Finds s t′ (suc n) u m (firstTurns u)) (sym (planted-new roots n u (tree .rootable .some) f ∙ add-one n)) (here {i = n} (omega arith) (hit-new e));
             }
+          where
+            same : (i : ℕ) → i < n → getD t′ i noLabel ≡ getD t i noLabel
+            same i d = getD-set-other (set t n (q .entry)) (q .last) i (q .parent) noLabel (λ v. omega arith) ∙ getD-set-other t n i (q .entry) noLabel (λ v. omega arith)
         joins (behind z inside w miss f g) =
             record {
               new = e;
               grown = more;
               onward = onwards;
               later = later-is (omega arith);
-              leads = way-back s u t n more w (λ v. omega arith) (there {i = q .last} (omega arith) (at-last ∙ add-one n) (here {i = n} (omega arith) (hit-new e)));
+              leads = subst (λ (m : ℕ). Finds s t′ (suc n) u m (firstTurns u)) (sym (planted-kept roots n u u (way-rooted s u t root n w (λ v. omega arith))))
+                  (way-back s u t root n more w (λ v. omega arith) (there {i = q .last} (omega arith) (at-last ∙ add-one n) (here {i = n} (omega arith) (hit-new e))));
             }
           where
             p : Label
@@ -419,17 +444,23 @@ module _ (s : List ℕ) (t : List Label) (n : ℕ) (l : Label) (tree : Tree s t 
           each : (X : ℕ → Type 0) → X n → ((i : ℕ) → i < n → X i) → (i : ℕ) → i < suc n → X i
           each X a b i h = by-test (eqb i n) (λ v. subst X (sym (eqb-true i n v)) a) (λ v. b i (let w = eqb-false i n v in split i n (λ x. x) (λ x. absurd (w (omega arith)))))
 
-          is-tree : Tree s t′ (suc n)
+          is-tree : Tree s t′ roots′ (suc n)
           is-tree = record {
             in-table = rw long room;
             in-text = each (λ i. InText s (plain (getD t′ i noLabel))) (subst (InText s) (sym joined-plain) (ok .in-text)) (λ i d. subst (InText s) (sym (m .grown .plains i d)) (tree .in-text i d));
             onward = each (λ i. (c j : ℕ) → link (getD t′ i noLabel) c ≡ suc j → (i < j) × (j < suc n))
                 (λ c j x. absurd (let w = sym x ∙ ap (λ (y : Label). link y c) (m .new) ∙ entry-links c in omega arith)) (m .onward);
-            found = each (λ i. Finds s t′ (suc n) (spelled s (plain (getD t′ i noLabel))) 1 (firstTurns (spelled s (plain (getD t′ i noLabel)))))
-                (subst (λ (x : Label). Finds s t′ (suc n) (spelled s x) 1 (firstTurns (spelled s x))) (sym joined-plain) (m .leads))
-                (λ i d. subst (λ (x : Label). Finds s t′ (suc n) (spelled s x) 1 (firstTurns (spelled s x))) (sym (m .grown .plains i d))
-                (finds-grown s (spelled s (plain (getD t i noLabel))) t n (m .grown) (tree .found i d)));
+            rootable = record { some = rw (planted-long roots n u) (tree .rootable .some); few = rw (planted-long roots n u) (tree .rootable .few) };
+            rooted = planted-rooted roots n u (tree .rootable .some) (tree .rooted);
+            found = each (λ i. Leads (spelled s (plain (getD t′ i noLabel)))) (subst (λ (x : Label). Leads (spelled s x)) (sym joined-plain) (m .leads))
+                (λ i d. subst (λ (x : Label). Leads (spelled s x)) (sym (m .grown .plains i d)) (still (spelled s (plain (getD t i noLabel))) (tree .found i d)));
           }
+            where
+              Leads : List ℕ → Type 0
+              Leads w = Finds s t′ (suc n) w (rootOf roots′ w) (firstTurns w)
+
+              still : (w : List ℕ) → Finds s t n w (rootOf roots w) (firstTurns w) → Leads w
+              still w x = subst (λ (m : ℕ). Finds s t′ (suc n) w m (firstTurns w)) (sym (planted-kept roots n u w (not-nowhere s w t (rootOf roots w) n x))) (finds-grown s w t (rootOf roots w) n (m .grown) x)
 
           holds : unlinked (suc n) t′ ≡ set (unlinked n t) n l
           holds = ext-getD noLabel (unlinked (suc n) t′) (set (unlinked n t) n l) (unlinked-long (suc n) t′ ∙ long ∙ sym (length-set (unlinked n t) n l ∙ unlinked-long n t)) (λ i h. at i)
@@ -445,7 +476,7 @@ module _ (s : List ℕ) (t : List Label) (n : ℕ) (l : Label) (tree : Tree s t 
               at : (i : ℕ) → getD (unlinked (suc n) t′) i noLabel ≡ getD (set (unlinked n t) n l) i noLabel
               at i = split i (suc n) (upto i) (λ h. unlinked-past (suc n) t′ i h ∙ m .later i (omega arith) ∙ sym (getD-set-other (unlinked n t) n i l noLabel (λ x. omega arith) ∙ unlinked-past n t i (omega arith)))
 
-      pub seek-end : Searched s t n l q
+      pub seek-end : Searched s t (planted roots n u) n l q
       seek-end =
           record {
             known-is = by-test (q .known) (λ y. y ∙ sym (known-there y)) (λ y. y ∙ sym (unknown-there y));
@@ -455,7 +486,7 @@ module _ (s : List ℕ) (t : List Label) (n : ℕ) (l : Label) (tree : Tree s t 
 
 -- ---- a label is entered
 
-module _ {s : List ℕ} {t : List Label} {n : ℕ} {l : Label} {q : Search} (x : Searched s t n l q) where
+module _ {s : List ℕ} {t : List Label} {roots : List ℕ} {n : ℕ} {l : Label} {q : Search} (x : Searched s t roots n l q) where
   pub enter-known : q .known ≡ true → Enters s (unlinked n t) n l (unlinked n t) (Refused 4)
   enter-known y = enters-known s (unlinked n t) n l (sym (x .known-is) ∙ y)
 
@@ -466,9 +497,6 @@ module _ {s : List ℕ} {t : List Label} {n : ℕ} {l : Label} {q : Search} (x :
         enters-full s (unlinked n t) n l (sym (x .known-is) ∙ y) (unlinked n t₁)
         (ap (unlinked n) (f ∙ set-out t n (q .entry) full) ∙ sym (set-out (unlinked n t) n l (rw (unlinked-long n t) full))) (rw (unlinked-long n t) h)
 
-    pub full-tree : ltb n (length t) ≡ false → Tree s t n → Tree s t₁ n
-    full-tree h = subst (λ (z : List Label). Tree s z n) (sym (f ∙ set-out t n (q .entry) (ltb-false n (length t) h)))
-
     module _ {t₂ : List Label} (g : t₂ ≡ set t₁ (q .last) (q .parent)) (h : ltb n (length t) ≡ true) where
       joined-is : t₂ ≡ joined t n q
       joined-is = g ∙ ap (λ (z : List Label). set z (q .last) (q .parent)) f
@@ -477,5 +505,5 @@ module _ {s : List ℕ} {t : List Label} {n : ℕ} {l : Label} {q : Search} (x :
       enter-new =
           enters-new s (unlinked n t) n l (sym (x .known-is) ∙ y) (unlinked (suc n) t₂) (ap (unlinked (suc n)) joined-is ∙ x .holds y (ltb-true n (length t) h)) (rw (unlinked-long n t) h)
 
-      pub new-tree : Tree s t₂ (suc n)
-      new-tree = subst (λ (z : List Label). Tree s z (suc n)) (sym joined-is) (x .tree y (ltb-true n (length t) h))
+      pub new-tree : Tree s t₂ roots (suc n)
+      new-tree = subst (λ (z : List Label). Tree s z roots (suc n)) (sym joined-is) (x .tree y (ltb-true n (length t) h))

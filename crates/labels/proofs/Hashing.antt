@@ -17,7 +17,7 @@ use Rattle.labels.specs.declared.tree.Digest.{Digest}
 use Rattle.labels.specs.declared.tree.Turns.{Turns}
 use Rattle.labels.specs.declared.tree.Search.{Search}
 use Rattle.labels.specs.Contracts.{InText, spelled}
-use Rattle.labels.specs.Tree.{plain, held, link, raised, linked, mixed, threeAt, hashFrom, noHash, hashOf, turned, wayOf, hits, endedAt, passed, visited}
+use Rattle.labels.specs.Tree.{plain, held, link, raised, linked, mixed, threeAt, hashFrom, noHash, hashOf, slotOf, turned, wayOf, hits, endedAt, passed, visited}
 use Rattle.labels.proofs.Named.{part-is, spelled-long}
 
 -- ---- the ways
@@ -72,6 +72,14 @@ module _ (e : Label) (b : ℕ) where
 -- A step stays within 64 bits.
 pub mix-fits : (h f : ℕ) → f ≤ 4294967295 → h % 4294967296 * f ≤ 4294967295 * 4294967295
 mix-fits h f g = mul-le-mul {n₂ = 4294967295} {m₂ = 4294967295} (omega arith) g
+
+-- The place of a hash among some roots is one of theirs.
+pub scaled-fits : (h k : ℕ) → h % 4294967296 * k ≤ 4294967295 * k
+scaled-fits h k = mul-le-mul {n₂ = 4294967295} {m₂ = k} (omega arith) (omega arith)
+
+pub slot-inside : (h : Digest) (k : ℕ) → 0 < k → slotOf h k < k
+unfolding slotOf
+slot-inside h k some = omega (arith, scaled-fits (h .first) k)
 
 module _ (s : List ℕ) (h : Digest) where
   -- Three bytes, as long as there are so many,

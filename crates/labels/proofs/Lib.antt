@@ -6,4 +6,5 @@ mod Hashing
 pub mod Locals
 pub mod Named
 pub mod Owned
+mod Roots
 pub mod Row

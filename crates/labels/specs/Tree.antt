@@ -105,9 +105,9 @@ pub record Rootable (roots : List ℕ) : Type 0 where
   pub some : 0 < length roots
   pub few : length roots ≤ 65536
 
--- The place of a hash among some roots: its upper bits, in proportion.
+-- The place of a hash among some roots: 32 bits of it, in proportion.
 unfoldable pub slotOf : Digest → ℕ → ℕ
-slotOf h k = h .first / 4294967296 * k / 4294967296
+slotOf h k = h .first % 4294967296 * k / 4294967296
 
 -- The root of a spelling: none (0), or the entry before that number.
 abbrev pub rootOf : List ℕ → List ℕ → ℕ

@@ -226,12 +226,12 @@ fn started(more: bool, next: usize, turns: Turns, count: usize, entry: Label) ->
     }
 }
 
-// The place of a hash among some roots: its upper bits, in proportion.
+// The place of a hash among some roots: 32 bits of it, in proportion.
 fn slot(hash: Digest, roots: usize) -> usize
     requires { ⌜ 0 < roots ⌝ ∗ ⌜ roots ≤ 65536 ⌝ }
     ensures { λ r. ⌜ r ≡ slotOf hash roots ⌝ ∗ ⌜ r < roots ⌝ }
 {
-    (hash.first / 4294967296) as usize * roots / 4294967296
+    (hash.first % 4294967296) as usize * roots / 4294967296
 }
 
 // The search for a label that is to be entered behind `count` others, from the entry before a root on. The label is the root of its

@@ -344,6 +344,7 @@ module _ {s : List ℕ} {p r : Pass} where
         stands = λ room ls t f e. label-refused t f e k;
         sound = λ g. found-not (sym g ∙ k .not-found);
         behind = λ g. found-not (sym g ∙ k .not-found);
+        entered = λ g. found-not (sym g ∙ k .not-found);
       }
 
   pub goes-stop : {n : ℕ} → p .fault ≡ Refused n → Stops n (rustLine n (p .line)) (p .line) (p .labels + 1) r → GoesOn s p Good r
@@ -352,6 +353,7 @@ module _ {s : List ℕ} {p r : Pass} where
         stands = λ room ls t f e. behind-refused t f e h k;
         sound = λ g. found-not (sym g ∙ k .not-found);
         behind = λ g. found-not (sym g ∙ k .not-found);
+        entered = λ g. refl;
       }
 
   module _ (h : p .fault ≡ Good) where
@@ -361,6 +363,7 @@ module _ {s : List ℕ} {p r : Pass} where
           stands = λ room ls t f e. behind-end t f e h z k;
           sound = λ g. found-not (sym g ∙ k .not-found);
           behind = λ g. found-not (sym g ∙ k .not-found);
+          entered = λ g. refl;
         }
 
     pub goes-scan : p .end < length s → Scans s (p .end + 1) (p .line + 1) (p .labels + 1) (p .words) (settingsMeant (p .config)) r → GoesOn s p Good r
@@ -369,6 +372,7 @@ module _ {s : List ℕ} {p r : Pass} where
           stands = λ room ls t f e. k .stands room (ls ++ (labelAt s p ∷ [])) (named-count t f e) (behind-on t f e h z);
           sound = k .sound;
           behind = λ g. omega (arith, k .behind g);
+          entered = λ g. refl;
         }
 
 -- From where it goes on.

@@ -216,6 +216,8 @@ pub record GoesOn (s : List ℕ) (p : Pass) (e : Checked) (r : Pass) : Type 0 wh
       → faultMeant e ≡ entryFault (isKnown ls (spelled s (p .label))) (ltb (length ls) room) → Stands s room (withEntry e ls (labelAt s p)) r
   pub sound : r .found ≡ true → Sound s r
   pub behind : r .found ≡ true → p .line < r .line
+  -- behind a refused label there is no other
+  pub entered : r .found ≡ true → e ≡ Good
 
 -- ---- the second walk
 

@@ -1,30 +1,119 @@
 -- `labels::tree::begin` meets its contract.
+use Prim.Native.Nat.{ℕ, suc, _+_, _-_}
+use mathlib.Core.Path.{_≡_, sym, ap, _∙_}
+use native.Mathlib.Omega.{arith}
+use mathlib.Core.List.{List}
+use lib.ListN.{length, getD, set}
 use borrow.Author.Needs.{needs}
-use Rattle.labels.specs.Tree.{firstTurns, keyOf, entryFor}
+use Rattle.labels.specs.declared.tree.Digest.{Digest}
+use Rattle.labels.specs.Contracts.{spelled}
+use Rattle.labels.specs.Tree.{hashOf, firstTurns, keyOf, entryFor, slotOf, rootOf}
 use Rattle.labels.proofs.Named.{spelled-long}
+use Rattle.labels.proofs.Roots.{planted-empty, planted-same, begun-none, begun-some}
 use Rattle.labels.proofs.tree.begin.Statement.{statement}
 use Rattle.labels.proofs.tree.begin.Tie as tie
 
 hash-requires : tie.Need-hash-requires
 hash-requires c κs = search needs
 
-mul-t9 : tie.Need-mul-t9
-mul-t9 c = search needs
+mul-t13 : tie.Need-mul-t13
+mul-t13 c = search needs
 
-add-t10 : tie.Need-add-t10
-add-t10 c = search needs
+add-t14 : tie.Need-add-t14
+add-t14 c = search needs
 
-add-t13 : tie.Need-add-t13
-add-t13 c = search needs
+add-t16 : tie.Need-add-t16
+add-t16 c = search needs
 
-add-t15 : tie.Need-add-t15
-add-t15 c = search needs
+add-t18 : tie.Need-add-t18
+add-t18 c = search needs
+
+slot-requires : tie.Need-slot-requires
+slot-requires c κs = search needs
+
+mul-root : tie.Need-mul-root
+mul-root c = search needs
+
+slice-read-root : tie.Need-slice-read-root
+slice-read-root c = search needs
+
+cast-root : tie.Need-cast-root
+cast-root c = omega (arith, c .slice-known2 .given (c .before .slot .result))
+
+add-roots : tie.Need-add-roots
+add-roots c = search needs
+
+cast-roots : tie.Need-cast-roots
+cast-roots c = search needs
+
+mul-roots : tie.Need-mul-roots
+mul-roots c = search needs
+
+slice-write-roots : tie.Need-slice-write-roots
+slice-write-roots c = search needs
+
+started-requires : tie.Need-started-requires
+started-requires c κs = search needs
+
+same-length : tie.Need-same-length
+same-length c = search needs
 
 returns : tie.Need-returns
 unfolding firstTurns keyOf entryFor
 returns c =
-    let k = c .before .before .before .before in
-    rw (c .before .before .hash .ensures, spelled-long (k .args .source .now) (k .args .label) (k .pre .in-text))
+    let f = c .before .before .before in
+    let h = f .before .before .before .hash in
+    let k = f .before .before .before .before .before .before in
+    let roots : List ℕ = k .args .roots .now in
+    let u : List ℕ = spelled (k .args .source .now) (k .args .label) in
+    let at : f .slot .result ≡ slotOf (hashOf u) (length roots) = f .slot .ensures .0 ∙ ap (λ (d : Digest). slotOf d (length roots)) (h .ensures) in
+    let none : rootOf roots u ≡ 0 = ap (λ (i : ℕ). getD roots i 0) (sym at) ∙ c .before .if1 .taken in (
+      rw (begun-none (k .args .source .now) roots (k .args .count) (k .args .label) none, c .started .ensures, h .ensures, spelled-long (k .args .source .now) (k .args .label) (k .pre .0 .in-text)),
+      ap (λ (i : ℕ). set roots i (k .args .count + 1)) at ∙ sym (planted-empty roots (k .args .count) u none),
+    )
+
+sub-started : tie.Need-sub-started
+sub-started c = search needs
+
+started-requires-2 : tie.Need-started-requires-2
+started-requires-2 c κs = search needs
+
+returns-2 : tie.Need-returns-2
+unfolding firstTurns keyOf entryFor
+returns-2 c =
+    let f = c .before .before .before in
+    let h = f .before .before .before .hash in
+    let k = f .before .before .before .before .before .before in
+    let roots : List ℕ = k .args .roots .now in
+    let u : List ℕ = spelled (k .args .source .now) (k .args .label) in
+    let at : f .slot .result ≡ slotOf (hashOf u) (length roots) = f .slot .ensures .0 ∙ ap (λ (d : Digest). slotOf d (length roots)) (h .ensures) in
+    let root : ℕ = getD roots (f .slot .result) 0 in
+    let same : rootOf roots u ≡ root = ap (λ (i : ℕ). getD roots i 0) (sym at) in
+    let one : root ≡ suc (root - 1) = omega (arith, c .before .if1 .left) in (
+      rw (begun-some (k .args .source .now) roots (k .args .count) (k .args .label) (root - 1) (same ∙ one), c .started2 .ensures, h .ensures, spelled-long (k .args .source .now) (k .args .label) (k .pre .0 .in-text)),
+      sym (planted-same roots (k .args .count) u (λ e. c .before .if1 .left (sym same ∙ e))),
+    )
 
 pub begin-spec : {M : Type 1} → statement M
-begin-spec = tie.close (tie.spec hash-requires mul-t9 add-t10 add-t13 add-t15 returns)
+begin-spec =
+    tie.close
+    (tie.spec
+    hash-requires
+    mul-t13
+    add-t14
+    add-t16
+    add-t18
+    slot-requires
+    mul-root
+    slice-read-root
+    cast-root
+    add-roots
+    cast-roots
+    mul-roots
+    slice-write-roots
+    started-requires
+    same-length
+    returns
+    sub-started
+    started-requires-2
+    returns-2)
