@@ -1,7 +1,6 @@
 pub mod Bare
 pub mod Called
 pub mod Onward
-pub mod Owned
 pub mod Rooted
 pub mod Shared
 pub mod Walks

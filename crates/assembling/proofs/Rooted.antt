@@ -38,6 +38,7 @@ use denote.Steps.{heard}
 use Rattle.labels.specs.declared.label.Label.{Label}
 use Rattle.labels.proofs.label.Label as L
 use Rattle.labels.proofs.label.Label.Laws as L′
+use Rattle.labels.proofs.Arrays.{Front, lends-front, front-back}
 use Rattle.labels.proofs.Calls.{Known, calls-to, asks-nothing}
 use Rattle.labels.proofs.Facts.{says-both}
 use Rattle.labels.proofs.Locals.{Locals, frees-all}
@@ -48,7 +49,6 @@ use Rattle.passes.proofs.first_pass.Pass.Laws as P′
 use Rattle.labels.specs.Tree.{Bare}
 use Rattle.assembling.specs.Contracts.{Walks}
 use Rattle.assembling.proofs.Shared.{pval, PassIs, cells, aval, tells, NumbersAre, stored, Constants, constantVals, Others, big}
-use Rattle.assembling.proofs.Owned.{Front, Away, In, lends-front, front-back}
 use Rattle.assembling.proofs.Onward.{source, entries, constant, first, first-says, All, Held, Left, Ends, s₁, s₂, exits, Walked, walk-all}
 
 -- the contract of `walk`

@@ -1,4 +1,5 @@
 pub mod Again
+pub mod Arrays
 pub mod Calls
 pub mod Facts
 pub mod Finding
