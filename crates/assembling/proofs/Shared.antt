@@ -2,6 +2,7 @@
 --     Shared           what is had of these.        shared-twice     it can be had twice.        Alive    the tokens of their lifetimes, and Others those but the source's
 --     lends-local      a local that holds an array is lent as `&`, for a lifetime that is made for it.        local-back     that lifetime is ended, and the local comes back
 --     lends-tables     the same of the three locals that hold the constant tables, to be shared with the source.        tables-back
+--     big              an operand that is a constant above 1,023
 use Prim.Native.Nat.{ℕ}
 use mathlib.Core.List.{List, [], _∷_}
 use lib.Dec.{T}
@@ -171,7 +172,7 @@ module _ (ms fs ss : List ℕ) (i j k : ℕ) where
         move t (4 ∷ []) $ split t $ move t (0 ∷ 2 ∷ []) $ local-back w64 50 ms i t z ν₁ $ move t (1 ∷ []) $ split t $ move t (0 ∷ 3 ∷ []) $ local-back w8 50 fs j t z ν₂ $
         move t (1 ∷ []) $ split t $ move t (0 ∷ 4 ∷ []) $ local-back w8 293 ss k t z ν₃ $ move t (1 ∷ []) $ drop t $ move t (2 ∷ 1 ∷ []) $ s)
 
--- ---- a constant above 1,023
+-- ---- a constant
 
 pub big : {M : Type 1} {𝓤 : URA M} {H : Heap 𝓤} {A : Atoms 𝓤} {W : Given 𝓤 H A} {K : Type 0} {Γ : List (Item 𝓤)} {E : Env 𝓤 H} {n : ℕ} → K → Fits w64 n → Opd K W Γ E (intBig w64 n) (vint w64 n)
 big {𝓤 = 𝓤} {n = n} t z = record { go = λ k h. via 𝓤 (k (vint w64 n)) h (guardI 𝓤 (Fits w64 n) (k (vint w64 n)) z) }
