@@ -39,7 +39,7 @@ fn many_roots() -> [u32; 65536]
     [0; 65536]
 }
 
-// The first walk over a short source, which must not pay for clearing many roots,
+// The first walk with few roots,
 fn short_walk(
     source: &[u8],
     table: &mut [Label],
@@ -54,7 +54,7 @@ fn short_walk(
     walk(source, table, &mut roots, mnemonics, forms, slots)
 }
 
-// and over a long one.
+// and with many.
 fn long_walk(
     source: &[u8],
     table: &mut [Label],
@@ -69,23 +69,6 @@ fn long_walk(
     walk(source, table, &mut roots, mnemonics, forms, slots)
 }
 
-// The first walk over a source.
-fn first_pass(
-    source: &[u8],
-    table: &mut [Label],
-    mnemonics: &[u64; 50],
-    forms: &[u8; 50],
-    slots: &[u8; 293],
-) -> Pass
-    requires { ⌜ Tables (now mnemonics) (now forms) (now slots) ⌝ }
-    ensures { λ r. ⌜ Walks (now (source .entry)) (now (table .entry)) (now (table .exit)) r ⌝ }
-{
-    if source.len() < 65536 {
-        return short_walk(source, table, mnemonics, forms, slots);
-    }
-    long_walk(source, table, mnemonics, forms, slots)
-}
-
 // The image of a source, and its labels.
 pub fn assemble(source: &[u8], table: &mut [Label], image: &mut [u8]) -> Assembled
     ensures { λ r. ⌜ Assembles (now (source .entry)) (now (table .entry)) (now (image .entry)) (now (table .exit)) (now (image .exit)) r ⌝ }
@@ -93,6 +76,17 @@ pub fn assemble(source: &[u8], table: &mut [Label], image: &mut [u8]) -> Assembl
     let mnemonics = &instruction::opcode::mnemonics();
     let forms = &instruction::opcode::forms();
     let slots = &instruction::opcode::slots();
-    let pass = first_pass(source, table, mnemonics, forms, slots);
+    let pass = short_walk(source, table, mnemonics, forms, slots);
+    passes::second_pass::finish(source, image, pass, mnemonics, forms, slots)
+}
+
+// The same with many roots: faster where there are many labels, and slower where the source is short, since the roots are cleared.
+pub fn assemble_long(source: &[u8], table: &mut [Label], image: &mut [u8]) -> Assembled
+    ensures { λ r. ⌜ Assembles (now (source .entry)) (now (table .entry)) (now (image .entry)) (now (table .exit)) (now (image .exit)) r ⌝ }
+{
+    let mnemonics = &instruction::opcode::mnemonics();
+    let forms = &instruction::opcode::forms();
+    let slots = &instruction::opcode::slots();
+    let pass = long_walk(source, table, mnemonics, forms, slots);
     passes::second_pass::finish(source, image, pass, mnemonics, forms, slots)
 }
