@@ -1,15 +1,17 @@
 /* Assembling zkIR v3.4 text to program images, opening such images, and listing them as text again.
  *
- * Three functions, whose every answer is proved: crates/capi holds their contracts. Each takes any input, and returns 0, or the number
- * of the one refusal that meets it (enum zkasm_refusal). In both cases it fills its answer; a field that says nothing is 0.
+ * Three functions, and one of them in a second form, whose every answer is proved: crates/capi holds their contracts. Each takes any input,
+ * and returns 0, or the number of the one refusal that meets it (enum zkasm_refusal). In both cases it fills its answer; a field that says
+ * nothing is 0.
  *
  * What a caller owes, and no proof can see:
  *   - each pointer is aligned for its type and not NULL, also where the length beside it is 0;
  *   - as many entries stand there as the length says;
  *   - a buffer that is written to (table, image of zkasm_assemble, text, answer) overlaps no other argument.
  *
- * The functions keep nothing between calls and take no memory but some kilobytes of stack, so several threads may call them at once.
- * The library calls memcpy and nothing else. Link target/staticlib/libcapi.a, for x86-64 Linux. */
+ * The functions keep nothing between calls and take no memory but stack, so several threads may call them at once: 16 KB suffice, but
+ * for a source of 65,536 bytes or more, and for zkasm_assemble_long, 288 KB. The library calls memcpy and memset and nothing else. Link
+ * target/staticlib/libcapi.a, for x86-64 Linux. */
 #ifndef ZKASM_H
 #define ZKASM_H
 
@@ -89,6 +91,10 @@ typedef struct zkasm_assembled {
  * 131,104 bytes hold every image. */
 uint32_t zkasm_assemble(const uint8_t *source, size_t source_length, zkasm_label *table, size_t table_length, uint8_t *image,
                         size_t image_length, zkasm_assembled *answer);
+
+/* The same, for any source, made for long ones: zkasm_assemble calls it for a source of 65,536 bytes or more. */
+uint32_t zkasm_assemble_long(const uint8_t *source, size_t source_length, zkasm_label *table, size_t table_length, uint8_t *image,
+                             size_t image_length, zkasm_assembled *answer);
 
 /* All fields are 0 where the image is refused. */
 typedef struct zkasm_opened {

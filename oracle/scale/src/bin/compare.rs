@@ -14,9 +14,12 @@ use oracle::{Answer, Asked, MOST_SOURCE_BYTES, MOST_WORDS};
 use scale::arguments::two_numbers;
 use scale::desk::{enough, Desk, Difference};
 use scale::differences::Differences;
-use scale::interface::Crate;
+use scale::interface::{Crate, Exported};
 use scale::large;
 use scale::lengths::{about, more};
+
+/// From this length on a function of its own assembles a source.
+const LONG: usize = 65_536;
 
 /// Sources of one kind.
 struct Group {
@@ -27,6 +30,8 @@ struct Group {
 
 struct Run {
     desk: Desk<Crate>,
+    /// Asked for some of the sources, by one of the functions that assemble and by the other.
+    exported: Desk<Exported>,
     groups: Vec<Group>,
     differences: Differences,
 }
@@ -39,6 +44,7 @@ fn main() -> ExitCode {
     let begin = Instant::now();
     let mut run = Run {
         desk: Desk::new(Crate),
+        exported: Desk::new(Exported::default()),
         groups: Vec::new(),
         differences: Differences::default(),
     };
@@ -47,6 +53,7 @@ fn main() -> ExitCode {
     run.every_short_source();
     run.bytes_above_127(first..first + seeds.div_ceil(10));
     run.large_sources(first..first + seeds.div_ceil(1000));
+    run.long_sources(first..first + seeds.div_ceil(20_000));
     run.limits();
     let good = run.report();
     println!("{:.0} s", begin.elapsed().as_secs_f64());
@@ -121,6 +128,22 @@ impl Run {
         }
     }
 
+    /// Sources about the length from which a function of its own assembles them, and longer ones.
+    fn long_sources(&mut self, seeds: Range<u64>) {
+        for kind in large::KINDS {
+            self.begin(format!("{}, about 64 KB and more", kind.name));
+            for seed in seeds.clone() {
+                let mut rng = Rng::new(!seed);
+                let longer = LONG + rng.below(3 * LONG);
+                for bytes in [LONG - 1, LONG, longer] {
+                    let mut source = kind.source(&mut rng, bytes);
+                    spoil(&mut rng, &mut source);
+                    self.source(&source, seed);
+                }
+            }
+        }
+    }
+
     /// As many instructions and as many bytes as there may be, one less and one more.
     fn limits(&mut self) {
         self.begin("about the limits");
@@ -140,7 +163,10 @@ impl Run {
 
     /// Compares all that there is to a source, and keeps count.
     fn source(&mut self, source: &[u8], seed: u64) {
-        let accepted = compare(&mut self.desk, source, &mut Rng::new(seed));
+        let mut rng = Rng::new(seed);
+        let accepted = compare(&mut self.desk, source, &mut rng).and_then(|accepted| {
+            ask_exported(&mut self.exported, source, &mut rng).map(|()| accepted)
+        });
         let group = self.groups.last_mut().expect("a group has begun");
         group.sources += 1;
         match accepted {
@@ -168,7 +194,7 @@ impl Run {
                 missed.join(", ")
             );
         }
-        let restored = self.desk.is_restored();
+        let restored = self.desk.is_restored() && self.exported.is_restored();
         if !restored {
             println!("memory far from what was lent has changed");
         }
@@ -195,6 +221,19 @@ fn compare(desk: &mut Desk<Crate>, source: &[u8], rng: &mut Rng) -> Result<bool,
     desk.look_into(&image, |length| length + more(rng))?;
     desk.look_into(&damaged(rng, &image), |length| about(rng, length))?;
     Ok(true)
+}
+
+/// What differs if the exported functions are asked, for one source in eight and every long one.
+fn ask_exported(desk: &mut Desk<Exported>, source: &[u8], rng: &mut Rng) -> Result<(), Difference> {
+    if source.len() < LONG - 1 && rng.below(8) > 0 {
+        return Ok(());
+    }
+    let asked = Asked::new(source);
+    let (labels, length) = enough(&asked);
+    for _ in 0..2 {
+        desk.assemble(&asked, about(rng, labels), length + more(rng))?;
+    }
+    Ok(())
 }
 
 /// An image with a few changes, cut off, or not even with the right beginning.
