@@ -1,5 +1,6 @@
 pub mod Bare
 pub mod Called
+pub mod Finished
 pub mod Onward
 pub mod Rooted
 pub mod Shared
