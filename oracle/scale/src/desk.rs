@@ -21,7 +21,7 @@ pub const MOST_TEXT: usize = 720_962;
 const MORE: usize = 1024;
 
 pub struct Desk<I> {
-    interface: I,
+    pub interface: I,
     input: Lent<u8>,
     table: Lent<Label>,
     image: Lent<u8>,

@@ -80,16 +80,6 @@ fn or_0(number: Option<usize>) -> u64 {
     number.unwrap_or(0) as u64
 }
 
-type Assemble = unsafe extern "C" fn(
-    source: *const u8,
-    source_length: usize,
-    table: *mut Label,
-    table_length: usize,
-    image: *mut u8,
-    image_length: usize,
-    answer: *mut u64,
-) -> c_uint;
-
 extern "C" {
     fn zkasm_assemble(
         source: *const u8,
@@ -124,8 +114,8 @@ pub struct Exported {
     answer: Lent<u64>,
     /// Where the next answer is lent.
     place: Place,
-    /// What assembles the next source: one of the two functions and the other in turn.
-    assemble: [Assemble; 2],
+    /// Whether the function that is made for long sources assembles, whatever their length.
+    pub long: bool,
 }
 
 impl Default for Exported {
@@ -133,7 +123,7 @@ impl Default for Exported {
         Exported {
             answer: Lent::new(1, |place| !(place as u64)),
             place: Place::Front,
-            assemble: [zkasm_assemble, zkasm_assemble_long],
+            long: false,
         }
     }
 }
@@ -162,8 +152,10 @@ impl Exported {
 // the answer has as many fields as the header says.
 impl Interface for Exported {
     fn assemble(&mut self, source: &[u8], table: &mut [Label], image: &mut [u8]) -> Told<8> {
-        self.assemble.reverse();
-        let assemble = self.assemble[0];
+        let assemble = match self.long {
+            true => zkasm_assemble_long,
+            false => zkasm_assemble,
+        };
         let (entries, bytes) = (table.as_mut_ptr(), image.as_mut_ptr());
         self.answered(|answer| unsafe {
             assemble(

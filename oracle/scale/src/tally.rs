@@ -46,16 +46,16 @@ impl Tally {
 
     /// The refusals that no call gave.
     pub fn missed(&self) -> Vec<String> {
-        let mut missed = Vec::new();
-        for call in CALLS {
-            let none = |number: &usize| call.has(*number) && self.0[*number][call as usize] == 0;
-            missed.extend(
-                (1..self.0.len())
-                    .filter(none)
-                    .map(|number| format!("{call:?} {number}")),
-            );
-        }
-        missed
+        CALLS.map(|call| self.missed_by(call)).concat()
+    }
+
+    /// The refusals that a call has and did not give.
+    pub fn missed_by(&self, call: Call) -> Vec<String> {
+        let none = |number: &usize| call.has(*number) && self.0[*number][call as usize] == 0;
+        (1..self.0.len())
+            .filter(none)
+            .map(|number| format!("{call:?} {number}"))
+            .collect()
     }
 }
 

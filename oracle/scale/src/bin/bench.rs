@@ -16,8 +16,9 @@ use zkasm::Label;
 
 const KB: usize = 1024;
 
-/// The lengths that are timed: each row stands against the second, and takes as much as the last.
-const SOURCES: [usize; 4] = [KB, 16 * KB, 256 * KB, 1024 * KB];
+/// The lengths that are timed: each row stands against the second, and takes as much as the last. From
+/// 64 KB on a function of its own assembles.
+const SOURCES: [usize; 5] = [KB, 16 * KB, 63 * KB, 256 * KB, 1024 * KB];
 const CODE: [usize; 3] = [KB, 16 * KB, 128 * KB];
 
 /// What is lent, once for all calls.
@@ -86,7 +87,7 @@ fn assembling(Buffers { table, image, .. }: &mut Buffers, kind: &Kind) {
     let mut lengths = SOURCES.map(|length| length.min(kind.most)).to_vec();
     lengths.dedup();
     let times = |length: usize| {
-        let count = SOURCES[3] / length;
+        let count = SOURCES[SOURCES.len() - 1] / length;
         let source = |seed| kind.source(&mut Rng::new(seed as u64), length);
         let text = |seed| String::from_utf8(source(seed)).expect("it is ASCII");
         let texts: Vec<String> = (0..count).map(text).collect();

@@ -17,6 +17,7 @@ use scale::differences::Differences;
 use scale::interface::{Crate, Exported};
 use scale::large;
 use scale::lengths::{about, more};
+use scale::tally::Call;
 
 /// From this length on a function of its own assembles a source.
 const LONG: usize = 65_536;
@@ -30,7 +31,7 @@ struct Group {
 
 struct Run {
     desk: Desk<Crate>,
-    /// Asked for some of the sources, by one of the functions that assemble and by the other.
+    /// Asked for some of the sources, by both functions that assemble.
     exported: Desk<Exported>,
     groups: Vec<Group>,
     differences: Differences,
@@ -136,7 +137,7 @@ impl Run {
                 let mut rng = Rng::new(!seed);
                 let longer = LONG + rng.below(3 * LONG);
                 for bytes in [LONG - 1, LONG, longer] {
-                    let mut source = kind.source(&mut rng, bytes);
+                    let mut source = kind.source(&mut rng, bytes.min(kind.most));
                     spoil(&mut rng, &mut source);
                     self.source(&source, seed);
                 }
@@ -187,7 +188,10 @@ impl Run {
             println!("{name:50} {sources:>11} {accepted:>11}");
         }
         println!("\n{}", self.desk.tally);
-        let missed = self.desk.tally.missed();
+        let calls = self.exported.tally.calls();
+        println!("the exported functions that assemble: {calls} calls");
+        let mut missed = self.desk.tally.missed();
+        missed.extend(self.exported.tally.missed_by(Call::Assembling));
         if !missed.is_empty() {
             println!(
                 "refusals that no source met: {}; take more seeds",
@@ -223,15 +227,21 @@ fn compare(desk: &mut Desk<Crate>, source: &[u8], rng: &mut Rng) -> Result<bool,
     Ok(true)
 }
 
-/// What differs if the exported functions are asked, for one source in eight and every long one.
+/// What differs if both exported functions are asked, for one source in eight and every long one.
 fn ask_exported(desk: &mut Desk<Exported>, source: &[u8], rng: &mut Rng) -> Result<(), Difference> {
     if source.len() < LONG - 1 && rng.below(8) > 0 {
         return Ok(());
     }
     let asked = Asked::new(source);
     let (labels, length) = enough(&asked);
-    for _ in 0..2 {
-        desk.assemble(&asked, about(rng, labels), length + more(rng))?;
+    for long in [false, true] {
+        desk.interface.long = long;
+        let (table, room) = match rng.percent(50) {
+            true => (labels + more(rng), length + more(rng)),
+            false => (about(rng, labels), about(rng, length)),
+        };
+        desk.assemble(&asked, table, room)
+            .map_err(|difference| format!("exported, long: {long}: {difference}"))?;
     }
     Ok(())
 }
