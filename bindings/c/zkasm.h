@@ -7,11 +7,11 @@
  * What a caller owes, and no proof can see:
  *   - each pointer is aligned for its type and not NULL, also where the length beside it is 0;
  *   - as many entries stand there as the length says;
- *   - a buffer that is written to (table, image of zkasm_assemble, text, answer) overlaps no other argument.
+ *   - a buffer that is written to (table, the image that is assembled, text, answer) overlaps no other argument.
  *
- * The functions keep nothing between calls and take no memory but stack, so several threads may call them at once: 16 KB suffice, but
- * for a source of 65,536 bytes or more, and for zkasm_assemble_long, 288 KB. The library calls memcpy and memset and nothing else. Link
- * target/staticlib/libcapi.a, for x86-64 Linux. */
+ * The functions keep nothing between calls and take no memory but stack, so several threads may call them at once. A call takes at most
+ * 16 KB of stack; zkasm_assemble of a source of 65,536 bytes or more, and zkasm_assemble_long, at most 288 KB (measured, not proved). The
+ * library calls memcpy and memset and nothing else. Link target/staticlib/libcapi.a, for x86-64 Linux. */
 #ifndef ZKASM_H
 #define ZKASM_H
 

@@ -79,7 +79,7 @@ module _ {M : Type 1} (𝓤 : URA M) (H : Heap 𝓤) (A : Atoms 𝓤) (at-mem : 
         nothing ! $ move ! (2 ∷ 0 ∷ []) $ fjoin ! $ move ! (2 ∷ 0 ∷ []) $ fjoin ! $ move ! (2 ∷ 0 ∷ []) $ fjoin ! $
         move ! (1 ∷ 0 ∷ []) $ join ! $ nothing ! $ move ! (1 ∷ 0 ∷ []) $ done !
 
-    pub calls-lent : {K : Type 0} {W : Given 𝓤 H A} {Γ : List (Item 𝓤)} {E : Env 𝓤 H} {C : Calls 𝓤 H} {Λ : Loops 𝓤 H} {p : Post 𝓤 H} {f : Name} {os : List Operand} {d : Place} {rest : Body}
+    calls-lent : {K : Type 0} {W : Given 𝓤 H A} {Γ : List (Item 𝓤)} {E : Env 𝓤 H} {C : Calls 𝓤 H} {Λ : Loops 𝓤 H} {p : Post 𝓤 H} {f : Name} {os : List Operand} {d : Place} {rest : Body}
         → K → FmC 𝓤 H (W .laws) C → Triple 𝓤 (C f) Assemble → Opds K W (raw (Assemble .pre to-assemble) ∷ Γ) E os (s₁ ∷ s₂ ∷ s₃ ∷ [])
         → ((r : Assembled) (l : List Label) (i : List ℕ) → Assembles (src .now) (x .now) (y .now) l i r → length l ≡ length (x .now) → length i ≡ length (y .now) → Is R.the-row r (rval r ∷ [])
         → Seq K W (‵ (flft (ν′ ∷ []) fullShare) ∷ ‵ (flft (ν ∷ []) fullShare) ∷ ‵ (flft κ q) ∷ ‵ (finally L.the-row (x .name) l) ∷ ‵ (finally u8 (y .name) i) ∷ Γ) (lands C Λ E d (rval r) rest p))

@@ -27,12 +27,14 @@ fn walk(
     pass
 }
 
+// As many as the labels of a source of 16 KB, and cleared in no time,
 fn few_roots() -> [u32; 1024]
     ensures { λ r. ⌜ Bare r ⌝ }
 {
     [0; 1024]
 }
 
+// and as many as those of 1 MB, or nearly.
 fn many_roots() -> [u32; 65536]
     ensures { λ r. ⌜ Bare r ⌝ }
 {
@@ -80,7 +82,7 @@ pub fn assemble(source: &[u8], table: &mut [Label], image: &mut [u8]) -> Assembl
     passes::second_pass::finish(source, image, pass, mnemonics, forms, slots)
 }
 
-// The same with many roots: faster where there are many labels, and slower where the source is short, since the roots are cleared.
+// The same with many roots: faster where there are many labels, slower where the source is short, since the roots have to be cleared.
 pub fn assemble_long(source: &[u8], table: &mut [Label], image: &mut [u8]) -> Assembled
     ensures { λ r. ⌜ Assembles (now (source .entry)) (now (table .entry)) (now (image .entry)) (now (table .exit)) (now (image .exit)) r ⌝ }
 {

@@ -1,4 +1,4 @@
-// While labels are entered, their entries are the nodes of a tree. A label's start, length and address are below 2^21. Above its start
+// While labels are entered, their entries are the nodes of trees. A label's start, length and address are below 2^21. Above its start
 // and above its address an entry holds two numbers of 21 bits each, by which it leads to later entries in four ways, and above its
 // length 43 bits of its spelling's hash.
 ghost use mathlib.Core.Path.{_≡_};
@@ -23,7 +23,7 @@ pub(crate) struct Turns {
 }
 
 // A spelling that is looked for. `entry` is that of its label, behind `count` others; `parent` is the entry that is to lead to
-// it, and stands at `last`: for the first label of all, which nothing leads to, its own.
+// it, and stands at `last`: for a label that becomes a root, to which no entry leads, its own.
 pub(crate) struct Search {
     pub(crate) more: bool,
     pub(crate) known: bool,
@@ -226,12 +226,12 @@ fn started(more: bool, next: usize, turns: Turns, count: usize, entry: Label) ->
     }
 }
 
-// The place of a hash among some roots: 32 bits of it, in proportion.
-fn slot(hash: Digest, roots: usize) -> usize
-    requires { ⌜ 0 < roots ⌝ ∗ ⌜ roots ≤ 65536 ⌝ }
-    ensures { λ r. ⌜ r ≡ slotOf hash roots ⌝ ∗ ⌜ r < roots ⌝ }
+// The place of a hash among so many: 32 bits of it, in proportion.
+fn slot(hash: Digest, places: usize) -> usize
+    requires { ⌜ 0 < places ⌝ ∗ ⌜ places ≤ 65536 ⌝ }
+    ensures { λ r. ⌜ r ≡ slotOf hash places ⌝ ∗ ⌜ r < places ⌝ }
 {
-    (hash.first % 4294967296) as usize * roots / 4294967296
+    (hash.first % 4294967296) as usize * places / 4294967296
 }
 
 // The search for a label that is to be entered behind `count` others, from the entry before a root on. The label is the root of its
