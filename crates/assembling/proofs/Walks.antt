@@ -18,7 +18,7 @@ use Rattle.image.specs.Contracts.{faultMeant}
 use Rattle.image.specs.declared.config.Checked.{Checked}
 use Rattle.image.specs.declared.config.Checked.the-variants.{Good, Refused}
 use Rattle.labels.specs.Contracts.{entryOf, InText, spelled, anyNamed, entryFault, countBehind, Enters, Spelled}
-use Rattle.labels.specs.Tree.{unlinked, Bare, Tree, TreeBehind, Enterable}
+use Rattle.labels.specs.Tree.{unlinked, Bare, Tree, TableBehind, TreeBehind, Enterable}
 use Rattle.labels.proofs.Named.{spelled-long}
 use Rattle.labels.proofs.Finding.{unlinked-long}
 use Rattle.labels.specs.declared.label.Label.{Label}
@@ -191,14 +191,14 @@ module _ {s : List ℕ} {old table : List Label} {roots : List ℕ} {p : Pass} (
       record { in-text = k .in-text; short = k .short; few = omega (arith, k .short, k .line-fits, k .few-labels); near = k .near }
 
   pub walking-on : {table′ : List Label} {roots′ : List ℕ} {e : Checked} {r : Pass} → p .found ≡ true → Enters s (unlinked (p .labels) table) (p .labels) (p .label) (unlinked (countBehind (p .labels) e) table′) e
-      → TreeBehind s table′ roots′ (p .labels) e → GoesOn s p e r → Walking s old table′ roots′ r
+      → TreeBehind s table roots (p .labels) (p .label) table′ roots′ e → GoesOn s p e r → Walking s old table′ roots′ r
   walking-on {table′} {roots′} {e} {r} found x t g =
       let n : r .labels ≡ countBehind (p .labels) e = count-on (w .standing) found x g in
       record {
         standing = subst (λ (k : ℕ). Standing s old (unlinked k table′) r) (sym n) (standing-on (w .standing) found x g);
         tree = λ more.
             let good : e ≡ Good = g .entered more in
-            subst (Tree s table′ roots′) (sym (n ∙ ap (countBehind (p .labels)) good)) (subst (TreeBehind s table′ roots′ (p .labels)) good t);
+            subst (Tree s table′ roots′) (sym (n ∙ ap (countBehind (p .labels)) good)) (subst (TableBehind s table table′ roots′ (p .labels)) good (t .1));
       }
 
   -- It has ended, and the labels stand alone in the table.

@@ -339,7 +339,7 @@ module _ (s : List ℕ) (t : List Label) (roots : List ℕ) (n : ℕ) (l : Label
           let g : spelled s (plain (getD t i noLabel)) ≡ u = ap (spelled s) (sym (getD-take n (unlinked n t) i noLabel less ∙ unlinked-at n t i less)) ∙ f in
           not-found (k .is-lost ended y) (subst (λ (w : List ℕ). Finds s t n w (rootOf roots w) (firstTurns w)) g (tree .found i less)))
 
-      -- Then the table has the label's entry behind the others, and is a tree again.
+      -- Then the table has the label's entry behind the others, and they are trees again.
       module _ (y : q .known ≡ false) (room : n < length t) where
         abbrev t′ : List Label
         t′ = joined t n q
@@ -476,9 +476,10 @@ module _ (s : List ℕ) (t : List Label) (roots : List ℕ) (n : ℕ) (l : Label
               at : (i : ℕ) → getD (unlinked (suc n) t′) i noLabel ≡ getD (set (unlinked n t) n l) i noLabel
               at i = split i (suc n) (upto i) (λ h. unlinked-past (suc n) t′ i h ∙ m .later i (omega arith) ∙ sym (getD-set-other (unlinked n t) n i l noLabel (λ x. omega arith) ∙ unlinked-past n t i (omega arith)))
 
-      pub seek-end : Searched s t (planted roots n u) n l q
+      pub seek-end : Searched s t roots n l (planted roots n u) q
       seek-end =
           record {
+            planted-is = refl;
             known-is = by-test (q .known) (λ y. y ∙ sym (known-there y)) (λ y. y ∙ sym (unknown-there y));
             tree = λ y room. is-tree y room (joins y room (k .is-lost ended y));
             holds = λ y room. holds y room (joins y room (k .is-lost ended y));
@@ -486,16 +487,28 @@ module _ (s : List ℕ) (t : List Label) (roots : List ℕ) (n : ℕ) (l : Label
 
 -- ---- a label is entered
 
-module _ {s : List ℕ} {t : List Label} {roots : List ℕ} {n : ℕ} {l : Label} {q : Search} (x : Searched s t roots n l q) where
+module _ {s : List ℕ} {t : List Label} {roots : List ℕ} {n : ℕ} {l : Label} {roots′ : List ℕ} {q : Search} (x : Searched s t roots n l roots′ q) where
   pub enter-known : q .known ≡ true → Enters s (unlinked n t) n l (unlinked n t) (Refused 4)
   enter-known y = enters-known s (unlinked n t) n l (sym (x .known-is) ∙ y)
 
+  pub known-tree : TreeBehind s t roots n l t roots′ (Refused 4)
+  known-tree = (x .planted-is, refl)
+
   module _ (y : q .known ≡ false) {t₁ : List Label} (f : t₁ ≡ set t n (q .entry)) where
-    pub enter-full : ltb n (length t) ≡ false → Enters s (unlinked n t) n l (unlinked n t₁) (Refused 5)
-    enter-full h =
-        let full : length t ≤ n = ltb-false n (length t) h in
-        enters-full s (unlinked n t) n l (sym (x .known-is) ∙ y) (unlinked n t₁)
-        (ap (unlinked n) (f ∙ set-out t n (q .entry) full) ∙ sym (set-out (unlinked n t) n l (rw (unlinked-long n t) full))) (rw (unlinked-long n t) h)
+    module _ (h : ltb n (length t) ≡ false) where
+      full : length t ≤ n
+      full = ltb-false n (length t) h
+
+      kept : t₁ ≡ t
+      kept = f ∙ set-out t n (q .entry) full
+
+      pub enter-full : Enters s (unlinked n t) n l (unlinked n t₁) (Refused 5)
+      enter-full =
+          enters-full s (unlinked n t) n l (sym (x .known-is) ∙ y) (unlinked n t₁)
+          (ap (unlinked n) kept ∙ sym (set-out (unlinked n t) n l (rw (unlinked-long n t) full))) (rw (unlinked-long n t) h)
+
+      pub full-tree : TreeBehind s t roots n l t₁ roots′ (Refused 5)
+      full-tree = (x .planted-is, kept)
 
     module _ {t₂ : List Label} (g : t₂ ≡ set t₁ (q .last) (q .parent)) (h : ltb n (length t) ≡ true) where
       joined-is : t₂ ≡ joined t n q
@@ -505,5 +518,5 @@ module _ {s : List ℕ} {t : List Label} {roots : List ℕ} {n : ℕ} {l : Label
       enter-new =
           enters-new s (unlinked n t) n l (sym (x .known-is) ∙ y) (unlinked (suc n) t₂) (ap (unlinked (suc n)) joined-is ∙ x .holds y (ltb-true n (length t) h)) (rw (unlinked-long n t) h)
 
-      pub new-tree : Tree s t₂ roots (suc n)
-      new-tree = subst (λ (z : List Label). Tree s z roots (suc n)) (sym joined-is) (x .tree y (ltb-true n (length t) h))
+      pub new-tree : TreeBehind s t roots n l t₂ roots′ Good
+      new-tree = (x .planted-is, subst (λ (z : List Label). Tree s z roots′ (suc n)) (sym joined-is) (x .tree y (ltb-true n (length t) h)))

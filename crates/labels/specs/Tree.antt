@@ -182,10 +182,14 @@ pub record Tree (s : List ℕ) (t : List Label) (roots : List ℕ) (n : ℕ) : T
   pub found : (i : ℕ) → i < n
       → Finds s t n (spelled s (plain (getD t i noLabel))) (rootOf roots (spelled s (plain (getD t i noLabel)))) (firstTurns (spelled s (plain (getD t i noLabel))))
 
--- They are again behind a label that has been entered. (A refused one may have been made a root, and is the last.)
-abbrev pub TreeBehind : List ℕ → List Label → List ℕ → ℕ → Checked → Type 0
-TreeBehind s t roots n Good = Tree s t roots (suc n)
-TreeBehind s t roots n (Refused k) = Unit {0}
+-- What entering a label behind n others leaves: it is a root where there was none; trees again, once it is entered; the table as it was, if it
+-- is refused. (None is entered behind a refused one, whose root may lead to no entry.)
+abbrev pub TableBehind : List ℕ → List Label → List Label → List ℕ → ℕ → Checked → Type 0
+TableBehind s t t′ roots′ n Good = Tree s t′ roots′ (suc n)
+TableBehind s t t′ roots′ n (Refused k) = t′ ≡ t
+
+abbrev pub TreeBehind : List ℕ → List Label → List ℕ → ℕ → Label → List Label → List ℕ → Checked → Type 0
+TreeBehind s t roots n l t′ roots′ r = (roots′ ≡ planted roots n (spelled s l)) × TableBehind s t t′ roots′ n r
 
 -- A label may be entered behind n others: what an entry holds has room.
 pub record Enterable (s : List ℕ) (n : ℕ) (l : Label) : Type 0 where
@@ -198,10 +202,11 @@ pub record Enterable (s : List ℕ) (n : ℕ) (l : Label) : Type 0 where
 abbrev pub joined : List Label → ℕ → Search → List Label
 joined t n q = set (set t n (q .entry)) (q .last) (q .parent)
 
--- A search that has ended, with the roots as they are then: whether the label is known, and what a table becomes where it is not.
-pub record Searched (s : List ℕ) (t : List Label) (roots : List ℕ) (n : ℕ) (l : Label) (q : Search) : Type 0 where
+-- A search that has ended, and the roots as they are then: whether the label is known, and what a table becomes where it is not.
+pub record Searched (s : List ℕ) (t : List Label) (roots : List ℕ) (n : ℕ) (l : Label) (roots′ : List ℕ) (q : Search) : Type 0 where
+  pub planted-is : roots′ ≡ planted roots n (spelled s l)
   pub known-is : q .known ≡ anyNamed s (take n (unlinked n t)) (spelled s l)
-  pub tree : q .known ≡ false → n < length t → Tree s (joined t n q) roots (suc n)
+  pub tree : q .known ≡ false → n < length t → Tree s (joined t n q) roots′ (suc n)
   pub holds : q .known ≡ false → n < length t → unlinked (suc n) (joined t n q) ≡ set (unlinked n t) n l
 
 -- What a search asks of an entry that it has come to.

@@ -19,7 +19,7 @@ pub struct Label {
 // The search for a label among the first `count` entries of a table.
 fn find(source: &[u8], table: &[Label], roots: &mut [u32], count: usize, label: Label) -> Search
     requires { ⌜ Tree (now source) (now table) (now roots) count ⌝ ∗ ⌜ Enterable (now source) count label ⌝ }
-    ensures { λ r. ⌜ Searched (now (source .entry)) (now (table .entry)) (now (roots .exit)) count label r ⌝ }
+    ensures { λ r. ⌜ Searched (now (source .entry)) (now (table .entry)) (now (roots .entry)) count label (now (roots .exit)) r ⌝ }
 {
     let mut search = crate::tree::begin(source, roots, count, label);
     while search.more {
@@ -49,7 +49,7 @@ pub fn enter(
     label: Label,
 ) -> Checked
     requires { ⌜ Tree (now source) (now table) (now roots) count ⌝ ∗ ⌜ Enterable (now source) count label ⌝ }
-    ensures { λ r. ⌜ Enters (now (source .entry)) (unlinked count (now (table .entry))) count label (unlinked (countBehind count r) (now (table .exit))) r ⌝ ∗ ⌜ TreeBehind (now (source .entry)) (now (table .exit)) (now (roots .exit)) count r ⌝ }
+    ensures { λ r. ⌜ Enters (now (source .entry)) (unlinked count (now (table .entry))) count label (unlinked (countBehind count r) (now (table .exit))) r ⌝ ∗ ⌜ TreeBehind (now (source .entry)) (now (table .entry)) (now (roots .entry)) count label (now (table .exit)) (now (roots .exit)) r ⌝ }
 {
     let search = find(source, table, roots, count, label);
     if search.known {

@@ -275,7 +275,7 @@ module _ {M : Type 1} (𝓤 : URA M) (H : Heap 𝓤) (A : Atoms 𝓤) (at-mem : 
       Turned t = anyQ (afterTurn 𝓤 H (Below 𝓤 H A Nearer Inv t) (afterBlock 𝓤 H (afterSeq 𝓤 H (Wp 𝓤 H (𝓣 .C) (𝓣 .Λ) E m.t-3 (atReturn 𝓤 H E Post)) (atReturn 𝓤 H E Post))))
 
       onward : (t : St) → t .1 .0 .found ≡ true → (e : Checked) (zs : List Label) (rs : List ℕ) → length rs ≡ length bs → Is R.the-row e (eval e ∷ [])
-          → Enters xs (unlinked (t .1 .0 .labels) (t .0)) (t .1 .0 .labels) (t .1 .0 .label) (unlinked (countBehind (t .1 .0 .labels) e) zs) e → TreeBehind xs zs rs (t .1 .0 .labels) e
+          → Enters xs (unlinked (t .1 .0 .labels) (t .0)) (t .1 .0 .labels) (t .1 .0 .label) (unlinked (countBehind (t .1 .0 .labels) e) zs) e → TreeBehind xs (t .0) (t .1 .1 .0) (t .1 .0 .labels) (t .1 .0 .label) zs rs e
           → Sq W (With zs rs (some (pval (t .1 .0)) ∷ some (eval e) ∷ some (vbool (t .1 .0 .found)) ∷ some (vptr b o) ∷ some (s (t .0)) ∷ some (vptr b₂ o₂) ∷ some (s₂ (t .1 .1 .0)) ∷ [])) (runs (𝓣 .C) (𝓣 .Λ) E (behind 7 m.turn-1) (Turned t))
       unfolding afterTurn
       onward (zs₀, (p, (rs₀, (long₀, (w, ip))))) found e zs rs long ie x d =
@@ -304,7 +304,7 @@ module _ {M : Type 1} (𝓤 : URA M) (H : Heap 𝓤) (A : Atoms 𝓤) (at-mem : 
           calls-to ! (fmOf 𝓤 H (W .laws) 𝓣) enter-label.ended (enter-label.clauses 𝓤 H A at-mem run) entering (to-enter ν δ zs ν₂ δ₂ rs p) eval (EL.tells R.the-type R′.the-laws)
           (and-then ! (load ! (from ! (stop !)) (look ! 35 refl)) (and-then ! (load ! (from ! (stop !)) (look ! 15 refl)) (and-then ! (load ! (from ! (stop !)) (look ! 11 refl))
           (and-then ! (load ! (from ! (fld ! refl (stop !))) (look-in ! 23 (sub ! 2 refl (whole !)))) (and-then ! (load ! (from ! (fld ! refl (stop !))) (look-in ! 23 (sub ! 1 refl (whole !)))) (no-more !)))))) (λ e ws ie.
-          heard-both ! (Enters xs (unlinked (p .labels) zs) (p .labels) (p .label) (unlinked (countBehind (p .labels) e) (ws .1 .0)) e) (TreeBehind xs (ws .1 .0) (ws .1 .1 .0) (p .labels) e) (λ x d. fsplit ! $ drop ! $ fsplit ! $
+          heard-both ! (Enters xs (unlinked (p .labels) zs) (p .labels) (p .label) (unlinked (countBehind (p .labels) e) (ws .1 .0)) e) (TreeBehind xs zs rs (p .labels) (p .label) (ws .1 .0) (ws .1 .1 .0) e) (λ x d. fsplit ! $ drop ! $ fsplit ! $
           fsplit ! $ move ! (1 ∷ []) $ feqL ! (λ l. move ! (1 ∷ []) $ fsplit ! $ move ! (1 ∷ []) $ drop ! $ fsplit ! $ move ! (1 ∷ []) $ feqL ! (λ l′. move ! (2 ∷ []) $
           -- [the tokens of the source, of ν and of ν₂; the last roots; the last labels; what is kept of the roots; of the table; the other tokens; what is shared; _16; …]
           use1 W (‵ (flft (κs .0) (qs .0)) ⊛ (‵ (flft (ν ∷ []) fullShare) ⊛ (‵ (flft (ν₂ ∷ []) fullShare) ⊛ ‵ ftrue))) (id⊢ 𝓤 _) $ split ! $ move ! (1 ∷ []) $ split ! $ move ! (1 ∷ []) $ split ! $

@@ -59,7 +59,7 @@ use Rattle.labels.proofs.tree.Search.Laws as S′
 use Rattle.labels.proofs.Again.{LentAgain, InMemory, lends, ends, shares-again, shared-back}
 use Rattle.labels.proofs.Calls.{Known, calls-to}
 use Rattle.labels.proofs.Facts.{says-both, needs-both, heard-both}
-use Rattle.labels.proofs.Finding.{enter-known, enter-full, enter-new, new-tree}
+use Rattle.labels.proofs.Finding.{enter-known, known-tree, enter-full, full-tree, enter-new, new-tree}
 use Rattle.labels.proofs.Locals.{Locals, frees-all}
 use Rattle.labels.proofs.Row.{val, vals}
 use Rattle.labels.proofs.label.find as find
@@ -165,7 +165,7 @@ module _ {M : Type 1} (𝓤 : URA M) (H : Heap 𝓤) (A : Atoms 𝓤) (at-mem : 
     abbrev Has : List ℕ → List Label → List (Item 𝓤)
     Has rs′ l = ‵ (Table l) ∷ ‵ (flft κ q) ∷ ‵ (flft κ₀ q₀) ∷ ‵ (Last rs′) ∷ ‵ (flft κ₂ q₂) ∷ []
 
-    exits : (rs′ : List ℕ) → length rs′ ≡ length rs → (r : Checked) (zs : List Label) → Enters xs (unlinked n ys) n v (unlinked (countBehind n r) zs) r → TreeBehind xs zs rs′ n r → length zs ≡ length ys → Is R.the-row r (rval r ∷ [])
+    exits : (rs′ : List ℕ) → length rs′ ≡ length rs → (r : Checked) (zs : List Label) → Enters xs (unlinked n ys) n v (unlinked (countBehind n r) zs) r → TreeBehind xs ys rs n v zs rs′ r → length zs ≡ length ys → Is R.the-row r (rval r ∷ [])
         → Sq W (Has rs′ zs) (prop (Post (rval r)))
     exits rs′ long r zs e d l is =
         suffices ! _ (ends-at 𝓤 H A enters.ended stayed (enters.clauses 𝓤 H A at-mem run) W given (rval r) r (tt, (zs, (rs′, (tt, (tt, tt))))) (tt, (l, (long, (tt, (tt, tt)))))) $
@@ -234,7 +234,7 @@ module _ {M : Type 1} (𝓤 : URA M) (H : Heap 𝓤) (A : Atoms 𝓤) (at-mem : 
       stored k r vs = looked k (some (vbool (k .known)) ∷ some (vbool r) ∷ some (vptr b o) ∷ some s ∷ vs)
 
       -- behind the call of `find`: with the roots' last value, and the search
-      module _ (rs′ : List ℕ) (long : length rs′ ≡ length rs) (k : Search) (kx : Searched xs ys rs′ n v k) (ki : Is S.the-row k (sval k ∷ [])) where
+      module _ (rs′ : List ℕ) (long : length rs′ ≡ length rs) (k : Search) (kx : Searched xs ys rs n v rs′ k) (ki : Is S.the-row k (sval k ∷ [])) where
         -- [the table; its token; the source's token; what says the roots' last value; their token; _17; …; _16; …; …; _0; …]
         abbrev With : List Label → List (Option Val) → List (Item 𝓤)
         With l vs = ‵ (Table l) ∷ ‵ (flft κ q) ∷ ‵ (flft κ₀ q₀) ∷ ‵ (Last rs′) ∷ ‵ (flft κ₂ q₂) ∷ Locals 𝓤 H E vs
@@ -261,7 +261,7 @@ module _ {M : Type 1} (𝓤 : URA M) (H : Heap 𝓤) (A : Atoms 𝓤) (at-mem : 
             (λ full. skips ! $ exec ! (𝓣 .C) (𝓣 .Λ) E m.t-12 (atRet E Post) $
             assigns ! (agg ! (and-then ! (lit ! tt) (and-then ! (lit ! tt) (no-more !)))) (from ! (stop !)) (init ! 39 refl (EL.lawful R.the-type R′.the-laws 𝓤 H A W tt .typed (Refused 5) _ (refused 5 (lit< tt)) .0)) $
             returns ! (look ! 39 refl) $ frees-all ! E (holds (some (rval (Refused 5))) (stored k r [])) (Has rs′ zs) $
-            exits rs′ long (Refused 5) zs (enter-full kx new f (sym e ∙ is-false r full)) tt l (refused 5 (lit< tt)))
+            exits rs′ long (Refused 5) zs (enter-full kx new f (sym e ∙ is-false r full)) (full-tree kx new f (sym e ∙ is-false r full)) l (refused 5 (lit< tt)))
 
         adds : k .known ≡ false → Sq W (With ys (holds none (looked k (some (vbool (k .known)) ∷ [])))) (runs (𝓣 .C) (𝓣 .Λ) E m.t-8 (atRet E Post))
         adds new =
@@ -282,7 +282,7 @@ module _ {M : Type 1} (𝓤 : URA M) (H : Heap 𝓤) (A : Atoms 𝓤) (at-mem : 
             first ! $ branches ! (load ! (from ! (stop !)) (look ! 17 refl))
             (λ old. assigns ! (agg ! (and-then ! (lit ! tt) (and-then ! (lit ! tt) (no-more !)))) (from ! (stop !)) (init ! 39 refl (EL.lawful R.the-type R′.the-laws 𝓤 H A W tt .typed (Refused 4) _ (refused 4 (lit< tt)) .0)) $
             returns-within ! Post refl (look ! 39 refl) $ frees-all ! E (holds (some (rval (Refused 4))) (looked k (some (vbool (k .known)) ∷ []))) (Has rs′ ys) $
-            exits rs′ long (Refused 4) ys (enter-known kx (is-true (k .known) old)) tt refl (refused 4 (lit< tt)))
+            exits rs′ long (Refused 4) ys (enter-known kx (is-true (k .known) old)) (known-tree kx) refl (refused 4 (lit< tt)))
             (λ new. skips ! $ exec ! (𝓣 .C) (𝓣 .Λ) E m.t-8 (atRet E Post) $ adds (is-false (k .known) new))
 
       -- [the source; its token; the table; its token; the roots; their token; _17; …; _16; …; …; _0; …]
@@ -302,7 +302,7 @@ module _ {M : Type 1} (𝓤 : URA M) (H : Heap 𝓤) (A : Atoms 𝓤) (at-mem : 
           calls-to ! (fmOf 𝓤 H (W .laws) 𝓣) find.ended (find.clauses 𝓤 H A at-mem run) finds (to-find ν δ) sval (LL.tells S.the-type S′.the-laws)
           (and-then ! (load ! (from ! (stop !)) (look ! 34 refl)) (and-then ! (load ! (from ! (stop !)) (look ! 20 refl)) (and-then ! (load ! (from ! (stop !)) (look ! 16 refl))
           (and-then ! (load ! (from ! (stop !)) (look ! 28 refl)) (and-then ! (load ! (from ! (stop !)) (look ! 26 refl)) (no-more !)))))) (λ r ws is.
-          heard ! (Searched xs ys (ws .1 .1 .0) n v r) (λ e. fsplit ! $ drop ! $ fsplit ! $ drop ! $ fsplit ! $ fsplit ! $ move ! (1 ∷ []) $ feqL ! (λ l. move ! (1 ∷ []) $ drop ! $ move ! (1 ∷ []) $
+          heard ! (Searched xs ys rs n v (ws .1 .1 .0) r) (λ e. fsplit ! $ drop ! $ fsplit ! $ drop ! $ fsplit ! $ fsplit ! $ move ! (1 ∷ []) $ feqL ! (λ l. move ! (1 ∷ []) $ drop ! $ move ! (1 ∷ []) $
           -- [the tokens of the source, of ν and of the roots; what says the roots' last value; what is kept of the table; _17; …]
           use1 W (‵ (flft κ₀ q₀) ⊛ (‵ (flft (ν ∷ []) fullShare) ⊛ (‵ (flft κ₂ q₂) ⊛ ‵ ftrue))) (id⊢ 𝓤 _) $ split ! $ move ! (1 ∷ []) $ split ! $ lft-end ! tt $ move ! (0 ∷ 4 ∷ []) $
           use2 W (later (‵ (Table ys) ⊛ ‵ (flft κ q))) (shared-back L.the-row κ (ν ∷ []) q γ b o ys 𝓤 H A W (named 1) (named 1) gn) $ await ! tt $ split ! $

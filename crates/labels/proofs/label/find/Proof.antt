@@ -141,7 +141,7 @@ module _ {M : Type 1} (𝓤 : URA M) (H : Heap 𝓤) (A : Atoms 𝓤) (at-mem : 
     abbrev Has : List ℕ → List (Item 𝓤)
     Has rs′ = ‵ Source ∷ ‵ (flft κ₀ q₀) ∷ ‵ Shared ∷ ‵ (flft κ q) ∷ ‵ (Last rs′) ∷ ‵ (flft κ₂ q₂) ∷ []
 
-    exits : (rs′ : List ℕ) → length rs′ ≡ length rs → (r : Search) → Searched xs ys rs′ n v r → SearchIs r → Sq W (Has rs′) (prop (Post (sval r)))
+    exits : (rs′ : List ℕ) → length rs′ ≡ length rs → (r : Search) → Searched xs ys rs n v rs′ r → SearchIs r → Sq W (Has rs′) (prop (Post (sval r)))
     exits rs′ long r e is =
         suffices ! _ (ends-at 𝓤 H A find.ended stayed (find.clauses 𝓤 H A at-mem run) W given (sval r) r (tt, (tt, (rs′, (tt, (tt, tt))))) (tt, (tt, (long, (tt, (tt, tt)))))) $
         says ! e $ keep ! (1 ∷ 3 ∷ 4 ∷ 5 ∷ []) $ nothing ! $ move ! (4 ∷ 0 ∷ []) $ join ! $ move ! (2 ∷ 0 ∷ []) $ join ! $ move ! (1 ∷ 0 ∷ []) $ join ! $ frame ! $
@@ -254,7 +254,7 @@ module _ {M : Type 1} (𝓤 : URA M) (H : Heap 𝓤) (A : Atoms 𝓤) (at-mem : 
             (λ over. jumps ! $ exec ! (𝓣 .C) (𝓣 .Λ) E m.t-5 (atRet E Post) $
             assigns ! (of-opd ! (load ! (from ! (stop !)) (look ! 20 refl))) (from ! (stop !)) (init ! 32 refl (LL.lawful S.the-type S′.the-laws 𝓤 H A W .typed r _ is .0)) $ returns ! (look ! 32 refl) $
             frees-all ! E (holds (some (sval r)) (searching r (some (vbool (r .more)) ∷ []))) (Has rs′) $
-            exits rs′ long r (subst (λ (z : List ℕ). Searched xs ys z n v r) (sym is-planted) (seek-end xs ys rs n v tree ok r k (is-false (r .more) over))) is)
+            exits rs′ long r (subst (λ (z : List ℕ). Searched xs ys rs n v z r) (sym is-planted) (seek-end xs ys rs n v tree ok r k (is-false (r .more) over))) is)
 
       -- [the source; its token; the table; its token; the roots; their token; _13; …; _12; …; …; _0; …]
       starts : Sq W (‵ Source ∷ ‵ (flft κ₀ q₀) ∷ ‵ Shared ∷ ‵ (flft κ q) ∷ ‵ Roots ∷ ‵ (flft κ₂ q₂) ∷ Locals 𝓤 H E (holds none [])) (runs (𝓣 .C) (𝓣 .Λ) E m.t-1 (atRet E Post))
