@@ -100,7 +100,7 @@ keyOf u = length u + 2097152 * (hashOf u .second / 2097152)
 
 -- ---- roots
 
--- There are roots, and not too many.
+-- There are roots, and so few that their number times one of 32 bits fits a word.
 pub record Rootable (roots : List ℕ) : Type 0 where
   pub some : 0 < length roots
   pub few : length roots ≤ 65536
@@ -165,7 +165,7 @@ passed s q e (suc i) =
 unfoldable pub visited : List ℕ → Search → Label → Search
 visited s q e = elim (hits s e (q .entry .length) (spelled s (plain (q .entry)))) [ true ↦ endedAt q true e | false ↦ passed s q e (link e (wayOf (q .turns))) ]
 
--- ---- the tree
+-- ---- trees
 
 -- A spelling is found among the first n entries of a table, from the entry before a number on, with the turns left.
 pub data Finds (s : List ℕ) (t : List Label) (n : ℕ) (u : List ℕ) : ℕ → Turns → Type 0 where

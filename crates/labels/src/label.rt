@@ -16,7 +16,7 @@ pub struct Label {
     pub address: u64,
 }
 
-// The search for a label among the first `count` entries of a table.
+// The search for a label among the first `count` entries of a table. The label is made a root where it has none.
 fn find(source: &[u8], table: &[Label], roots: &mut [u32], count: usize, label: Label) -> Search
     requires { ⌜ Tree (now source) (now table) (now roots) count ⌝ ∗ ⌜ Enterable (now source) count label ⌝ }
     ensures { λ r. ⌜ Searched (now (source .entry)) (now (table .entry)) (now (roots .entry)) count label (now (roots .exit)) r ⌝ }
