@@ -20,7 +20,7 @@ const fn kind(name: &'static str, make: fn(&mut Rng, usize) -> Vec<u8>) -> Kind 
 }
 
 /// Usual ones, and behind them those that are made to be slow.
-pub const KINDS: [Kind; 11] = [
+pub const KINDS: [Kind; 12] = [
     kind("ordinary program", ordinary),
     kind("mostly comments", comments),
     kind("a label a line", labels),
@@ -34,6 +34,7 @@ pub const KINDS: [Kind; 11] = [
     kind("labels of 16 bytes, alike but for the end", alike_before),
     kind("labels of 16 bytes, alike but for the front", alike_behind),
     kind("labels that are each the front of the next", nested),
+    kind("the shortest labels, one a line", shortest),
     kind("one line of tokens", one_line),
 ];
 
@@ -171,6 +172,25 @@ fn alike_behind(rng: &mut Rng, bytes: usize) -> Vec<u8> {
 /// `a`, `aa`, `aaa` and so on.
 fn nested(_: &mut Rng, bytes: usize) -> Vec<u8> {
     filled(bytes, |number| format!("{}:\n", "a".repeat(number + 1)))
+}
+
+/// As many labels as there can be, or nearly: some 200,000 in 1 MB.
+fn shortest(_: &mut Rng, bytes: usize) -> Vec<u8> {
+    filled(bytes, |number| format!("{}:\n", short_name(number)))
+}
+
+/// A name for each number, the shorter ones first. None is a register's.
+fn short_name(number: usize) -> String {
+    const FIRST: &[u8] = b"BCDEHIJKLMNOPQUVWXY_bcdehijklmnopquvwxy";
+    const MORE: &[u8] = b"ABCDEFGHIJKLMNOPQRSTUVWXYZ_abcdefghijklmnopqrstuvwxyz0123456789";
+    let mut name = String::from(FIRST[number % FIRST.len()] as char);
+    let mut rest = number / FIRST.len();
+    while rest > 0 {
+        rest -= 1;
+        name.push(MORE[rest % MORE.len()] as char);
+        rest /= MORE.len();
+    }
+    name
 }
 
 /// A directive does nothing, whatever stands behind it.
