@@ -1,4 +1,4 @@
-/* Assembles the source that is its first argument, or a small one of its own, and prints the words, or the refusal. */
+/* Assembles the source that is its first argument, or a small one of its own, and prints the words; or prints the refusal, and fails. */
 #include <inttypes.h>
 #include <stdio.h>
 #include <string.h>
@@ -14,7 +14,7 @@ int main(int argc, char **argv) {
     uint32_t refusal = zkasm_assemble((const uint8_t *)source, strlen(source), table, 16, image, sizeof image, &answer);
     if (refusal != ZKASM_ACCEPTED) {
         printf("refused %" PRIu32 " line %" PRIu64 "\n", refusal, answer.line);
-        return 0;
+        return 1;
     }
     for (size_t i = 0; i < answer.words; i++) {
         const uint8_t *word = image + 32 + 4 * i;

@@ -5,13 +5,14 @@
  * nothing is 0.
  *
  * What a caller owes, and no proof can see:
- *   - each pointer is aligned for its type and not NULL, also where the length beside it is 0;
+ *   - each pointer is aligned for its type and not NULL, even where its length is 0. The functions are marked so (ZKASM_NONNULL), and gcc
+ *     and clang warn of a NULL that they can see. For "none", pass the address of any object of the type, with length 0;
  *   - as many entries stand there as the length says;
  *   - a buffer that is written to (table, the image that is assembled, text, answer) overlaps no other argument.
  *
  * The functions keep nothing between calls and take no memory but stack, so several threads may call them at once. A call takes at most
  * 16 KB of stack; zkasm_assemble of a source of 65,536 bytes or more, and zkasm_assemble_long, at most 288 KB (measured, not proved). The
- * library calls memcpy and memset and nothing else. Link target/staticlib/libcapi.a, for x86-64 Linux. */
+ * library calls memcpy and memset and nothing else. Link target/staticlib/libzkasm.a, for x86-64 Linux. */
 #ifndef ZKASM_H
 #define ZKASM_H
 
@@ -20,6 +21,16 @@
 
 #ifdef __cplusplus
 extern "C" {
+#endif
+
+/* The library is compiled for lengths of 64 bits. Elsewhere this line does not compile. */
+typedef char zkasm_size_t_has_64_bits[sizeof(size_t) == 8 ? 1 : -1];
+
+/* No pointer that a function so marked takes may be NULL. */
+#ifdef __GNUC__
+#define ZKASM_NONNULL __attribute__((nonnull))
+#else
+#define ZKASM_NONNULL
 #endif
 
 /* What a call is refused for. "Line" says that answer.line is the true line, from 1. */
@@ -49,7 +60,7 @@ enum zkasm_refusal {
     ZKASM_OPENING_EXPECTED = 20,  /* '(' is expected */
     ZKASM_CLOSING_EXPECTED = 21,  /* ')' is expected */
     ZKASM_TOO_MANY_WORDS = 22,    /* a 32,769th instruction */
-    /* zkasm_assemble, behind the last line */
+    /* zkasm_assemble, after the last line */
     ZKASM_IMAGE_TOO_SHORT = 23, /* the image buffer is too short: answer.needed; no line */
     /* zkasm_open and zkasm_list */
     ZKASM_HEADER_CUT = 24,    /* the image has fewer than 32 bytes */
@@ -89,10 +100,12 @@ typedef struct zkasm_assembled {
  *                           lowest byte first; later bytes keep their values. Refused: the bytes are as before
  *   answer                  filled in every case
  * 131,104 bytes hold every image. */
+ZKASM_NONNULL
 uint32_t zkasm_assemble(const uint8_t *source, size_t source_length, zkasm_label *table, size_t table_length, uint8_t *image,
                         size_t image_length, zkasm_assembled *answer);
 
 /* The same, for any source, made for long ones: zkasm_assemble calls it for a source of 65,536 bytes or more. */
+ZKASM_NONNULL
 uint32_t zkasm_assemble_long(const uint8_t *source, size_t source_length, zkasm_label *table, size_t table_length, uint8_t *image,
                              size_t image_length, zkasm_assembled *answer);
 
@@ -115,6 +128,7 @@ typedef struct zkasm_opened {
 /* Reads and checks the header of an image.
  *   image, image_length   the image, whole
  *   answer                filled in every case */
+ZKASM_NONNULL
 uint32_t zkasm_open(const uint8_t *image, size_t image_length, zkasm_opened *answer);
 
 typedef struct zkasm_listed {
@@ -125,10 +139,11 @@ typedef struct zkasm_listed {
 
 /* Writes the text of an image: three .config lines, then a line for each word. Assembled again, it gives the same image.
  *   image, image_length   the image, whole
- *   text, text_length     room for the text. Accepted: its first `length` bytes are written, with no 0 behind; later bytes keep their
+ *   text, text_length     room for the text. Accepted: its first `length` bytes are written, with no 0 after them; later bytes keep their
  *                         values. Refused: the bytes are as before
  *   answer                filled in every case
  * 720,962 bytes hold every text. */
+ZKASM_NONNULL
 uint32_t zkasm_list(const uint8_t *image, size_t image_length, uint8_t *text, size_t text_length, zkasm_listed *answer);
 
 #ifdef __cplusplus

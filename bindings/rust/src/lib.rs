@@ -105,9 +105,9 @@ pub struct Opened<'a> {
     pub entry_point: u32,
     pub bss_size: u32,
     pub stack_size: u32,
-    /// The code part, behind the header.
+    /// The code part, after the header.
     pub code: &'a [u8],
-    /// The data part, behind the code.
+    /// The data part, after the code.
     pub data: &'a [u8],
 }
 

@@ -5,7 +5,8 @@ use std::fmt;
 /// Makes the enum, the list of its cases and their texts from one table.
 macro_rules! reasons {
     ($($number:literal $name:ident $text:literal,)+) => {
-        /// What a call is refused for. A case's discriminant is its number.
+        /// What a call is refused for. A case's discriminant is its number. Later versions may have more.
+        #[non_exhaustive]
         #[derive(Clone, Copy, Debug, PartialEq, Eq, Hash)]
         #[repr(u32)]
         pub enum Reason {
@@ -13,8 +14,8 @@ macro_rules! reasons {
         }
 
         impl Reason {
-            /// Every reason, from number 1 to 32.
-            pub const ALL: [Reason; 32] = [$(Reason::$name,)+];
+            /// Every reason, from number 1 on.
+            pub const ALL: &'static [Reason] = &[$(Reason::$name,)+];
 
             fn text(self) -> &'static str {
                 match self {
@@ -61,12 +62,12 @@ reasons! {
 }
 
 impl Reason {
-    /// The number, from 1 to 32.
+    /// The number, from 1 on.
     pub fn number(self) -> u32 {
         self as u32
     }
 
-    /// The reason with a number that a call has returned, which is proved to be from 1 to 32.
+    /// The reason with a number that a call has returned, which is proved to be the number of one.
     pub(crate) fn of(number: u32) -> Reason {
         Reason::ALL[number as usize - 1]
     }

@@ -52,6 +52,9 @@ fn instructions_have_their_words() {
 fn settings_are_taken_modulo_256() {
     let settings = assembled(".config limb_bits 276").unwrap().1;
     assert_eq!(settings.limb_bits, 20);
+    // 20 is also where the setting begins: from another value, the line is seen to set it.
+    let settings = assembled(".config limb_bits 24\n.config limb_bits 276").unwrap().1;
+    assert_eq!(settings.limb_bits, 20);
     assert_eq!(reason(".config limb_bits 15"), Reason::LimbBitsRange);
     assert_eq!(reason(".config limb_bits 17"), Reason::LimbBitsOdd);
 }
