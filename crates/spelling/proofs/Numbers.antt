@@ -175,12 +175,3 @@ residue-iff k z w = (there, λ (q, e). back q e)
     back q e =
         let s : z ≡ q *ℤ pos (2 ^ k) +ℤ w = sym (-ℤ-+ℤ-cancel z w) ∙ ap (λ (x : ℤ). x +ℤ w) e in
         ap (residue k) (s ∙ times-more k q w) ∙ leaves k (q +ℤ divided k w .0) (residue k w) (residue-lt k w)
-
-pub residue-iff-8 : (z w : ℤ) → (residue 8 z ≡ residue 8 w) ↔ ((q : ℤ) × (z -ℤ w ≡ q *ℤ pos 256))
-residue-iff-8 = residue-iff 8
-
-pub residue-iff-17 : (z w : ℤ) → (residue 17 z ≡ residue 17 w) ↔ ((q : ℤ) × (z -ℤ w ≡ q *ℤ pos 131072))
-residue-iff-17 = residue-iff 17
-
-pub residue-iff-21 : (z w : ℤ) → (residue 21 z ≡ residue 21 w) ↔ ((q : ℤ) × (z -ℤ w ≡ q *ℤ pos 2097152))
-residue-iff-21 = residue-iff 21
