@@ -17,10 +17,10 @@ use Rattle.text.specs.Tokens.{Token, identifier, number, directive, isIdentifie
 use Rattle.text.specs.Lines.{Line, lines, kept, lineOf, readLine}
 use Rattle.text.proofs.Tokens.{tokens-nil, Within64, reads-directive, reads-space, reads-identifier, reads-decimal}
 use Rattle.text.proofs.Lines.{visible, closed-append, Trimmed, decimal-visible, decimal-closed, high-plain, read-visible}
-use Rattle.instruction.specs.Operands.{readIdentifier, readNumber}
+use Rattle.instruction.specs.Operands.{Instruction, readIdentifier, readNumber, readInstruction, behind}
 use Rattle.image.specs.Settings.{Settings, begin, settingsFault, setField, checked, configuredBy, configuredWith, configured}
-use Rattle.image.specs.Assembling.{State, Kind, empty, labelled, config, ignored, plain, kindOf, next, withSettings, stepOn, step}
-use Rattle.image.specs.Meaning.{changedBy, settingsOn, settingsFrom, settingsOf}
+use Rattle.image.specs.Assembling.{Kind, empty, labelled, config, ignored, plain, kindOf, Context, Effect, nothing, sets, codes, faulty, Read, setting, coding, afterLabel, readKind, readOn, changedBy, contextAfter, readsFrom, reads}
+use Rattle.image.specs.Meaning.{settingsIn, settingsOf}
 use Rattle.image.proofs.Settings.{no-fault, begin-good}
 
 -- ---- settings that lines lead to
@@ -67,38 +67,62 @@ good-configured s l = go (eqb (l .count) 3)
     go true = good-with s (drop 1 (l .first))
     go false = tt
 
-good-changed : (s : Settings) → settingsFault s ≡ none → (r : Result Settings) → GoodIf r → settingsFault (changedBy s r) ≡ none
-unfolding changedBy
-good-changed s h (value s′) g = g
-good-changed s h (refused n) g = h
+-- What a line reads as leaves such settings.
+GoodOn : Effect → Type 0
+GoodOn (sets s) = settingsFault s ≡ none
+GoodOn nothing = Unit {0}
+GoodOn (codes i) = Unit {0}
+GoodOn (faulty n) = Unit {0}
 
-good-on : (s : Settings) → settingsFault s ≡ none → (o : Option Line) → settingsFault (settingsOn s o) ≡ none
-unfolding settingsOn
-good-on s h none = h
-good-on s h (some l) = go (kindOf (l .first))
+good-setting : (r : Result Settings) → GoodIf r → GoodOn (setting r)
+unfolding setting GoodOn
+good-setting (value s) g = g
+good-setting (refused n) g = tt
+
+good-coding : (r : Result Instruction) → GoodOn (coding r)
+unfolding coding GoodOn
+good-coding (value i) = tt
+good-coding (refused n) = tt
+
+good-after : (l : Line) → GoodOn (afterLabel l)
+unfolding afterLabel GoodOn
+good-after l = go (l .first)
   where
-    go : (k : Kind) → settingsFault (elim k [
-      | config ↦ changedBy s (configured s l)
-      | labelled _ ↦ s
-      | plain ↦ s
-      | empty ↦ s
-      | ignored ↦ s
-    ]) ≡ none
-    go config = good-changed s h (configured s l) (good-configured s l)
-    go (labelled _) = h
-    go plain = h
-    go empty = h
-    go ignored = h
+    go : (ts : List Token) → GoodOn (elim ts [ [] ↦ nothing | t ∷ us ↦ coding (readInstruction l) ])
+    go [] = tt
+    go (t ∷ us) = good-coding (readInstruction l)
 
-good-from : (names : List Name) (s : Settings) → settingsFault s ≡ none → (ls : List (List ℕ)) → settingsFault (settingsFrom names s ls) ≡ none
-unfolding settingsFrom
-good-from names s h [] = h
-good-from names s h (l ∷ ls) = good-from names (settingsOn s (readLine names l)) (good-on s h (readLine names l)) ls
+good-kind : (c : Context) (l : Line) (k : Kind) → GoodOn (readKind c l k .effect)
+unfolding readKind GoodOn
+good-kind c l empty = tt
+good-kind c l (labelled s) = good-after (behind 2 l)
+good-kind c l config = good-setting (configured (c .setup) l) (good-configured (c .setup) l)
+good-kind c l ignored = tt
+good-kind c l plain = good-coding (readInstruction l)
+
+good-read : (c : Context) (o : Option Line) → GoodOn (readOn c o .effect)
+unfolding readOn GoodOn
+good-read c none = tt
+good-read c (some l) = good-kind c l (kindOf (l .first))
+
+good-changed : (s : Settings) → settingsFault s ≡ none → (e : Effect) → GoodOn e → settingsFault (changedBy s e) ≡ none
+unfolding changedBy GoodOn
+good-changed s h (sets s′) g = g
+good-changed s h nothing g = h
+good-changed s h (codes i) g = h
+good-changed s h (faulty n) g = h
+
+good-from : (names : List Name) (c : Context) (s : Settings) → settingsFault s ≡ none → (ls : List (List ℕ)) → settingsFault (settingsIn s (readsFrom names c ls)) ≡ none
+unfolding settingsIn readsFrom
+good-from names c s h [] = h
+good-from names c s h (l ∷ ls) =
+    let e = readOn c (readLine names l) .effect in
+    good-from names (contextAfter c e) (changedBy s e) (good-changed s h e (good-read c (readLine names l))) ls
 
 -- Whatever the source, its settings pass the checks.
 pub settings-pass : (names : List Name) (source : List ℕ) → settingsFault (settingsOf names source) ≡ none
-unfolding settingsOf
-settings-pass names source = good-from names begin (no-fault begin begin-good) (lines source)
+unfolding settingsOf reads
+settings-pass names source = good-from names (record { setup = begin }) begin (no-fault begin begin-good) (lines source)
 
 -- ---- a listed `.config` line
 
@@ -145,8 +169,8 @@ module _ (names : List Name) (ok : each (λ n. isIdentifier (n .spelling)) names
   config-short = omega (arith, length-append key (32 ∷ decimal v), k .is-short, decimal-length 1 v small)
 
   -- It sets the field of its key.
-  pub config-step : (room : ℕ) (st : State) (at : ℕ) (s : Settings) → setField (st .setup) key v ≡ value s → settingsFault s ≡ none
-      → step room st at (readLine names (configText key v)) ≡ next (record { labels = st .labels; instructions = st .instructions; setup = s })
-  unfolding step stepOn kindOf same bytes lineOf kept configured configuredWith configuredBy readIdentifier readNumber checked withSettings
-  config-step room st at s e g =
+  pub config-read : (c : Context) (s : Settings) → setField (c .setup) key v ≡ value s → settingsFault s ≡ none
+      → readOn c (readLine names (configText key v)) ≡ record { label = none; effect = sets s }
+  unfolding readOn readKind setting kindOf same bytes lineOf kept configured configuredWith configuredBy readIdentifier readNumber checked
+  config-read c s e g =
       rw (read-visible names (configText key v) _ config-trimmed config-visible config-tokens, residue-small 8 v (omega arith), e, checked, g)

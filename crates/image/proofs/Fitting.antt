@@ -21,8 +21,9 @@ use Rattle.instruction.proofs.Rows.{carried}
 use Rattle.instruction.proofs.Decoding.{decode-encode, word-bound, decoded-fits, decoded-reduced, encode-decode}
 use Rattle.instruction.proofs.Reading.{numberedToken, read-fits, line-numbered, behind-numbered}
 use Rattle.instruction.proofs.Text.{operandTokens, noColon, no-colon, tokens-kept, tokens-read, text-visible, text-length, text-line}
-use Rattle.image.specs.Assembling.{Kind, empty, labelled, config, ignored, plain, identifierKind, kindOf}
-use Rattle.image.specs.Meaning.{oneOf, instructionOn, instructionsOf}
+use Rattle.image.specs.Settings.{Settings, begin, configured}
+use Rattle.image.specs.Assembling.{Kind, empty, labelled, config, ignored, plain, identifierKind, kindOf, Context, nothing, setting, coding, afterLabel, readKind, readOn, contextAfter, readsFrom, reads}
+use Rattle.image.specs.Meaning.{codedBy, codedIn, instructionsOf}
 use Rattle.image.proofs.Images.{Words}
 use Rattle.image.proofs.Listed.{Decoded, AllDecoded}
 use Rattle.image.proofs.Round.{Reads, AllRead, instructionsIn}
@@ -37,47 +38,52 @@ fit-append : (is js : List Instruction) → AllFit is → AllFit js → AllFit (
 fit-append [] js a b = b
 fit-append (i ∷ is) js a b = (a .0, fit-append is js (a .1) b)
 
-fit-read : (l : Line) → each numberedToken (l .first) ≡ true → AllFit (oneOf (readInstruction l))
-unfolding oneOf
+fit-read : (l : Line) → each numberedToken (l .first) ≡ true → AllFit (codedBy (coding (readInstruction l)))
+unfolding coding codedBy
 fit-read l h = go (readInstruction l) refl
   where
-    go : (r : Result Instruction) → readInstruction l ≡ r → AllFit (oneOf r)
+    go : (r : Result Instruction) → readInstruction l ≡ r → AllFit (codedBy (coding r))
     go (value i) e = (read-fits l i h e, tt)
     go (refused n) e = tt
 
-fit-line : (l : Line) → each numberedToken (l .first) ≡ true → AllFit (instructionOn (some l))
-unfolding instructionOn
-fit-line l h = go (kindOf (l .first))
+fit-after : (l : Line) → each numberedToken (l .first) ≡ true → AllFit (codedBy (afterLabel l))
+unfolding afterLabel codedBy
+fit-after l h = go (l .first)
   where
-    go : (k : Kind) → AllFit (elim k [
-      | labelled s ↦ oneOf (readInstruction (behind 2 l))
-      | plain ↦ oneOf (readInstruction l)
-      | empty ↦ []
-      | config ↦ []
-      | ignored ↦ []
-    ])
-    go (labelled s) = fit-read (behind 2 l) (behind-numbered 2 l h)
-    go plain = fit-read l h
-    go empty = tt
-    go config = tt
-    go ignored = tt
+    go : (ts : List Token) → AllFit (codedBy (elim ts [ [] ↦ nothing | t ∷ us ↦ coding (readInstruction l) ]))
+    go [] = tt
+    go (t ∷ us) = fit-read l h
 
-fit-on : (names : List Name) → Naming names → (l : List ℕ) → AllFit (instructionOn (readLine names l))
-unfolding instructionOn
-fit-on names N l = go (readLine names l) refl
+fit-setting : (r : Result Settings) → AllFit (codedBy (setting r))
+unfolding setting codedBy
+fit-setting (value s) = tt
+fit-setting (refused n) = tt
+
+fit-kind : (c : Context) (l : Line) (k : Kind) → each numberedToken (l .first) ≡ true → AllFit (codedBy (readKind c l k .effect))
+unfolding readKind codedBy
+fit-kind c l (labelled s) h = fit-after (behind 2 l) (behind-numbered 2 l h)
+fit-kind c l plain h = fit-read l h
+fit-kind c l empty h = tt
+fit-kind c l config h = fit-setting (configured (c .setup) l)
+fit-kind c l ignored h = tt
+
+fit-on : (names : List Name) → Naming names → (c : Context) (l : List ℕ) → AllFit (codedBy (readOn c (readLine names l) .effect))
+unfolding readOn codedBy
+fit-on names N c l = go (readLine names l) refl
   where
-    go : (o : Option Line) → readLine names l ≡ o → AllFit (instructionOn o)
+    go : (o : Option Line) → readLine names l ≡ o → AllFit (codedBy (readOn c o .effect))
     go none e = tt
-    go (some x) e = fit-line x (line-numbered names N l x e)
+    go (some x) e = fit-kind c x (kindOf (x .first)) (line-numbered names N l x e)
 
-fit-lines : (names : List Name) → Naming names → (ls : List (List ℕ)) → AllFit (flatMap (λ l. instructionOn (readLine names l)) ls)
-unfolding flatMap
-fit-lines names N [] = tt
-fit-lines names N (l ∷ ls) = fit-append (instructionOn (readLine names l)) _ (fit-on names N l) (fit-lines names N ls)
+fit-lines : (names : List Name) → Naming names → (c : Context) (ls : List (List ℕ)) → AllFit (codedIn (readsFrom names c ls))
+unfolding codedIn readsFrom flatMap
+fit-lines names N c [] = tt
+fit-lines names N c (l ∷ ls) =
+    fit-append (codedBy (readOn c (readLine names l) .effect)) _ (fit-on names N c l) (fit-lines names N (contextAfter c (readOn c (readLine names l) .effect)) ls)
 
 pub source-fits : (names : List Name) → Naming names → (source : List ℕ) → AllFit (instructionsOf names source)
-unfolding instructionsOf
-source-fits names N source = fit-lines names N (lines source)
+unfolding instructionsOf reads
+source-fits names N source = fit-lines names N (record { setup = begin }) (lines source)
 
 -- ---- their words
 

@@ -3,7 +3,7 @@ use mathlib.Core.Path.{_≡_, refl, sym, ap, _∙_}
 use Prim.Native.Nat.{ℕ, suc, _+_, _*_, _<_, _≤_}
 use native.Mathlib.Omega.{arith}
 use mathlib.Core.Bool.{true}
-use mathlib.Core.Option.{some}
+use mathlib.Core.Option.{none, some}
 use mathlib.Core.List.{List, [], _∷_, _++_, flatMap, append-nil, append-assoc}
 use lib.ListN.{length, length-append}
 use borrow.Author.Tests.{le-leb, lt-ltb}
@@ -17,16 +17,16 @@ use Rattle.instruction.specs.Operands.{Instruction, readInstruction}
 use Rattle.instruction.specs.Words.{instructionOf}
 use Rattle.instruction.specs.Text.{instructionText}
 use Rattle.image.specs.Settings.{Settings, settings, begin, limb-bits-key, data-limbs-key, addr-limbs-key, setField}
-use Rattle.image.specs.Assembling.{State, start, next, plain, kindOf, most-words, withInstruction, stepOn, step, finished, walk, accepted, readTo, most-bytes, reading}
+use Rattle.image.specs.Assembling.{State, start, next, plain, kindOf, sets, coding, readKind, readOn, entering, withSettings, most-words, withInstruction, doing, step, contextOf, finished, walk, accepted, readTo, most-bytes, reading}
 use Rattle.image.specs.Listing.{lineText, settingText, settingsText, wordText}
 use Rattle.image.proofs.Settings.{Good, no-fault, small-bits, small-data, small-addr}
-use Rattle.image.proofs.ConfigLines.{Key, configText, config-visible, config-short, config-step}
+use Rattle.image.proofs.ConfigLines.{Key, configText, config-visible, config-short, config-read}
 
 -- ---- one line more
 
 -- A line that leads to a next state, and what follows it.
 walk-line : (names : List Name) (room line at : ℕ) (st st′ : State) (t rest : List ℕ) → every visible t ≡ true
-    → step room st (at + indent t) (readLine names t) ≡ next st′
+    → step room st (at + indent t) (readOn (contextOf st) (readLine names t)) ≡ next st′
     → walk names room line at st (lines (lineText t ++ rest)) ≡ walk names room (suc line) (at + suc (length t)) st′ (lines rest)
 unfolding walk lineText
 walk-line names room line at st st′ t rest h e =
@@ -35,7 +35,7 @@ walk-line names room line at st st′ t rest h e =
 
 -- Behind the last line nothing is left.
 walk-end : (names : List Name) (room line at : ℕ) (st : State) → walk names room line at st (lines []) ≡ finished st
-unfolding walk lines step stepOn readLine recordOf lineOf kindOf tokens tokensPast content trim trimEnd cut before after kept
+unfolding walk lines step entering doing readOn readKind readLine recordOf lineOf kindOf tokens tokensPast content trim trimEnd cut before after kept
 walk-end names room line at st = refl
 
 -- ---- the words' lines
@@ -68,10 +68,10 @@ withMore : State → List Instruction → State
 withMore st is = record { labels = st .labels; instructions = st .instructions ++ is; setup = st .setup }
 
 word-step : (names : List Name) (w room at : ℕ) (st : State) (r : Reads names w) → length (st .instructions) < 32768
-    → step room st at (readLine names (instructionText (r .instruction))) ≡ next (withMore st (r .instruction ∷ []))
-unfolding step stepOn withInstruction most-words withMore
+    → step room st at (readOn (contextOf st) (readLine names (instructionText (r .instruction)))) ≡ next (withMore st (r .instruction ∷ []))
+unfolding step entering doing readOn readKind coding withInstruction most-words withMore
 word-step names w room at st r l =
-    rw (r .is-line, stepOn, r .is-plain, r .is-read, withInstruction, lt-ltb (length (st .instructions)) 32768 l)
+    rw (r .is-line, r .is-plain, r .is-read, withInstruction, lt-ltb (length (st .instructions)) 32768 l)
 
 walk-words : (names : List Name) (room line at : ℕ) (st : State) (ws : List ℕ) (r : AllRead names ws) → length (st .instructions) + length ws ≤ 32768
     → walk names room line at st (lines (flatMap wordText ws)) ≡ finished (withMore st (instructionsIn names ws r))
@@ -132,25 +132,34 @@ module _ (names : List Name) (ok : each (λ n. isIdentifier (n .spelling)) names
   configuredState : State
   configuredState = record { labels = []; instructions = []; setup = s }
 
-  step-bits : (room at : ℕ) → step room start at (readLine names (configText limb-bits-key (s .limb-bits)))
-      ≡ next (record { labels = []; instructions = []; setup = settings (s .limb-bits) 2 2 })
-  unfolding start begin settings between
-  step-bits room at =
-      config-step names ok limb-bits-key (k .limb-bits) (s .limb-bits) (small-bits s g) room start at (settings (s .limb-bits) 2 2) (set-bits begin (s .limb-bits))
-      (no-fault (settings (s .limb-bits) 2 2) (record { bits = g .bits; even = g .even; data-limbs = refl; addr-limbs = refl }))
+  -- a line of a setting, after which these are the settings
+  step-config : (room at : ℕ) (s₁ s₂ : Settings) (t : List ℕ) → readOn (record { setup = s₁ }) (readLine names t) ≡ record { label = none; effect = sets s₂ }
+      → step room (record { labels = []; instructions = []; setup = s₁ }) at (readOn (record { setup = s₁ }) (readLine names t)) ≡ next (record { labels = []; instructions = []; setup = s₂ })
+  unfolding step entering doing withSettings
+  step-config room at s₁ s₂ t e = rw e
 
-  step-data : (room at : ℕ) → step room (record { labels = []; instructions = []; setup = settings (s .limb-bits) 2 2 }) at (readLine names (configText data-limbs-key (s .data-limbs)))
+  step-bits : (room at : ℕ) → step room start at (readOn (contextOf start) (readLine names (configText limb-bits-key (s .limb-bits))))
+      ≡ next (record { labels = []; instructions = []; setup = settings (s .limb-bits) 2 2 })
+  unfolding start contextOf begin settings between
+  step-bits room at =
+      step-config room at begin (settings (s .limb-bits) 2 2) (configText limb-bits-key (s .limb-bits))
+      (config-read names ok limb-bits-key (k .limb-bits) (s .limb-bits) (small-bits s g) (record { setup = begin }) (settings (s .limb-bits) 2 2) (set-bits begin (s .limb-bits))
+      (no-fault (settings (s .limb-bits) 2 2) (record { bits = g .bits; even = g .even; data-limbs = refl; addr-limbs = refl })))
+
+  step-data : (room at : ℕ) → step room (record { labels = []; instructions = []; setup = settings (s .limb-bits) 2 2 }) at (readOn (record { setup = settings (s .limb-bits) 2 2 }) (readLine names (configText data-limbs-key (s .data-limbs))))
       ≡ next (record { labels = []; instructions = []; setup = settings (s .limb-bits) (s .data-limbs) 2 })
   unfolding settings between
   step-data room at =
-      config-step names ok data-limbs-key (k .data-limbs) (s .data-limbs) (small-data s g) room _ at (settings (s .limb-bits) (s .data-limbs) 2) (set-data (settings (s .limb-bits) 2 2) (s .data-limbs))
-      (no-fault (settings (s .limb-bits) (s .data-limbs) 2) (record { bits = g .bits; even = g .even; data-limbs = g .data-limbs; addr-limbs = refl }))
+      step-config room at (settings (s .limb-bits) 2 2) (settings (s .limb-bits) (s .data-limbs) 2) (configText data-limbs-key (s .data-limbs))
+      (config-read names ok data-limbs-key (k .data-limbs) (s .data-limbs) (small-data s g) (record { setup = settings (s .limb-bits) 2 2 }) (settings (s .limb-bits) (s .data-limbs) 2) (set-data (settings (s .limb-bits) 2 2) (s .data-limbs))
+      (no-fault (settings (s .limb-bits) (s .data-limbs) 2) (record { bits = g .bits; even = g .even; data-limbs = g .data-limbs; addr-limbs = refl })))
 
-  step-addr : (room at : ℕ) → step room (record { labels = []; instructions = []; setup = settings (s .limb-bits) (s .data-limbs) 2 }) at (readLine names (configText addr-limbs-key (s .addr-limbs)))
+  step-addr : (room at : ℕ) → step room (record { labels = []; instructions = []; setup = settings (s .limb-bits) (s .data-limbs) 2 }) at (readOn (record { setup = settings (s .limb-bits) (s .data-limbs) 2 }) (readLine names (configText addr-limbs-key (s .addr-limbs))))
       ≡ next configuredState
   unfolding settings configuredState
   step-addr room at =
-      config-step names ok addr-limbs-key (k .addr-limbs) (s .addr-limbs) (small-addr s g) room _ at s (set-addr (settings (s .limb-bits) (s .data-limbs) 2) (s .addr-limbs)) (no-fault s g)
+      step-config room at (settings (s .limb-bits) (s .data-limbs) 2) s (configText addr-limbs-key (s .addr-limbs))
+      (config-read names ok addr-limbs-key (k .addr-limbs) (s .addr-limbs) (small-addr s g) (record { setup = settings (s .limb-bits) (s .data-limbs) 2 }) s (set-addr (settings (s .limb-bits) (s .data-limbs) 2) (s .addr-limbs)) (no-fault s g))
 
   bits-visible : every visible (configText limb-bits-key (s .limb-bits)) ≡ true
   bits-visible = config-visible names ok limb-bits-key (k .limb-bits) (s .limb-bits) (small-bits s g)
@@ -164,7 +173,7 @@ module _ (names : List Name) (ok : each (λ n. isIdentifier (n .spelling)) names
   -- the three lines, and what follows them
   walk-settings : (room : ℕ) (rest : List ℕ)
       → (line : ℕ) × (at : ℕ) × (walk names room 1 0 start (lines (settingsText s ++ rest)) ≡ walk names room line at configuredState (lines rest))
-  unfolding settingsText settingText configText
+  unfolding settingsText settingText configText contextOf
   walk-settings room rest =
       let a = configText limb-bits-key (s .limb-bits) in
       let b = configText data-limbs-key (s .data-limbs) in

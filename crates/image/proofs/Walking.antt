@@ -8,15 +8,14 @@ use mathlib.Core.List.{List, [], _∷_, _++_, flatMap, append-nil, append-assoc}
 use lib.ListN.{length, length-append}
 use lib.Dec.{leb, ltb}
 use borrow.Author.Tests.{ltb-true, leb-true}
-use Rattle.spelling.specs.Bytes.{Result, value, refused, ascii, every, before}
+use Rattle.spelling.specs.Bytes.{ascii, every, before}
 use Rattle.spelling.specs.Names.{Name}
-use Rattle.text.specs.Tokens.{Token}
-use Rattle.text.specs.Lines.{Line, lines, indent, readLine}
-use Rattle.instruction.specs.Operands.{Instruction, readInstruction, behind}
-use Rattle.image.specs.Settings.{Settings, configured}
+use Rattle.text.specs.Lines.{lines, indent, readLine}
+use Rattle.instruction.specs.Operands.{Instruction}
+use Rattle.image.specs.Settings.{Settings}
 use Rattle.image.specs.Program.{imageLength}
-use Rattle.image.specs.Assembling.{State, start, Step, next, stop, Kind, empty, labelled, config, ignored, plain, kindOf, isKnown, withLabel, enter, withSettings, most-words, withInstruction, afterLabel, stepOn, step, Walk, finished, stopped, walk, Assembled, accepted, rejected, refusing, readTo, most-bytes, reading, fitted, assembling}
-use Rattle.image.specs.Meaning.{oneOf, instructionOn, instructionsOf, changedBy, settingsOn, settingsFrom, settingsOf, isAccepted, Accepted}
+use Rattle.image.specs.Assembling.{State, start, Step, next, stop, Effect, nothing, sets, codes, faulty, Read, readOn, changedBy, contextAfter, readsFrom, reads, isKnown, withLabel, enter, entering, withSettings, most-words, withInstruction, doing, step, contextOf, Walk, finished, stopped, walk, Assembled, accepted, rejected, refusing, readTo, most-bytes, reading, fitted, assembling}
+use Rattle.image.specs.Meaning.{codedBy, codedIn, instructionsOf, settingsIn, settingsOf, isAccepted, Accepted}
 
 -- ---- a line
 
@@ -28,10 +27,9 @@ Adds before is s (stop n st) = Unit {0}
 adds-none : (st : State) → Adds (st .instructions) [] (st .setup) (next st)
 adds-none st = (sym (append-nil (st .instructions)), refl, λ h. h)
 
-adds-instruction : (st : State) (r : Result Instruction) → Adds (st .instructions) (oneOf r) (st .setup) (withInstruction st r)
-unfolding withInstruction oneOf most-words
-adds-instruction st (refused n) = tt
-adds-instruction st (value i) = go (ltb (length (st .instructions)) 32768) refl
+adds-instruction : (st : State) (i : Instruction) → Adds (st .instructions) (i ∷ []) (st .setup) (withInstruction st i)
+unfolding withInstruction most-words
+adds-instruction st i = go (ltb (length (st .instructions)) 32768) refl
   where
     go : (v : Bool) → ltb (length (st .instructions)) 32768 ≡ v
         → Adds (st .instructions) (i ∷ []) (st .setup) (elim v [
@@ -41,64 +39,32 @@ adds-instruction st (value i) = go (ltb (length (st .instructions)) 32768) refl
     go true e = (refl, refl, λ h. omega (arith, length-append (st .instructions) (i ∷ []), ltb-true (length (st .instructions)) 32768 e))
     go false e = tt
 
-adds-settings : (st : State) (r : Result Settings) → Adds (st .instructions) [] (changedBy (st .setup) r) (withSettings st r)
-unfolding withSettings changedBy
-adds-settings st (refused n) = tt
-adds-settings st (value s) = (sym (append-nil (st .instructions)), refl, λ h. h)
+adds-effect : (st : State) (e : Effect) → Adds (st .instructions) (codedBy e) (changedBy (st .setup) e) (doing e (next st))
+unfolding doing codedBy changedBy withSettings
+adds-effect st nothing = adds-none st
+adds-effect st (sets s) = (sym (append-nil (st .instructions)), refl, λ h. h)
+adds-effect st (codes i) = adds-instruction st i
+adds-effect st (faulty n) = tt
 
--- the instruction behind a label
-adds-behind : (st : State) (l : Line) → Adds (st .instructions) (oneOf (readInstruction l)) (st .setup) (afterLabel l (next st))
-unfolding afterLabel readInstruction oneOf
-adds-behind st l = go (l .first) refl
-  where
-    go : (ts : List Token) → l .first ≡ ts
-        → Adds (st .instructions) (oneOf (readInstruction l)) (st .setup) (elim ts [ [] ↦ next st | t ∷ us ↦ withInstruction st (readInstruction l) ])
-    go [] e = rw (readInstruction, e) (adds-none st)
-    go (t ∷ us) e = adds-instruction st (readInstruction l)
-
-adds-label : (room : ℕ) (st : State) (at : ℕ) (s : List ℕ) (l : Line) → Adds (st .instructions) (oneOf (readInstruction l)) (st .setup) (afterLabel l (enter room st at s))
-unfolding enter afterLabel withLabel
-adds-label room st at s l = go (isKnown (st .labels) s) (ltb (length (st .labels)) room)
+-- Entering a label changes neither instructions nor settings.
+adds-entered : (room : ℕ) (st : State) (at : ℕ) (s : List ℕ) (e : Effect)
+    → Adds (st .instructions) (codedBy e) (changedBy (st .setup) e) (doing e (enter room st at s))
+unfolding enter doing withLabel
+adds-entered room st at s e = go (isKnown (st .labels) s) (ltb (length (st .labels)) room)
   where
     go : (v u : Bool)
-        → Adds (st .instructions) (oneOf (readInstruction l)) (st .setup) (afterLabel l (elim v [ true ↦ stop 4 st | false ↦ elim u [ true ↦ next (withLabel st at s) | false ↦ stop 5 st ] ]))
+        → Adds (st .instructions) (codedBy e) (changedBy (st .setup) e) (doing e (elim v [ true ↦ stop 4 st | false ↦ elim u [ true ↦ next (withLabel st at s) | false ↦ stop 5 st ] ]))
     go true u = tt
-    go false true = adds-behind (withLabel st at s) l
+    go false true = adds-effect (withLabel st at s) e
     go false false = tt
 
-adds-line : (room : ℕ) (st : State) (at : ℕ) (l : Line) → Adds (st .instructions) (instructionOn (some l)) (settingsOn (st .setup) (some l)) (stepOn room st at l)
-unfolding stepOn instructionOn settingsOn
-adds-line room st at l = go (kindOf (l .first))
+adds-step : (room : ℕ) (st : State) (at : ℕ) (r : Read) → Adds (st .instructions) (codedBy (r .effect)) (changedBy (st .setup) (r .effect)) (step room st at r)
+unfolding step entering
+adds-step room st at r = go (r .label)
   where
-    go : (k : Kind) → Adds (st .instructions) (elim k [
-      | labelled s ↦ oneOf (readInstruction (behind 2 l))
-      | plain ↦ oneOf (readInstruction l)
-      | empty ↦ []
-      | config ↦ []
-      | ignored ↦ []
-    ]) (elim k [
-      | config ↦ changedBy (st .setup) (configured (st .setup) l)
-      | labelled _ ↦ st .setup
-      | plain ↦ st .setup
-      | empty ↦ st .setup
-      | ignored ↦ st .setup
-    ]) (elim k [
-      | empty ↦ next st
-      | labelled s ↦ afterLabel (behind 2 l) (enter room st at s)
-      | config ↦ withSettings st (configured (st .setup) l)
-      | ignored ↦ next st
-      | plain ↦ withInstruction st (readInstruction l)
-    ])
-    go empty = adds-none st
-    go (labelled s) = adds-label room st at s (behind 2 l)
-    go config = adds-settings st (configured (st .setup) l)
-    go ignored = adds-none st
-    go plain = adds-instruction st (readInstruction l)
-
-adds-step : (room : ℕ) (st : State) (at : ℕ) (o : Option Line) → Adds (st .instructions) (instructionOn o) (settingsOn (st .setup) o) (step room st at o)
-unfolding step
-adds-step room st at none = tt
-adds-step room st at (some l) = adds-line room st at l
+    go : (o : Option (List ℕ)) → Adds (st .instructions) (codedBy (r .effect)) (changedBy (st .setup) (r .effect)) (doing (r .effect) (entering room st at o))
+    go none = adds-effect st (r .effect)
+    go (some s) = adds-entered room st at s (r .effect)
 
 -- ---- all lines
 
@@ -113,23 +79,32 @@ comes-after before is js s s′ st (stopped n line x) a c = tt
 comes-after before is js s s′ st (finished x) a c =
     (c .0 ∙ ap (λ (k : List Instruction). k ++ js) (a .0) ∙ append-assoc before is js, c .1, λ h. c .2 (a .2 h))
 
+-- A walk over lines that are read in a context.
+abbrev ComesOf : List Name → List Instruction → Settings → List (List ℕ) → Walk → Type 0
+ComesOf names before s ls w = Comes before (codedIn (readsFrom names (record { setup = s }) ls)) (settingsIn s (readsFrom names (record { setup = s }) ls)) w
+
 pub walk-comes : (names : List Name) (room line at : ℕ) (st : State) (ls : List (List ℕ))
-    → Comes (st .instructions) (flatMap (λ l. instructionOn (readLine names l)) ls) (settingsFrom names (st .setup) ls) (walk names room line at st ls)
-unfolding walk flatMap settingsFrom
+    → ComesOf names (st .instructions) (st .setup) ls (walk names room line at st ls)
+unfolding walk readsFrom codedIn settingsIn flatMap contextOf contextAfter
 walk-comes names room line at st [] = (sym (append-nil (st .instructions)), refl, λ h. h)
 walk-comes names room line at st (l ∷ ls) =
-    go (step room st (at + indent l) (readLine names l)) (adds-step room st (at + indent l) (readLine names l))
+    go (step room st (at + indent l) (readOn (contextOf st) (readLine names l))) (adds-step room st (at + indent l) (readOn (contextOf st) (readLine names l)))
     (λ st′. walk-comes names room (suc line) (at + suc (length l)) st′ ls)
   where
-    go : (r : Step) → Adds (st .instructions) (instructionOn (readLine names l)) (settingsOn (st .setup) (readLine names l)) r
-        → ((st′ : State) → Comes (st′ .instructions) (flatMap (λ l. instructionOn (readLine names l)) ls) (settingsFrom names (st′ .setup) ls) (walk names room (suc line) (at + suc (length l)) st′ ls))
-        → Comes (st .instructions) (instructionOn (readLine names l) ++ flatMap (λ l. instructionOn (readLine names l)) ls)
-        (settingsFrom names (settingsOn (st .setup) (readLine names l)) ls)
+    read : Read
+    read = readOn (record { setup = st .setup }) (readLine names l)
+
+    after : Settings
+    after = changedBy (st .setup) (read .effect)
+
+    go : (r : Step) → Adds (st .instructions) (codedBy (read .effect)) after r
+        → ((st′ : State) → ComesOf names (st′ .instructions) (st′ .setup) ls (walk names room (suc line) (at + suc (length l)) st′ ls))
+        → Comes (st .instructions) (codedBy (read .effect) ++ codedIn (readsFrom names (record { setup = after }) ls)) (settingsIn after (readsFrom names (record { setup = after }) ls))
         (elim r [ next st′ ↦ walk names room (suc line) (at + suc (length l)) st′ ls | stop n st′ ↦ stopped n line st′ ])
     go (stop n st′) a f = tt
     go (next st′) a f =
         comes-after (st .instructions) _ _ _ _ st′ (walk names room (suc line) (at + suc (length l)) st′ ls) a
-        (subst (λ (s : Settings). Comes (st′ .instructions) (flatMap (λ l. instructionOn (readLine names l)) ls) (settingsFrom names s ls) (walk names room (suc line) (at + suc (length l)) st′ ls)) (a .1) (f st′))
+        (subst (λ (s : Settings). ComesOf names (st′ .instructions) s ls (walk names room (suc line) (at + suc (length l)) st′ ls)) (a .1) (f st′))
 
 -- ---- an accepted source
 
@@ -148,7 +123,7 @@ means-read names source (stopped n line st) c = tt
 means-read names source (finished st) c = record { instructions = c .0; setup = c .1; few = c .2 (omega arith) }
 
 pub reading-means : (names : List Name) (source : List ℕ) (room : ℕ) → MeansIf names source (reading names source room)
-unfolding reading refusing instructionsOf settingsOf start
+unfolding reading refusing instructionsOf settingsOf reads start
 reading-means names source room = go (leb (length source) most-bytes) (every ascii source)
   where
     go : (v u : Bool) → MeansIf names source (elim v [

@@ -88,46 +88,107 @@ enter room st at s =
       | false ↦ elim (ltb (length (st .labels)) room) [ true ↦ next (withLabel st at s) | false ↦ stop 5 st ]
     ]
 
--- ---- settings and instructions
+-- ---- what a line does
 
-unfoldable pub withSettings : State → Result Settings → Step
-withSettings st (refused n) = stop n st
-withSettings st (value s) = next (record { labels = st .labels; instructions = st .instructions; setup = s })
+-- What the lines above leave to read a line by.
+pub record Context : Type 0 where
+  pub setup : Settings
+
+-- What a line does, its label aside.
+pub data Effect : Type 0 where
+  nothing : Effect
+  -- "`.config` ... sets a field to the value modulo 256 and checks it"
+  sets : Settings → Effect
+  codes : Instruction → Effect
+  -- why it is refused
+  faulty : ℕ → Effect
+
+-- What a line reads as: its label, if it has one, and what it does then.
+pub record Read : Type 0 where
+  pub label : Option (List ℕ)
+  pub effect : Effect
+
+unfoldable pub setting : Result Settings → Effect
+setting (value s) = sets s
+setting (refused n) = faulty n
+
+unfoldable pub coding : Result Instruction → Effect
+coding (value i) = codes i
+coding (refused n) = faulty n
+
+-- "What follows it must be an instruction", if anything follows.
+unfoldable pub afterLabel : Line → Effect
+afterLabel l = elim (l .first) [ [] ↦ nothing | t ∷ ts ↦ coding (readInstruction l) ]
+
+-- A line of a kind.
+unfoldable pub readKind : Context → Line → Kind → Read
+readKind c l empty = record { label = none; effect = nothing }
+readKind c l (labelled s) = record { label = some s; effect = afterLabel (behind 2 l) }
+readKind c l config = record { label = none; effect = setting (configured (c .setup) l) }
+readKind c l ignored = record { label = none; effect = nothing }
+readKind c l plain = record { label = none; effect = coding (readInstruction l) }
+
+-- A line by its record; none: "3 bad token anywhere in it".
+unfoldable pub readOn : Context → Option Line → Read
+readOn c none = record { label = none; effect = faulty 3 }
+readOn c (some l) = readKind c l (kindOf (l .first))
+
+-- ---- what the lines of a source do
+
+-- The settings after a line: "as changed by the `.config` lines in order".
+unfoldable pub changedBy : Settings → Effect → Settings
+changedBy s (sets s′) = s′
+changedBy s nothing = s
+changedBy s (codes i) = s
+changedBy s (faulty n) = s
+
+unfoldable pub contextAfter : Context → Effect → Context
+contextAfter c e = record { setup = changedBy (c .setup) e }
+
+-- Each line read by what those above it leave.
+unfoldable pub readsFrom : List Name → Context → List (List ℕ) → List Read
+readsFrom names c [] = []
+readsFrom names c (l ∷ ls) = readOn c (readLine names l) ∷ readsFrom names (contextAfter c (readOn c (readLine names l) .effect)) ls
+
+-- The lines of a source, in order: the first is line 1.
+unfoldable pub reads : List Name → List ℕ → List Read
+reads names source = readsFrom names (record { setup = begin }) (lines source)
+
+-- ---- what a line leads to
+
+-- The line's label is entered, if it has one.
+unfoldable pub entering : ℕ → State → ℕ → Option (List ℕ) → Step
+entering room st at none = next st
+entering room st at (some s) = enter room st at s
+
+unfoldable pub withSettings : State → Settings → State
+withSettings st s = record { labels = st .labels; instructions = st .instructions; setup = s }
 
 -- "22 a 32,769th instruction"
 unfoldable pub most-words : ℕ
 most-words = 32768
 
-unfoldable pub withInstruction : State → Result Instruction → Step
-withInstruction st (refused n) = stop n st
-withInstruction st (value i) =
+unfoldable pub withInstruction : State → Instruction → Step
+withInstruction st i =
     elim (ltb (length (st .instructions)) most-words) [
       | true ↦ next (record { labels = st .labels; instructions = st .instructions ++ (i ∷ []); setup = st .setup })
       | false ↦ stop 22 st
     ]
 
--- "What follows it must be an instruction", if anything follows.
-unfoldable pub afterLabel : Line → Step → Step
-afterLabel l (stop n st) = stop n st
-afterLabel l (next st) = elim (l .first) [ [] ↦ next st | t ∷ ts ↦ withInstruction st (readInstruction l) ]
-
--- ---- a line
+-- Then it does what it does: "a refused line's own label counts if it was entered before the fault".
+unfoldable pub doing : Effect → Step → Step
+doing e (stop n st) = stop n st
+doing nothing (next st) = next st
+doing (sets s) (next st) = next (withSettings st s)
+doing (codes i) (next st) = withInstruction st i
+doing (faulty n) (next st) = stop n st
 
 -- A line whose content stands at a place of the source.
-unfoldable pub stepOn : ℕ → State → ℕ → Line → Step
-stepOn room st at l =
-    elim (kindOf (l .first)) [
-      | empty ↦ next st
-      | labelled s ↦ afterLabel (behind 2 l) (enter room st at s)
-      | config ↦ withSettings st (configured (st .setup) l)
-      | ignored ↦ next st
-      | plain ↦ withInstruction st (readInstruction l)
-    ]
+unfoldable pub step : ℕ → State → ℕ → Read → Step
+step room st at r = doing (r .effect) (entering room st at (r .label))
 
--- "3 bad token anywhere in it"
-unfoldable pub step : ℕ → State → ℕ → Option Line → Step
-step room st at none = stop 3 st
-step room st at (some l) = stepOn room st at l
+unfoldable pub contextOf : State → Context
+contextOf st = record { setup = st .setup }
 
 -- ---- all lines
 
@@ -139,7 +200,7 @@ pub data Walk : Type 0 where
 unfoldable pub walk : List Name → ℕ → ℕ → ℕ → State → List (List ℕ) → Walk
 walk names room line at st [] = finished st
 walk names room line at st (l ∷ ls) =
-    elim (step room st (at + indent l) (readLine names l)) [
+    elim (step room st (at + indent l) (readOn (contextOf st) (readLine names l))) [
       | next st′ ↦ walk names room (suc line) (at + suc (length l)) st′ ls
       | stop n st′ ↦ stopped n line st′
     ]
