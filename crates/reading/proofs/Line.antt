@@ -153,10 +153,10 @@ unfolding made
 made-refused r ps g e = rw g at e
 
 -- The instruction of a row and its operands.
-pub made-read : {o : Operand} {p : Operands} {i : Instruction} {x : Result Instruction} (row : ℕ) → o ≡ Are p
-    → i ≡ partsMeant (record { row = row; operands = p }) → made (rowAt row) (operandMeant (places (rowAt row .form)) o) ≡ x → value i ≡ x
+pub made-read : {o : Operand} {p : Operands} {x : Result Instruction} (row : ℕ) → o ≡ Are p
+    → made (rowAt row) (operandMeant (places (rowAt row .form)) o) ≡ x → value (partsMeant (record { row = row; operands = p })) ≡ x
 unfolding made
-made-read row g h e = rw h (rw g at e)
+made-read row g e = rw g at e
 
 -- A row with another count of tokens.
 pub row-refused : (r : Row) (form n count : ℕ) (ts : List Token) → form ≡ formNumber (r .form) → n ≡ length (places (formAt form))

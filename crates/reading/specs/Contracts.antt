@@ -1,5 +1,5 @@
 -- What the values of reading mean in terms of the definitions, and what the functions promise.
-use Prim.Native.Nat.{ℕ, _+_, _≤_}
+use Prim.Native.Nat.{ℕ, _+_, _≤_, _<_}
 use mathlib.Core.Path.{_≡_}
 use mathlib.Core.List.{List, [], _∷_}
 use lib.ListN.{length, getD}
@@ -12,7 +12,7 @@ use Rattle.text.specs.declared.parser.Line.{Line}
 use Rattle.instruction.specs.Table.{Place}
 use Rattle.instruction.specs.Operands.{readOperands, withRegister}
 use Rattle.instruction.specs.Operands.{Instruction as Meant, Operands as MeantOperands}
-use Rattle.instruction.specs.Contracts.{operandsMeant, instructionMeant}
+use Rattle.instruction.specs.Contracts.{operandsMeant, partsMeant}
 use Rattle.reading.specs.declared.assembler.RegisterOperand.{RegisterOperand}
 use Rattle.reading.specs.declared.assembler.RegisterOperand.the-variants.{Is as IsRegister, Refused as NoRegister}
 use Rattle.reading.specs.declared.assembler.Operand.{Operand}
@@ -60,8 +60,13 @@ Reads ps k r = (u : ℕ → List ℕ) → operandMeant ps r ≡ readOperands ps 
 
 -- The instruction that was read, or the refusal.
 abbrev pub parsedMeant : Parsed → Result Meant
-parsedMeant (IsInstruction i) = value (instructionMeant i)
+parsedMeant (IsInstruction row o) = value (partsMeant (record { row = row; operands = o }))
 parsedMeant (NoInstruction n) = refused n
+
+-- Its row is one of the table's fifty.
+abbrev pub InTable : Parsed → Type 0
+InTable (IsInstruction row o) = row < 50
+InTable (NoInstruction n) = Unit {0}
 
 -- What a line's record promises of its tokens: there are nine, and each is a part of the text.
 pub record Kept (s : List ℕ) (l : Line) : Type 0 where

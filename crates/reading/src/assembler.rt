@@ -11,8 +11,7 @@ ghost use Rattle.instruction.specs.Table.{reg, num, comma-place, opening-place,
 ghost use Rattle.instruction.specs.Operands.{readRegister, markByte, readPlace, readRow, readInstruction, behind};
 ghost use Rattle.instruction.specs.Operands.{Operands as MeantOperands};
 ghost use Rattle.instruction.specs.Contracts.{rowAt, formAt, formNumber, mnemonicKeys, formNumbers, slotRows};
-ghost use Rattle.reading.specs.Contracts.{registerMeant, behindRegister, sixBehind, Reads, parsedMeant, Kept};
-use instruction::instruction::Instruction;
+ghost use Rattle.reading.specs.Contracts.{registerMeant, behindRegister, sixBehind, Reads, parsedMeant, InTable, Kept};
 use instruction::instruction::Operands;
 use instruction::opcode::Row;
 use spelling::number::Whole;
@@ -22,8 +21,9 @@ use text::lexer::Token;
 use text::parser::Extracted;
 use text::parser::Line;
 
+// The row of an instruction's mnemonic and its operands, or why there is none.
 pub enum Parsed {
-    Is(Instruction),
+    Is { row: usize, operands: Operands },
     Refused(u8),
 }
 
@@ -269,7 +269,7 @@ fn lower_key(spelling: &[u8]) -> u64
 // The instruction of a row, by the operand tokens behind the mnemonic at `at`: 16, then the operands.
 fn parse_row(row: usize, form: u8, line: Line, at: usize) -> Parsed
     requires { ⌜ row < 50 ⌝ ∗ ⌜ form ≡ formNumber (rowAt row .form) ⌝ ∗ ⌜ at < line .count ⌝ ∗ ⌜ at ≤ 2 ⌝ ∗ ⌜ length (line .tokens) ≡ 9 ⌝ }
-    ensures { λ r. ⌜ ((s : List ℕ) → parsedMeant r ≡ readRow (rowAt row) (line .count - at - 1) (drop (at + 1) (firsts s (line .tokens) (line .count)))) ⌝ }
+    ensures { λ r. ⌜ ((s : List ℕ) → parsedMeant r ≡ readRow (rowAt row) (line .count - at - 1) (drop (at + 1) (firsts s (line .tokens) (line .count)))) ⌝ ∗ ⌜ InTable r ⌝ }
 {
     let count = line.count;
     let tokens = line.tokens;
@@ -278,7 +278,7 @@ fn parse_row(row: usize, form: u8, line: Line, at: usize) -> Parsed
     }
     match parse_operands(form, six_behind(tokens, at)) {
         Operand::Refused(n) => Parsed::Refused(n),
-        Operand::Are(operands) => Parsed::Is(Instruction::from_parts(row, operands)),
+        Operand::Are(operands) => Parsed::Is { row, operands },
     }
 }
 
@@ -293,7 +293,7 @@ pub fn parse_instruction(
     slots: &[u8; 293],
 ) -> Parsed
     requires { ⌜ Kept (now source) line ⌝ ∗ ⌜ at ≤ 2 ⌝ ∗ ⌜ now mnemonics ≡ mnemonicKeys ⌝ ∗ ⌜ now forms ≡ formNumbers ⌝ ∗ ⌜ now slots ≡ slotRows ⌝ }
-    ensures { λ r. ⌜ parsedMeant r ≡ readInstruction (behind at (record { count = line .count; first = firsts (now (source .entry)) (line .tokens) (line .count) })) ⌝ }
+    ensures { λ r. ⌜ parsedMeant r ≡ readInstruction (behind at (record { count = line .count; first = firsts (now (source .entry)) (line .tokens) (line .count) })) ⌝ ∗ ⌜ InTable r ⌝ }
 {
     let tokens = line.tokens;
     let count = line.count;

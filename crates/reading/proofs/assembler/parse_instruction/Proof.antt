@@ -27,7 +27,7 @@ use Rattle.reading.proofs.assembler.parse_instruction.Tie as tie
 returns : tie.Need-returns
 returns c =
     let a = c .before .before .before .args in
-    first-none (a .source .now) (a .line .tokens) (a .at) (a .line .count) (c .if1 .taken)
+    (first-none (a .source .now) (a .line .tokens) (a .at) (a .line .count) (c .if1 .taken), tt)
 
 -- What an array of tokens is read as past its end.
 abbrev past : Token
@@ -66,8 +66,11 @@ returns-2 c =
     let e = c .before .before in
     let b = e .before .before .before in
     let a = b .args in
-    others-refused (getD (a .line .tokens) (a .at) past .kind) (spelling (a .source .now) (getD (a .line .tokens) (a .at) past)) _ _ (c .match .keys2)
-    ∙ first-some (a .source .now) (a .line .tokens) (a .at) (a .line .count) past (e .if1 .left) (omega (arith, b .pre .0 .nine))
+    (
+      others-refused (getD (a .line .tokens) (a .at) past .kind) (spelling (a .source .now) (getD (a .line .tokens) (a .at) past)) _ _ (c .match .keys2)
+          ∙ first-some (a .source .now) (a .line .tokens) (a .at) (a .line .count) past (e .if1 .left) (omega (arith, b .pre .0 .nine)),
+      tt,
+    )
 
 -- the token is a part of the text
 inside : (c : tie.After-struct-known) → let a = c .before .before .before .before .before .before .before .args in
@@ -145,7 +148,7 @@ returns-3 c =
     let k = c .before .before .before .before .before .before in
     let a = k .before .before .before .before .before .before .args in
     let t = getD (a .line .tokens) (a .at) past in
-    mnemonic-unknown (spelling (a .source .now) t) _ _ (k .enum-told .given .1) (rw (c .enum-told2 .given .1) at (named (c .before .before))) (first k)
+    (mnemonic-unknown (spelling (a .source .now) t) _ _ (k .enum-told .given .1) (rw (c .enum-told2 .given .1) at (named (c .before .before))) (first k), tt)
 
 returns-4 : tie.Need-returns-4
 returns-4 c =
@@ -153,7 +156,7 @@ returns-4 c =
     let k = r .before .before .before .before .before .before in
     let a = k .before .before .before .before .before .before .args in
     let t = getD (a .line .tokens) (a .at) past in
-    mnemonic-known (spelling (a .source .now) t) _ _ (rowAt (r .row .given .0 .0)) (k .enum-told .given .1) (found-row r .1) (c .parse-row .ensures (a .source .now)) (first k)
+    (mnemonic-known (spelling (a .source .now) t) _ _ (rowAt (r .row .given .0 .0)) (k .enum-told .given .1) (found-row r .1) (c .parse-row .ensures .0 (a .source .now)) (first k), c .parse-row .ensures .1)
 
 pub parse-instruction-spec : {M : Type 1} → statement M
 parse-instruction-spec =

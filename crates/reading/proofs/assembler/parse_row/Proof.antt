@@ -23,9 +23,9 @@ operand-count-requires : tie.Need-operand-count-requires
 operand-count-requires c κs = search needs
 
 returns : tie.Need-returns
-returns c s =
+returns c =
     let b = c .before .before .before in
-    row-refused (rowAt (b .args .row)) (b .args .form) (c .before .operand-count .result) _ _ (b .pre .1 .0) (c .before .operand-count .ensures) (c .if1 .taken)
+    (λ s. row-refused (rowAt (b .args .row)) (b .args .form) (c .before .operand-count .result) _ _ (b .pre .1 .0) (c .before .operand-count .ensures) (c .if1 .taken), tt)
 
 six-behind-requires : tie.Need-six-behind-requires
 six-behind-requires c κs = search needs
@@ -38,9 +38,6 @@ enum-known-n c = search needs
 
 enum-known-operands : tie.Need-enum-known-operands
 enum-known-operands c = search needs
-
-from-parts-requires : tie.Need-from-parts-requires
-from-parts-requires c κs = search needs
 
 -- the row's operands, as they were read
 read : (c : tie.After-parse-operands) (s : List ℕ) → let b = c .before .before .before .before .before in
@@ -55,17 +52,17 @@ read c s =
     (p .0) (n .ensures) (p .1 .0) (l .if1 .left) (c .before .six-behind .ensures) (c .parse-operands .ensures)
 
 returns-2 : tie.Need-returns-2
-returns-2 c s =
+returns-2 c =
     let n = c .before in
     let k = n .before .before in
-    made-refused _ _ (n .n .given .1) (read k s)
+    (λ s. made-refused _ _ (n .n .given .1) (read k s), tt)
 
 returns-3 : tie.Need-returns-3
-returns-3 c s =
-    let o = c .before .before in
+returns-3 c =
+    let o = c .before in
     let k = o .before .before in
     let b = k .before .before .before .before .before in
-    made-read (b .args .row) (o .operands .given .1) (c .from-parts .ensures .1) (read k s)
+    (λ s. made-read (b .args .row) (o .operands .given .1) (read k s), b .pre .0)
 
 pub parse-row-spec : {M : Type 1} → statement M
 parse-row-spec =
@@ -79,6 +76,5 @@ parse-row-spec =
     parse-operands-requires
     enum-known-n
     enum-known-operands
-    from-parts-requires
     returns-2
     returns-3)
