@@ -20,7 +20,7 @@ use Rattle.coding.specs.Contracts.{Written}
 use Rattle.coding.proofs.Writing.{written-append}
 use Rattle.image.specs.Settings.{Settings, begin}
 use Rattle.image.specs.Program.{headerBytes, headerFor, header-size, image, imageLength}
-use Rattle.image.specs.Assembling.{Label, State, start, Step, next, stop, step, Walk, finished, stopped, walk, Assembled, accepted, refusing, readTo, most-bytes, reading, fitted, assembling}
+use Rattle.image.specs.Assembling.{Label, State, start, Step, next, stop, readOn, entering, doing, step, contextOf, Walk, finished, stopped, walk, Assembled, accepted, refusing, readTo, most-bytes, reading, fitted, assembling}
 use Rattle.image.specs.Meaning.{instructionsOf, settingsOf, imageOf}
 use Rattle.image.specs.Lent.{answerOf, entered, imageAfter}
 use Rattle.image.specs.Contracts.{settingsMeant}
@@ -43,15 +43,15 @@ Done (finished st) = Unit {0}
 Done (stopped n line st) = ⊥
 
 walk-reads : (room line at : ℕ) (st : State) (ls : List (List ℕ)) → Done (walk present room line at st ls) → allRead ls ≡ true
-unfolding walk allRead step
+unfolding walk allRead step entering doing readOn
 walk-reads room line at st [] h = refl
 walk-reads room line at st (l ∷ ls) h = go (readLine present l) h (λ st′. walk-reads room (suc line) (at + suc (length l)) st′ ls)
   where
-    go : (o : Option Record) → Done (elim (step room st (at + indent l) o) [ next st′ ↦ walk present room (suc line) (at + suc (length l)) st′ ls | stop n st′ ↦ stopped n line st′ ])
+    go : (o : Option Record) → Done (elim (step room st (at + indent l) (readOn (contextOf st) o)) [ next st′ ↦ walk present room (suc line) (at + suc (length l)) st′ ls | stop n st′ ↦ stopped n line st′ ])
         → ((st′ : State) → Done (walk present room (suc line) (at + suc (length l)) st′ ls) → allRead ls ≡ true)
         → elim o [ none ↦ false | some _ ↦ allRead ls ] ≡ true
     go none f k = absurd f
-    go (some r) f k = on (step room st (at + indent l) (some r)) f
+    go (some r) f k = on (step room st (at + indent l) (readOn (contextOf st) (some r))) f
       where
         on : (d : Step) → Done (elim d [ next st′ ↦ walk present room (suc line) (at + suc (length l)) st′ ls | stop n st′ ↦ stopped n line st′ ]) → allRead ls ≡ true
         on (next st′) g = k st′ g

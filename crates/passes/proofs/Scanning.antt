@@ -17,17 +17,17 @@ use Rattle.text.proofs.Lines.{line-at, last-line}
 use Rattle.instruction.specs.Operands.{Instruction}
 use Rattle.image.specs.Settings.{Settings}
 use Rattle.image.specs.Program.{entry}
-use Rattle.image.specs.Assembling.{State, start, Step, next, stop, isKnown, withLabel, enter, step, Walk, finished, stopped, walk, rustLine, readTo}
+use Rattle.image.specs.Assembling.{State, start, Step, next, stop, isKnown, withLabel, enter, readOn, step, contextOf, Walk, finished, stopped, walk, rustLine, readTo}
 use Rattle.image.specs.Assembling.{Label as Meant}
-use Rattle.image.specs.Meaning.{instructionOn}
+use Rattle.image.specs.Meaning.{codedBy}
 use Rattle.image.specs.Contracts.{settingsMeant, faultMeant}
 use Rattle.image.specs.declared.config.Config.{Config}
 use Rattle.image.specs.declared.config.Checked.{Checked}
 use Rattle.image.specs.declared.config.Checked.the-variants.{Good, Refused}
 use Rattle.labels.specs.Contracts.{spelled, entryFault}
-use Rattle.passes.specs.Contracts.{entering, onward, Comes, whole, Clean, Reached, behindLine, AtLabel, Stands, Sound, Stops, Ends, labelledPass, ScanFrom, Scans, labelAt, GoesOn}
+use Rattle.passes.specs.Contracts.{effectAt, labelStep, onward, Comes, whole, Clean, Reached, behindLine, AtLabel, Stands, Sound, Stops, Ends, labelledPass, ScanFrom, Scans, labelAt, GoesOn}
 use Rattle.passes.specs.declared.first_pass.Pass.{Pass}
-use Rattle.passes.specs.declared.line.Step.{Step as Stepped}
+use Rattle.passes.specs.declared.first_pass.Step.{Step as Stepped}
 use Rattle.passes.proofs.Passes.{line-split}
 
 -- What is found is not also not found.
@@ -63,12 +63,12 @@ module _ {s : List ℕ} {room : ℕ} {ls : List Meant} {p : Pass} {labels : ℕ}
 module _ {s : List ℕ} {room line at : ℕ} {ls : List Meant} {words : ℕ} {setup : Settings} (q : Reached s room line at ls words setup) (inside : at ≤ length s)
     (r : Stepped) (h : Comes s at words setup r) where
   abbrev here : List Instruction
-  here = instructionOn (readLine present (restAt s at))
+  here = codedBy (effectAt s at setup)
 
   abbrev stepped : Step
-  stepped = step room (q .state) (at + indent (restAt s at)) (readLine present (restAt s at))
+  stepped = step room (q .state) (at + indent (restAt s at)) (readOn (contextOf (q .state)) (readLine present (restAt s at)))
 
-  step-is : stepped ≡ onward (faultMeant (r .fault)) here (settingsMeant (r .config)) (entering s r room (q .state))
+  step-is : stepped ≡ onward (faultMeant (r .fault)) here (settingsMeant (r .config)) (labelStep s r room (q .state))
   step-is = h .steps room (q .state) (q .setup-is) (q .words-are)
 
   goes : (d : Step) → stepped ≡ d → (rest : List (List ℕ)) → lines (drop at s) ≡ restAt s at ∷ rest
@@ -94,13 +94,13 @@ module _ {s : List ℕ} {room line at : ℕ} {ls : List Meant} {words : ℕ} {se
   -- what a line with a label leads to
   labelled-comes : r .labelled ≡ true
       → whole s room ≡ behindLine s room line (r .end) (onward (faultMeant (r .fault)) here (settingsMeant (r .config)) (enter room (q .state) (r .start) (take (r .length) (drop (r .start) s))))
-  unfolding entering onward behindLine
+  unfolding labelStep onward behindLine
   labelled-comes b = by-fault (r .fault) refl (enter room (q .state) (r .start) (take (r .length) (drop (r .start) s))) entered
     where
-      entered : entering s r room (q .state) ≡ enter room (q .state) (r .start) (take (r .length) (drop (r .start) s))
-      entered = rw (entering, b)
+      entered : labelStep s r room (q .state) ≡ enter room (q .state) (r .start) (take (r .length) (drop (r .start) s))
+      entered = rw (labelStep, b)
 
-      by-fault : (f : Checked) → r .fault ≡ f → (d : Step) → entering s r room (q .state) ≡ d
+      by-fault : (f : Checked) → r .fault ≡ f → (d : Step) → labelStep s r room (q .state) ≡ d
           → whole s room ≡ behindLine s room line (r .end) (onward (faultMeant f) here (settingsMeant (r .config)) d)
       by-fault (Refused n) f (stop m st) e = comes-stop m st (step-is ∙ rw (f, e))
       by-fault (Refused n) f (next st) e = comes-stop n st (step-is ∙ rw (f, e))
@@ -129,8 +129,8 @@ module _ {s : List ℕ} {room line at : ℕ} {ls : List Meant} {words : ℕ} {se
   -- A line without a label,
   module _ (b : r .labelled ≡ false) where
     plain-step : stepped ≡ onward (faultMeant (r .fault)) here (settingsMeant (r .config)) (next (q .state))
-    unfolding entering
-    plain-step = step-is ∙ rw (entering, b)
+    unfolding labelStep
+    plain-step = step-is ∙ rw (labelStep, b)
 
     -- which is refused,
     pub reached-stop : {n labels : ℕ} {p : Pass} → r .fault ≡ Refused n → Stops n (rustLine n line) line labels p → labels ≡ length ls → Stands s room ls p

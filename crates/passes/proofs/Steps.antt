@@ -9,14 +9,14 @@ use lib.ListN.{length, take, drop, getD, length-take, length-map, drop-of-length
 use lib.Seq.{drop-cons, getD-take}
 use lib.Dec.{ltb, eqb}
 use borrow.Author.Tests.{ltb-true, lt-ltb, le-ltb}
-use Rattle.spelling.specs.Bytes.{Result, value, refused, bytes, same}
+use Rattle.spelling.specs.Bytes.{bytes, same}
 use Rattle.spelling.specs.Names.{present}
 use Rattle.spelling.proofs.Tests.{split}
 use Rattle.text.specs.Tokens.{identifier, register, number, hex, binary, directive, comma, colon, opening, closing}
 use Rattle.text.specs.Tokens.{Token as Meant}
 use Rattle.text.specs.Lines.{indent, readLine}
 use Rattle.text.specs.Lines.{Line as Record}
-use Rattle.text.specs.Places.{restAt}
+use Rattle.text.specs.Places.{restAt, endAt}
 use Rattle.text.specs.Contracts.{kindMeant, filler, firsts, meant, spelling, LineRead}
 use Rattle.text.specs.declared.lexer.Kind.{Kind as TokenKind}
 use Rattle.text.specs.declared.lexer.Kind.the-variants.{Directive}
@@ -27,16 +27,22 @@ use Rattle.text.proofs.Left.{found-solid}
 use Rattle.instruction.specs.Operands.{Instruction, markByte, readInstruction, behind}
 use Rattle.reading.proofs.Line.{behind-none}
 use Rattle.image.specs.Settings.{Settings, configured}
-use Rattle.image.specs.Assembling.{State, next, stop, Kind, empty, labelled, config, ignored, plain, identifierKind, kindOf, isKnown, withLabel, enter, withSettings, most-words, withInstruction, afterLabel, stepOn, step}
-use Rattle.image.specs.Meaning.{oneOf, instructionOn}
+use Rattle.image.specs.Assembling.{State, next, stop, Kind, empty, labelled, config, ignored, plain, identifierKind, kindOf, isKnown, withLabel, enter, Context, nothing, codes, sets, faulty, setting, coding, afterLabel, readKind, readOn, changedBy, entering, withSettings, most-words, withInstruction, doing, step, contextOf}
+use Rattle.image.specs.Assembling.{Effect as MeantEffect, Read as MeantRead}
+use Rattle.image.specs.Meaning.{codedBy}
 use Rattle.image.specs.Contracts.{settingsMeant, faultMeant, recordMeant}
+use Rattle.instruction.specs.Words.{wordOf}
+use Rattle.instruction.specs.Contracts.{partsMeant}
 use Rattle.instruction.specs.declared.instruction.Operands.{Operands}
 use Rattle.straight.specs.Contracts.{IsInstruction, IsLabel, IsEmpty}
-use Rattle.passes.specs.Contracts.{Told, wordFault, instructionFault, entering, onward, ComesOf, Comes}
+use Rattle.passes.specs.Contracts.{Told, wordFault, contextFor, effectMeant, InTable, labelIf, readMeant, RecordIs, endOf, LineIs, effectAt, faultAfter, wordsAfter, configAfter, stepAfter, labelStep, onward, Comes, CodesLine}
 use Rattle.image.specs.declared.config.Config.{Config}
 use Rattle.image.specs.declared.config.Checked.{Checked}
 use Rattle.image.specs.declared.config.Checked.the-variants.{Good, Refused}
-use Rattle.passes.specs.declared.line.Step.{Step as Stepped}
+use Rattle.passes.specs.declared.line.Effect.{Effect}
+use Rattle.passes.specs.declared.line.Effect.the-variants.{Nothing, Sets, Codes, Faulty}
+use Rattle.passes.specs.declared.line.Read.{Read}
+use Rattle.passes.specs.declared.second_pass.Coded.the-variants.{Word, Nothing as NoWord}
 
 -- ---- the tokens of a record
 
@@ -100,210 +106,86 @@ module _ (s : List ℕ) (ts : List Token) (count : ℕ) where
     pub kind-plain : ((us : List Meant) → plain ≡ kindOf (meant s (getD ts 0 filler) ∷ us)) → plain ≡ kindOf (firsts s ts count)
     kind-plain f = first-is plain (sym (f (drop 1 (firsts s ts count))))
 
--- ---- what a line comes to
+-- ---- a line by its record
 
--- Settings that are the same, and no instruction more.
-same-state : (st : State) (setup : Settings) → st .setup ≡ setup
-    → _≡_ {A = State} st (record { labels = st .labels; instructions = st .instructions ++ []; setup = setup })
-same-state st setup e = λ j. record { labels = st .labels; instructions = sym (append-nil (st .instructions)) j; setup = e j }
-
--- An instruction, or why it is refused.
-on-instruction : (x : Result Instruction) (words : ℕ) (st : State) (setup : Settings) → st .setup ≡ setup → length (st .instructions) ≡ words
-    → withInstruction st x ≡ onward (instructionFault words x) (oneOf x) setup (next st)
-unfolding withInstruction onward instructionFault wordFault oneOf
-on-instruction (refused n) words st setup e h = refl
-on-instruction (value i) words st setup e h = rw (withInstruction, h, ← e) (go (ltb words most-words))
-  where
-    go : (b : Bool) → elim b [
-      | true ↦ next (record { labels = st .labels; instructions = st .instructions ++ (i ∷ []); setup = st .setup })
-      | false ↦ stop 22 st
-    ] ≡ onward (elim b [ true ↦ none | false ↦ some 22 ]) (i ∷ []) (st .setup) (next st)
-    go true = refl
-    go false = refl
-
--- Why an instruction is refused, by what was read.
-pub fault-refused : (x : Result Instruction) (words n : ℕ) → refused n ≡ x → some n ≡ instructionFault words x
-unfolding instructionFault
-fault-refused x words n e = rw (← e)
-
-pub fault-read : (x : Result Instruction) (words : ℕ) (i : Instruction) → value i ≡ x → wordFault words ≡ instructionFault words x
-unfolding instructionFault
-fault-read x words i e = rw (← e)
-
--- A word more, or too many.
-pub word-none : (words : ℕ) → words < 32768 → none ≡ wordFault words
-unfolding wordFault most-words
-word-none words h = rw (wordFault, lt-ltb words 32768 h)
-
-pub word-many : (words : ℕ) → 32768 ≤ words → some 22 ≡ wordFault words
-unfolding wordFault most-words
-word-many words h = rw (wordFault, le-ltb words 32768 h)
-
--- No number is refused where one is.
-no-some : {n : ℕ} → _≡_ {A = Option ℕ} none (some n) → ⊥
-no-some z = let y : _≡_ {A = ℕ} 0 1 = cc in absurd (omega arith)
-
--- Where a token is behind a label, it is read as an instruction.
-after-some : (r : Record) (st : State) (t : Meant) (ts : List Meant) → r .first ≡ t ∷ ts → afterLabel r (next st) ≡ withInstruction st (readInstruction r)
+-- Where a token follows a label, it is read as an instruction.
+after-some : (r : Record) (t : Meant) (ts : List Meant) → r .first ≡ t ∷ ts → afterLabel r ≡ coding (readInstruction r)
 unfolding afterLabel
-after-some r st t ts e = go (r .first) e
+after-some r t ts e = go (r .first) e
   where
-    go : (us : List Meant) → us ≡ t ∷ ts → elim us [ [] ↦ next st | v ∷ vs ↦ withInstruction st (readInstruction r) ] ≡ withInstruction st (readInstruction r)
+    go : (us : List Meant) → us ≡ t ∷ ts → elim us [ [] ↦ nothing | v ∷ vs ↦ coding (readInstruction r) ] ≡ coding (readInstruction r)
     go [] e = let z : 0 ≡ suc (length ts) = ap (λ (x : List Meant). length x) e in absurd (omega arith)
     go (v ∷ vs) e = refl
 
--- One that is not refused is one word more, and not too many.
-one-more : (x : Result Instruction) (words : ℕ) → none ≡ instructionFault words x → (words + 1 ≡ words + length (oneOf x)) × (words + 1 ≤ 32768)
-unfolding instructionFault wordFault oneOf most-words
-one-more (refused n) words e = absurd (no-some e)
-one-more (value i) words e = go (ltb words 32768) refl e
-  where
-    go : (b : Bool) → ltb words 32768 ≡ b → _≡_ {A = Option ℕ} none (elim b [ true ↦ none | false ↦ some 22 ]) → (words + 1 ≡ words + 1) × (words + 1 ≤ 32768)
-    go true l z = (refl, omega (arith, ltb-true words 32768 l))
-    go false l z = absurd (no-some z)
+module _ (s : List ℕ) (l : Line) (c : Context) where
+  -- A line without a label.
+  abbrev pub bare : Effect → Read
+  bare e = record { labelled = false; start = 0; length = 0; effect = e; end = l .end }
 
--- What is behind a label, once it is entered or refused.
-on-label : (words : ℕ) (setup : Settings) (x : Result Instruction) (f : Option ℕ) (r : Record) (room at : ℕ) (st : State) (u : List ℕ)
-    → ((st′ : State) → st′ .setup ≡ setup → length (st′ .instructions) ≡ words → afterLabel r (next st′) ≡ onward f (oneOf x) setup (next st′))
-    → st .setup ≡ setup → length (st .instructions) ≡ words
-    → afterLabel r (enter room st at u) ≡ onward f (oneOf x) setup (enter room st at u)
-unfolding afterLabel onward enter withLabel
-on-label words setup x f r room at st u g p n = go (isKnown (st .labels) u) (ltb (length (st .labels)) room)
-  where
-    go : (v w : Bool) → afterLabel r (elim v [ true ↦ stop 4 st | false ↦ elim w [ true ↦ next (withLabel st at u) | false ↦ stop 5 st ] ])
-        ≡ onward f (oneOf x) setup (elim v [ true ↦ stop 4 st | false ↦ elim w [ true ↦ next (withLabel st at u) | false ↦ stop 5 st ] ])
-    go true w = refl
-    go false true = g (withLabel st at u) p n
-    go false false = refl
+  pub record-bare : (e : Effect) (k : Kind) → k ≡ kindOf (firsts s (l .tokens) (l .count)) → record { label = none; effect = effectMeant e } ≡ readKind c (recordMeant s l) k → InTable e
+      → RecordIs s l c (bare e)
+  unfolding readOn
+  record-bare e k h q t =
+      record { reads = q ∙ ap (readKind c (recordMeant s l)) h; starts = λ f. no-label-found f; ends = refl; in-text = omega arith; in-table = t }
+    where
+      no-label-found : {X : Type 0} → _≡_ {A = Bool} false true → X
+      no-label-found z = let y : _≡_ {A = ℕ} 0 1 = cc in absurd (omega arith)
 
-module _ (s : List ℕ) (l : Line) (words : ℕ) (c : Config) where
-  -- The record of a step without a label.
-  abbrev pub bare : Checked → ℕ → Config → Stepped
-  bare f n d = record { labelled = false; start = 0; length = 0; fault = f; words = n; config = d; end = l .end }
+  -- An empty line, and a directive that does nothing.
+  pub record-empty : empty ≡ kindOf (firsts s (l .tokens) (l .count)) → RecordIs s l c (bare Nothing)
+  unfolding readKind
+  record-empty e = record-bare Nothing empty e refl tt
 
-  -- A line that does nothing.
-  comes-nothing : (k : Kind) → k ≡ kindOf (firsts s (l .tokens) (l .count))
-      → ((room at : ℕ) (st : State) → elim k [
-        | empty ↦ next st
-        | labelled u ↦ afterLabel (behind 2 (recordMeant s l)) (enter room st at u)
-        | config ↦ withSettings st (configured (st .setup) (recordMeant s l))
-        | ignored ↦ next st
-        | plain ↦ withInstruction st (readInstruction (recordMeant s l))
-      ] ≡ next st)
-      → _≡_ {A = List Instruction} (elim k [
-        | labelled u ↦ oneOf (readInstruction (behind 2 (recordMeant s l)))
-        | plain ↦ oneOf (readInstruction (recordMeant s l))
-        | empty ↦ []
-        | config ↦ []
-        | ignored ↦ []
-      ]) [] → ComesOf s l words (settingsMeant c) (bare Good words c)
-  unfolding stepOn instructionOn onward entering
-  comes-nothing k e f g =
-      record {
-        steps = λ room at st b p n. rw (stepOn, instructionOn, ← e, g) (f room at st ∙ ap (λ (x : State). next x) (same-state st (settingsMeant c) p));
-        counts = λ h. rw (instructionOn, ← e, g) (omega arith);
-        most = λ h m. m;
-        ends = refl;
-        in-text = omega arith;
-      }
-
-  pub comes-empty : empty ≡ kindOf (firsts s (l .tokens) (l .count)) → ComesOf s l words (settingsMeant c) (bare Good words c)
-  comes-empty e = comes-nothing empty e (λ room at st. refl) refl
-
-  pub comes-ignored : ignored ≡ kindOf (firsts s (l .tokens) (l .count)) → ComesOf s l words (settingsMeant c) (bare Good words c)
-  comes-ignored e = comes-nothing ignored e (λ room at st. refl) refl
-
-  -- An instruction.
-  pub comes-plain : (f : Checked) → plain ≡ kindOf (firsts s (l .tokens) (l .count)) → faultMeant f ≡ instructionFault words (readInstruction (behind 0 (recordMeant s l)))
-      → ComesOf s l words (settingsMeant c) (bare f (words + 1) c)
-  unfolding stepOn instructionOn entering
-  comes-plain f e h =
-      let x = readInstruction (recordMeant s l) in
-      let h′ : faultMeant f ≡ instructionFault words x = h ∙ ap (instructionFault words) (behind-none (recordMeant s l)) in
-      record {
-        steps = λ room at st b p n. rw (stepOn, instructionOn, ← e, h′) (on-instruction x words st (settingsMeant c) p n);
-        counts = λ g. rw (instructionOn, ← e) (one-more x words (sym (ap faultMeant g) ∙ h′) .0);
-        most = λ g m. one-more x words (sym (ap faultMeant g) ∙ h′) .1;
-        ends = refl;
-        in-text = omega arith;
-      }
+  pub record-ignored : ignored ≡ kindOf (firsts s (l .tokens) (l .count)) → RecordIs s l c (bare Nothing)
+  unfolding readKind
+  record-ignored e = record-bare Nothing ignored e refl tt
 
   -- A `.config` line.
-  pub comes-refused : (n : ℕ) → config ≡ kindOf (firsts s (l .tokens) (l .count)) → refused n ≡ configured (settingsMeant c) (recordMeant s l)
-      → ComesOf s l words (settingsMeant c) (bare (Refused n) words c)
-  unfolding stepOn instructionOn onward entering withSettings
-  comes-refused n e h =
-      record {
-        steps = λ room at st b p q. rw (stepOn, instructionOn, ← e, p, ← h);
-        counts = λ g. absurd (no-some (ap faultMeant (sym g)));
-        most = λ g m. m;
-        ends = refl;
-        in-text = omega arith;
-      }
+  pub record-config : (e : Effect) → config ≡ kindOf (firsts s (l .tokens) (l .count)) → effectMeant e ≡ setting (configured (c .setup) (recordMeant s l)) → InTable e → RecordIs s l c (bare e)
+  unfolding readKind
+  record-config e h q t = record-bare e config h (ap (λ (x : MeantEffect). record { label = none; effect = x }) q) t
 
-  pub comes-set : (d : Config) → config ≡ kindOf (firsts s (l .tokens) (l .count)) → value (settingsMeant d) ≡ configured (settingsMeant c) (recordMeant s l)
-      → ComesOf s l words (settingsMeant c) (bare Good words d)
-  unfolding stepOn instructionOn onward entering withSettings
-  comes-set d e h =
-      record {
-        steps = λ room at st b p q. rw (stepOn, instructionOn, ← e, p, ← h, append-nil (st .instructions));
-        counts = λ g. rw (instructionOn, ← e) (omega arith);
-        most = λ g m. m;
-        ends = refl;
-        in-text = omega arith;
-      }
+  -- An instruction.
+  pub record-plain : (e : Effect) → plain ≡ kindOf (firsts s (l .tokens) (l .count)) → effectMeant e ≡ coding (readInstruction (behind 0 (recordMeant s l))) → InTable e → RecordIs s l c (bare e)
+  unfolding readKind
+  record-plain e h q t =
+      record-bare e plain h (ap (λ (x : MeantEffect). record { label = none; effect = x }) (q ∙ ap coding (behind-none (recordMeant s l)))) t
 
   module _ (t : Told s l) (some-tokens : 2 ≤ l .count) (is-label : labelled (spelling s (getD (l .tokens) 0 filler)) ≡ kindOf (firsts s (l .tokens) (l .count))) where
-    -- The record of a step with the label that the line begins with.
-    abbrev marked : Checked → ℕ → Stepped
-    marked f n =
+    -- A line with the label that it begins with.
+    abbrev marked : Effect → Read
+    marked e =
         record {
           labelled = true;
           start = getD (l .tokens) 0 filler .start;
           length = getD (l .tokens) 0 filler .length;
-          fault = f;
-          words = n;
-          config = c;
+          effect = e;
           end = l .end;
         }
 
-    label-steps : (x : Result Instruction) (f : Checked) (n : ℕ) → x ≡ readInstruction (behind 2 (recordMeant s l))
-        → ((st : State) → st .setup ≡ settingsMeant c → length (st .instructions) ≡ words → afterLabel (behind 2 (recordMeant s l)) (next st) ≡ onward (faultMeant f) (oneOf x) (settingsMeant c) (next st))
-        → (room at : ℕ) (st : State) → (0 < l .count → getD (l .tokens) 0 filler .start ≡ at) → st .setup ≡ settingsMeant c → length (st .instructions) ≡ words
-        → stepOn room st at (recordMeant s l) ≡ onward (faultMeant f) (instructionOn (some (recordMeant s l))) (settingsMeant c) (entering s (marked f n) room st)
-    unfolding stepOn instructionOn entering
-    label-steps x f n e g room at st b p q =
-        rw (stepOn, instructionOn, ← is-label, ← b (omega arith), ← e)
-        (on-label words (settingsMeant c) x (faultMeant f) (behind 2 (recordMeant s l)) room (getD (l .tokens) 0 filler .start) st (spelling s (getD (l .tokens) 0 filler)) g p q)
+    record-marked : (e : Effect) → effectMeant e ≡ afterLabel (behind 2 (recordMeant s l)) → InTable e → RecordIs s l c (marked e)
+    unfolding readOn readKind
+    record-marked e q i =
+        record {
+          reads = ap (λ (x : MeantEffect). record { label = some (spelling s (getD (l .tokens) 0 filler)); effect = x }) q ∙ ap (readKind c (recordMeant s l)) is-label;
+          starts = λ f. (omega arith, refl);
+          ends = refl;
+          in-text = t .kept .inside-text 0;
+          in-table = i;
+        }
 
     -- A label alone.
-    pub comes-label : l .count ≡ 2 → ComesOf s l words (settingsMeant c) (marked Good words)
-    unfolding instructionOn afterLabel onward behind readInstruction oneOf
-    comes-label e =
+    pub record-alone : l .count ≡ 2 → RecordIs s l c (marked Nothing)
+    unfolding afterLabel behind
+    record-alone e =
         let none-left : drop 2 (firsts s (l .tokens) (l .count)) ≡ [] = tokens-end s (l .tokens) (l .count) 2 (omega arith) in
-        let x : refused 14 ≡ readInstruction (behind 2 (recordMeant s l)) = rw (readInstruction, behind, none-left) in
-        record {
-          steps = label-steps (refused 14) Good words x (λ st p n. rw (behind, none-left) (ap (λ (y : State). next y) (same-state st (settingsMeant c) p)));
-          counts = λ g. rw (instructionOn, ← is-label, ← x) (omega arith);
-          most = λ g m. m;
-          ends = refl;
-          in-text = t .kept .inside-text 0;
-        }
+        record-marked Nothing (rw (afterLabel, behind, none-left)) tt
 
-    -- A label, and an instruction behind it.
-    pub comes-labelled : (f : Checked) → 2 < l .count → faultMeant f ≡ instructionFault words (readInstruction (behind 2 (recordMeant s l)))
-        → ComesOf s l words (settingsMeant c) (marked f (words + 1))
-    unfolding instructionOn afterLabel behind
-    comes-labelled f m h =
-        let x = readInstruction (behind 2 (recordMeant s l)) in
-        let some-left = token-at s (l .tokens) (l .count) 2 m (omega (arith, t .kept .nine)) in
-        record {
-          steps = label-steps x f (words + 1) refl (λ st p n. after-some (behind 2 (recordMeant s l)) st _ _ some-left ∙ rw h (on-instruction x words st (settingsMeant c) p n));
-          counts = λ g. rw (instructionOn, ← is-label) (one-more x words (sym (ap faultMeant g) ∙ h) .0);
-          most = λ g k. one-more x words (sym (ap faultMeant g) ∙ h) .1;
-          ends = refl;
-          in-text = t .kept .inside-text 0;
-        }
+    -- A label, and an instruction after it.
+    pub record-labelled : (e : Effect) → 2 < l .count → effectMeant e ≡ coding (readInstruction (behind 2 (recordMeant s l))) → InTable e → RecordIs s l c (marked e)
+    unfolding behind
+    record-labelled e m q i =
+        record-marked e (q ∙ sym (after-some (behind 2 (recordMeant s l)) _ _ (token-at s (l .tokens) (l .count) 2 m (omega (arith, t .kept .nine))))) i
 
 -- 1 for a label, 0 for other kinds.
 abbrev labels : Kind → ℕ
@@ -342,75 +224,193 @@ two-tokens s ts count u e =
 
 -- ---- the line at a place
 
-module _ (s : List ℕ) (from words : ℕ) (setup : Settings) (l : Line) (h : LineRead s from l) where
-  line-is : l .bad ≡ false → readLine present (restAt s from) ≡ some (recordMeant s l)
-  line-is b = h .means ∙ rw b
-
-  pub comes : (r : Stepped) → l .bad ≡ false → ComesOf s l words setup r → Comes s from words setup r
-  unfolding step
-  comes r b c =
+module _ (s : List ℕ) (from : ℕ) (l : Line) (h : LineRead s from l) (c : Context) where
+  pub line-record : (r : Read) → l .bad ≡ false → RecordIs s l c r → LineIs s from c r
+  unfolding endOf
+  line-record r b q =
+      let e : readLine present (restAt s from) ≡ some (recordMeant s l) = h .means ∙ rw b in
       record {
-        steps = λ room st p n. rw (line-is b) (c .steps room (from + indent (restAt s from)) st (λ k. h .begins k) p n);
-        counts = λ g. rw (line-is b) (c .counts g);
-        most = c .most;
-        ends = λ g. c .ends ∙ h .ends b;
-        in-text = c .in-text;
+        reads = rw e (q .reads);
+        starts = λ f. let (n, i) = q .starts f in i ∙ h .begins n;
+        ends = rw (endOf, e) (q .ends ∙ h .ends b);
+        in-text = q .in-text;
+        in-table = q .in-table;
       }
 
   -- A line with a bad token.
-  pub comes-bad : (c : Config) → settingsMeant c ≡ setup → l .bad ≡ true
-      → Comes s from words setup (record { labelled = false; start = 0; length = 0; fault = Refused 3; words = words; config = c; end = l .end })
-  unfolding step onward entering
-  comes-bad c e b =
+  pub line-bad : l .bad ≡ true → LineIs s from c (bare s l c (Faulty 3))
+  unfolding readOn endOf
+  line-bad b =
+      let e : readLine present (restAt s from) ≡ none = h .means ∙ rw b in
       record {
-        steps = λ room st p n. let q : readLine present (restAt s from) ≡ none = h .means ∙ rw b in rw q;
-        counts = λ g. absurd (no-some (ap faultMeant (sym g)));
-        most = λ g m. m;
-        ends = λ g. absurd (no-some (ap faultMeant (sym g)));
+        reads = rw e;
+        starts = λ f. not-found f;
+        ends = rw (endOf, e) (ap (λ (x : Line). x .end) (h .is-spoiled b));
         in-text = omega arith;
+        in-table = tt;
       }
+    where
+      not-found : {X : Type 0} → _≡_ {A = Bool} false true → X
+      not-found z = let y : _≡_ {A = ℕ} 0 1 = cc in absurd (omega arith)
 
--- ---- a line that is read straight
+-- A line that is read straight.
+module _ (s : List ℕ) (from end : ℕ) (c : Context) where
+  line-some : (r : Read) (x : Record) → readLine present (restAt s from) ≡ some x → readMeant s r ≡ readOn c (some x) → (r .labelled ≡ true → r .start ≡ from + indent (restAt s from))
+      → r .end ≡ endAt s from → r .start + r .length ≤ length s → InTable (r .effect) → LineIs s from c r
+  unfolding endOf
+  line-some r x e q i n t k = record { reads = rw e q; starts = i; ends = rw (endOf, e) n; in-text = t; in-table = k }
 
-module _ (s : List ℕ) (from words end : ℕ) (c : Config) where
-  abbrev step-of : Checked → ℕ → Stepped
-  step-of f n = record { labelled = false; start = 0; length = 0; fault = f; words = n; config = c; end = end }
+  unmarked : {X : Type 0} → _≡_ {A = Bool} false true → X
+  unmarked z = let y : _≡_ {A = ℕ} 0 1 = cc in absurd (omega arith)
 
-  pub comes-straight : (row : ℕ) (o : Operands) (f : Checked) → IsInstruction s from row o end → faultMeant f ≡ wordFault words
-      → Comes s from words (settingsMeant c) (step-of f (words + 1))
-  unfolding step stepOn instructionOn entering instructionFault
-  comes-straight row o f h e =
-      let x = readInstruction (h .line) in
-      let e′ : faultMeant f ≡ instructionFault words x = e ∙ rw (h .instruction) in
+  pub line-instruction : (row : ℕ) (o : Operands) → IsInstruction s from row o end → LineIs s from c (record { labelled = false; start = 0; length = 0; effect = Codes row o; end = end })
+  unfolding readOn readKind coding
+  line-instruction row o h = line-some _ (h .line) (h .reads) (rw (h .is-plain, h .instruction)) (λ f. unmarked f) (h .ends) (omega arith) (h .in-table)
+
+  pub line-label : (start length′ : ℕ) → IsLabel s from start length′ end → LineIs s from c (record { labelled = true; start = start; length = length′; effect = Nothing; end = end })
+  unfolding readOn readKind kindOf identifierKind markByte behind afterLabel
+  line-label start length′ h = line-some _ _ (h .reads) refl (λ f. h .starts) (h .ends) (h .in-text) tt
+
+  pub line-empty : IsEmpty s from end → LineIs s from c (record { labelled = false; start = 0; length = 0; effect = Nothing; end = end })
+  unfolding readOn readKind kindOf
+  line-empty h = line-some _ _ (h .reads) refl (λ f. unmarked f) (h .ends) (omega arith) tt
+
+-- ---- what a line comes to
+
+-- Settings that are the same, and no instruction more.
+same-state : (st : State) (setup : Settings) → st .setup ≡ setup
+    → _≡_ {A = State} st (record { labels = st .labels; instructions = st .instructions ++ []; setup = setup })
+same-state st setup e = λ j. record { labels = st .labels; instructions = sym (append-nil (st .instructions)) j; setup = e j }
+
+-- A word more, or too many.
+pub word-none : (words : ℕ) → words < 32768 → Good ≡ wordFault words
+unfolding wordFault most-words
+word-none words h = rw (wordFault, lt-ltb words 32768 h)
+
+pub word-many : (words : ℕ) → 32768 ≤ words → Refused 22 ≡ wordFault words
+unfolding wordFault most-words
+word-many words h = rw (wordFault, le-ltb words 32768 h)
+
+-- What an effect does to a state: the fault that it has then, the instruction that it adds and the settings that it leaves.
+does : (e : Effect) (words : ℕ) (c : Config) (st : State) → st .setup ≡ settingsMeant c → length (st .instructions) ≡ words
+    → doing (effectMeant e) (next st) ≡ onward (faultMeant (faultAfter e words)) (codedBy (effectMeant e)) (settingsMeant (configAfter e c)) (next st)
+unfolding doing onward codedBy withSettings withInstruction wordFault
+does Nothing words c st p n = ap (λ (x : State). next x) (same-state st (settingsMeant c) p)
+does (Sets d) words c st p n = ap (λ (x : List Instruction). next (record { labels = st .labels; instructions = x; setup = settingsMeant d })) (sym (append-nil (st .instructions)))
+does (Codes row o) words c st p n = rw (withInstruction, wordFault, n, ← p) (go (ltb words most-words))
+  where
+    go : (b : Bool) → elim b [
+      | true ↦ next (record { labels = st .labels; instructions = st .instructions ++ (partsMeant (record { row = row; operands = o }) ∷ []); setup = st .setup })
+      | false ↦ stop 22 st
+    ] ≡ onward (faultMeant (elim b [ true ↦ Good | false ↦ Refused 22 ])) (partsMeant (record { row = row; operands = o }) ∷ []) (st .setup) (next st)
+    go true = refl
+    go false = refl
+does (Faulty n) words c st p q = refl
+
+-- Good is no refusal.
+no-fault : {X : Type 0} {n : ℕ} → _≡_ {A = Checked} (Refused n) Good → X
+no-fault z = let y : _≡_ {A = ℕ} 0 1 = cc in absurd (omega arith)
+
+-- One that is not refused is so many words more, and not too many.
+adds : (e : Effect) (words : ℕ) → faultAfter e words ≡ Good → (wordsAfter e words ≡ words + length (codedBy (effectMeant e))) × (words ≤ 32768 → wordsAfter e words ≤ 32768)
+unfolding codedBy wordFault most-words
+adds Nothing words g = (omega arith, λ h. h)
+adds (Sets d) words g = (omega arith, λ h. h)
+adds (Codes row o) words g = go (ltb words 32768) refl g
+  where
+    go : (b : Bool) → ltb words 32768 ≡ b → elim b [ true ↦ Good | false ↦ Refused 22 ] ≡ Good → (words + 1 ≡ words + 1) × (words ≤ 32768 → words + 1 ≤ 32768)
+    go true l z = (refl, λ h. omega (arith, ltb-true words 32768 l))
+    go false l z = no-fault z
+adds (Faulty n) words g = no-fault g
+
+-- Entering a label changes neither settings nor instructions.
+on-label : (e : Effect) (words : ℕ) (c : Config) (room at : ℕ) (st : State) (u : List ℕ) → st .setup ≡ settingsMeant c → length (st .instructions) ≡ words
+    → doing (effectMeant e) (enter room st at u) ≡ onward (faultMeant (faultAfter e words)) (codedBy (effectMeant e)) (settingsMeant (configAfter e c)) (enter room st at u)
+unfolding doing onward enter withLabel
+on-label e words c room at st u p n = go (isKnown (st .labels) u) (ltb (length (st .labels)) room)
+  where
+    go : (v w : Bool) → doing (effectMeant e) (elim v [ true ↦ stop 4 st | false ↦ elim w [ true ↦ next (withLabel st at u) | false ↦ stop 5 st ] ])
+        ≡ onward (faultMeant (faultAfter e words)) (codedBy (effectMeant e)) (settingsMeant (configAfter e c)) (elim v [ true ↦ stop 4 st | false ↦ elim w [ true ↦ next (withLabel st at u) | false ↦ stop 5 st ] ])
+    go true w = refl
+    go false true = does e words c (withLabel st at u) p n
+    go false false = refl
+
+-- An effect that is neither settings nor an instruction.
+abbrev pub Quiet : Effect → Type 0
+Quiet Nothing = Unit {0}
+Quiet (Faulty n) = Unit {0}
+Quiet (Sets d) = ⊥
+Quiet (Codes row o) = ⊥
+
+module _ (s : List ℕ) (from words : ℕ) (c : Config) (r : Read) (h : LineIs s from (contextFor c) r) where
+  -- What it does.
+  pub effect-is : effectMeant (r .effect) ≡ effectAt s from (settingsMeant c)
+  effect-is = ap (λ (x : MeantRead). x .effect) (h .reads)
+
+  -- A line that is not refused has no bad token, so it is known where it ends.
+  pub ends-at : faultAfter (r .effect) words ≡ Good → r .end ≡ endAt s from
+  unfolding endOf readOn
+  ends-at g = h .ends ∙ go (readLine present (restAt s from)) refl
+    where
+      bad-fault : (e : Effect) → effectMeant e ≡ faulty 3 → faultAfter e words ≡ Good → ⊥
+      bad-fault (Faulty n) q z = no-fault z
+      bad-fault Nothing q z = let y : _≡_ {A = ℕ} 0 1 = cc in omega arith
+      bad-fault (Sets d) q z = let y : _≡_ {A = ℕ} 0 1 = cc in omega arith
+      bad-fault (Codes row o) q z = let y : _≡_ {A = ℕ} 0 1 = cc in omega arith
+
+      go : (o : Option Record) → readLine present (restAt s from) ≡ o → elim o [ none ↦ from | some x ↦ endAt s from ] ≡ endAt s from
+      go (some x) e = refl
+      go none e = absurd (bad-fault (r .effect) (effect-is ∙ ap (λ (o : Option Record). readOn (record { setup = settingsMeant c }) o .effect) e) g)
+
+  -- What it leads to from a state.
+  leads : (room : ℕ) (st : State) → st .setup ≡ settingsMeant c → length (st .instructions) ≡ words
+      → step room st (from + indent (restAt s from)) (readMeant s r) ≡ onward (faultMeant (faultAfter (r .effect) words)) (codedBy (effectMeant (r .effect))) (settingsMeant (configAfter (r .effect) c)) (labelStep s (stepAfter r words c) room st)
+  unfolding step entering labelStep
+  leads room st p n = go (r .labelled) refl
+    where
+      u : List ℕ
+      u = take (r .length) (drop (r .start) s)
+
+      go : (b : Bool) → r .labelled ≡ b
+          → doing (effectMeant (r .effect)) (entering room st (from + indent (restAt s from)) (labelIf b u))
+          ≡ onward (faultMeant (faultAfter (r .effect) words)) (codedBy (effectMeant (r .effect))) (settingsMeant (configAfter (r .effect) c)) (elim b [ true ↦ enter room st (r .start) u | false ↦ next st ])
+      go true e = rw (← h .starts e) (on-label (r .effect) words c room (r .start) st u p n)
+      go false e = does (r .effect) words c st p n
+
+  pub comes : Comes s from words (settingsMeant c) (stepAfter r words c)
+  unfolding contextOf
+  comes =
       record {
-        steps = λ room st p n. rw (h .reads, stepOn, instructionOn, h .is-plain, e′) (on-instruction x words st (settingsMeant c) p n);
-        counts = λ g. rw (h .reads, instructionOn, h .is-plain) (one-more x words (sym (ap faultMeant g) ∙ e′) .0);
-        most = λ g m. one-more x words (sym (ap faultMeant g) ∙ e′) .1;
-        ends = λ g. h .ends;
-        in-text = omega arith;
-      }
-
-  pub comes-bare : IsEmpty s from end → Comes s from words (settingsMeant c) (step-of Good words)
-  unfolding step stepOn kindOf instructionOn onward entering
-  comes-bare h =
-      record {
-        steps = λ room st p n. rw (h .reads) (ap (λ (x : State). next x) (same-state st (settingsMeant c) p));
-        counts = λ g. rw (h .reads) (omega arith);
-        most = λ g m. m;
-        ends = λ g. h .ends;
-        in-text = omega arith;
-      }
-
-  pub comes-alone : (start length′ : ℕ) → IsLabel s from start length′ end
-      → Comes s from words (settingsMeant c) (record { labelled = true; start = start; length = length′; fault = Good; words = words; config = c; end = end })
-  unfolding step stepOn kindOf identifierKind markByte instructionOn entering behind readInstruction oneOf afterLabel onward
-  comes-alone start length′ h =
-      record {
-        steps = λ room st p n. rw (h .reads, ← h .starts)
-            (on-label words (settingsMeant c) (refused 14) none (record { count = 0; first = [] }) room start st (take length′ (drop start s))
-            (λ st′ p′ _. ap (λ (y : State). next y) (same-state st′ (settingsMeant c) p′)) p n);
-        counts = λ g. rw (h .reads) (omega arith);
-        most = λ g m. m;
-        ends = λ g. h .ends;
+        steps = λ room st p n.
+            ap (λ (x : Settings). step room st (from + indent (restAt s from)) (readOn (record { setup = x }) (readLine present (restAt s from)))) p
+            ∙ ap (step room st (from + indent (restAt s from))) (sym (h .reads)) ∙ leads room st p n
+            ∙ ap (λ (x : MeantEffect). onward (faultMeant (faultAfter (r .effect) words)) (codedBy x) (settingsMeant (configAfter (r .effect) c)) (labelStep s (stepAfter r words c) room st)) effect-is;
+        counts = λ g. adds (r .effect) words g .0 ∙ ap (λ (x : MeantEffect). words + length (codedBy x)) effect-is;
+        most = λ g. adds (r .effect) words g .1;
+        ends = ends-at;
         in-text = h .in-text;
       }
+
+  -- Its word, and the settings after it.
+  pub codes-word : (row word : ℕ) (o : Operands) → r .effect ≡ Codes row o → word ≡ wordOf (partsMeant (record { row = row; operands = o }))
+      → CodesLine s from (settingsMeant c) (record { coded = Word word; config = c; end = r .end })
+  unfolding codedBy changedBy
+  codes-word row word o e w =
+      let q : codes (partsMeant (record { row = row; operands = o })) ≡ effectAt s from (settingsMeant c) = ap effectMeant (sym e) ∙ effect-is in
+      record { words = rw (← q, w); settings = rw (← q); ends = h .ends }
+
+  pub codes-settings : (d : Config) → r .effect ≡ Sets d → CodesLine s from (settingsMeant c) (record { coded = NoWord; config = d; end = r .end })
+  unfolding codedBy changedBy
+  codes-settings d e =
+      let q : sets (settingsMeant d) ≡ effectAt s from (settingsMeant c) = ap effectMeant (sym e) ∙ effect-is in
+      record { words = rw (← q); settings = rw (← q); ends = h .ends }
+
+  pub codes-nothing : Quiet (r .effect) → CodesLine s from (settingsMeant c) (record { coded = NoWord; config = c; end = r .end })
+  unfolding codedBy changedBy
+  codes-nothing k = go (r .effect) k effect-is
+    where
+      go : (e : Effect) → Quiet e → effectMeant e ≡ effectAt s from (settingsMeant c) → CodesLine s from (settingsMeant c) (record { coded = NoWord; config = c; end = r .end })
+      go Nothing k q = record { words = rw (← q); settings = rw (← q); ends = h .ends }
+      go (Faulty n) k q = record { words = rw (← q); settings = rw (← q); ends = h .ends }
+      go (Sets d) k q = absurd k
+      go (Codes row o) k q = absurd k

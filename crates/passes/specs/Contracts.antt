@@ -6,7 +6,6 @@ use mathlib.Core.Option.{Option, none, some}
 use mathlib.Core.List.{List, [], _∷_, _++_, map, flatMap}
 use lib.ListN.{length, take, drop, getD}
 use lib.Dec.{leb, ltb}
-use Rattle.spelling.specs.Bytes.{Result, value, refused}
 use Rattle.spelling.specs.Numbers.{little}
 use Rattle.spelling.specs.Names.{present}
 use Rattle.text.specs.Lines.{lines, indent, readLine}
@@ -15,13 +14,13 @@ use Rattle.text.specs.Contracts.{filler, spelling}
 use Rattle.text.specs.declared.parser.Line.{Line}
 use Rattle.instruction.specs.Operands.{Instruction}
 use Rattle.instruction.specs.Words.{wordOf}
-use Rattle.instruction.specs.Contracts.{mnemonicKeys, formNumbers, slotRows}
+use Rattle.instruction.specs.Contracts.{mnemonicKeys, formNumbers, slotRows, partsMeant}
 use Rattle.reading.specs.Contracts.{Kept}
 use Rattle.image.specs.Settings.{Settings}
 use Rattle.image.specs.Program.{entry, imageLength}
-use Rattle.image.specs.Assembling.{Label as Meant, State, start, Step as Stepped, next, stop, Kind, empty, labelled, config, ignored, plain, isKnown, enter, most-words, stepOn, step, Walk, finished, stopped, walk, refusing, readTo, most-bytes, reading}
+use Rattle.image.specs.Assembling.{Label as Meant, State, start, Step as Stepped, next, stop, Kind, empty, labelled, config, ignored, plain, isKnown, enter, Context, Effect as MeantEffect, nothing, sets, codes, faulty, Read as MeantRead, readOn, changedBy, contextOf, most-words, step, Walk, finished, stopped, walk, refusing, readTo, most-bytes, reading}
 use Rattle.image.specs.Lent.{over, Answer, assembled, refusal as refusalAnswer}
-use Rattle.image.specs.Meaning.{instructionOn, instructionsOf, settingsOf, imageOf}
+use Rattle.image.specs.Meaning.{codedBy, instructionsOf, settingsOf, imageOf}
 use Rattle.image.specs.Contracts.{settingsMeant, faultMeant, recordMeant}
 use Rattle.image.specs.declared.config.Config.{Config}
 use Rattle.image.specs.declared.config.Checked.{Checked}
@@ -32,9 +31,12 @@ use Rattle.passes.specs.declared.second_pass.Assembled.{Assembled}
 use Rattle.passes.specs.declared.second_pass.Assembled.the-variants.{Is as IsAssembled, Refused, TooShort}
 use Rattle.passes.specs.declared.line.LineKind.{LineKind}
 use Rattle.passes.specs.declared.line.LineKind.the-variants.{Empty, Label as LabelKind, Config as ConfigKind, Ignored, Plain}
-use Rattle.passes.specs.declared.line.Step.{Step}
+use Rattle.passes.specs.declared.line.Effect.{Effect}
+use Rattle.passes.specs.declared.line.Effect.the-variants.{Nothing, Sets, Codes, Faulty}
+use Rattle.passes.specs.declared.line.Read.{Read}
+use Rattle.passes.specs.declared.first_pass.Step.{Step}
 use Rattle.passes.specs.declared.second_pass.Coded.{Coded as Coding}
-use Rattle.passes.specs.declared.second_pass.Coded.the-variants.{Word, Nothing}
+use Rattle.passes.specs.declared.second_pass.Coded.the-variants.{Word, Nothing as NoWord}
 use Rattle.passes.specs.declared.second_pass.CodedLine.{CodedLine}
 
 -- ---- a line
@@ -57,18 +59,98 @@ kindMeant s l ConfigKind = config
 kindMeant s l Ignored = ignored
 kindMeant s l Plain = plain
 
--- "22 a 32,769th instruction"
-unfoldable pub wordFault : ℕ → Option ℕ
-wordFault words = elim (ltb words most-words) [ true ↦ none | false ↦ some 22 ]
+-- ---- what a line reads as
 
--- Why an instruction is refused, behind so many words.
-unfoldable pub instructionFault : ℕ → Result Instruction → Option ℕ
-instructionFault words (refused n) = some n
-instructionFault words (value i) = wordFault words
+abbrev pub contextFor : Config → Context
+contextFor c = record { setup = settingsMeant c }
+
+abbrev pub effectMeant : Effect → MeantEffect
+effectMeant Nothing = nothing
+effectMeant (Sets c) = sets (settingsMeant c)
+effectMeant (Codes row o) = codes (partsMeant (record { row = row; operands = o }))
+effectMeant (Faulty n) = faulty n
+
+-- The row of an instruction is one of the table's fifty.
+abbrev pub InTable : Effect → Type 0
+InTable (Codes row o) = row < 50
+InTable Nothing = Unit {0}
+InTable (Sets c) = Unit {0}
+InTable (Faulty n) = Unit {0}
+
+abbrev pub labelIf : Bool → List ℕ → Option (List ℕ)
+labelIf true u = some u
+labelIf false u = none
+
+-- What a line that was read means.
+abbrev pub readMeant : List ℕ → Read → MeantRead
+readMeant s r = record { label = labelIf (r .labelled) (take (r .length) (drop (r .start) s)); effect = effectMeant (r .effect) }
+
+-- A line by its record.
+pub record RecordIs (s : List ℕ) (l : Line) (c : Context) (r : Read) : Type 0 where
+  pub reads : readMeant s r ≡ readOn c (some (recordMeant s l))
+  -- a label is the line's first token
+  pub starts : r .labelled ≡ true → (0 < l .count) × (r .start ≡ getD (l .tokens) 0 filler .start)
+  pub ends : r .end ≡ l .end
+  pub in-text : r .start + r .length ≤ length s
+  pub in-table : InTable (r .effect)
+
+-- Where the line at a place ends; a bad token leaves that open, and the place itself is answered.
+unfoldable pub endOf : List ℕ → ℕ → ℕ
+endOf s from = elim (readLine present (restAt s from)) [ none ↦ from | some l ↦ endAt s from ]
+
+-- The line at a place, with what those above it leave.
+pub record LineIs (s : List ℕ) (from : ℕ) (c : Context) (r : Read) : Type 0 where
+  pub reads : readMeant s r ≡ readOn c (readLine present (restAt s from))
+  pub starts : r .labelled ≡ true → r .start ≡ from + indent (restAt s from)
+  pub ends : r .end ≡ endOf s from
+  pub in-text : r .start + r .length ≤ length s
+  pub in-table : InTable (r .effect)
+
+-- ---- what a line comes to
+
+-- What a line does, where the settings are these.
+abbrev pub effectAt : List ℕ → ℕ → Settings → MeantEffect
+effectAt s from setup = readOn (record { setup = setup }) (readLine present (restAt s from)) .effect
+
+-- "22 a 32,769th instruction"
+unfoldable pub wordFault : ℕ → Checked
+wordFault words = elim (ltb words most-words) [ true ↦ Good | false ↦ RefusedCheck 22 ]
+
+-- The fault, the words and the settings after an effect.
+abbrev pub faultAfter : Effect → ℕ → Checked
+faultAfter (Codes row o) words = wordFault words
+faultAfter (Faulty n) words = RefusedCheck n
+faultAfter Nothing words = Good
+faultAfter (Sets c) words = Good
+
+abbrev pub wordsAfter : Effect → ℕ → ℕ
+wordsAfter (Codes row o) words = words + 1
+wordsAfter (Faulty n) words = words
+wordsAfter Nothing words = words
+wordsAfter (Sets c) words = words
+
+abbrev pub configAfter : Effect → Config → Config
+configAfter (Sets c′) c = c′
+configAfter (Codes row o) c = c
+configAfter (Faulty n) c = c
+configAfter Nothing c = c
+
+-- What a line comes to, by what it reads as.
+abbrev pub stepAfter : Read → ℕ → Config → Step
+stepAfter r words c =
+    record {
+      labelled = r .labelled;
+      start = r .start;
+      length = r .length;
+      fault = faultAfter (r .effect) words;
+      words = wordsAfter (r .effect) words;
+      config = configAfter (r .effect) c;
+      end = r .end;
+    }
 
 -- A line's label entered, if it has one.
-unfoldable pub entering : List ℕ → Step → ℕ → State → Stepped
-entering s r room st =
+unfoldable pub labelStep : List ℕ → Step → ℕ → State → Stepped
+labelStep s r room st =
     elim (r .labelled) [ true ↦ enter room st (r .start) (take (r .length) (drop (r .start) s)) | false ↦ next st ]
 
 -- What is behind it: a refusal, or the line's instruction and the settings.
@@ -77,20 +159,12 @@ onward f is setup (stop n st) = stop n st
 onward none is setup (next st) = next (record { labels = st .labels; instructions = st .instructions ++ is; setup = setup })
 onward (some n) is setup (next st) = stop n st
 
--- What a line's record comes to, behind so many words and with settings.
-pub record ComesOf (s : List ℕ) (l : Line) (words : ℕ) (setup : Settings) (r : Step) : Type 0 where
-  pub steps : (room at : ℕ) (st : State) → (0 < l .count → getD (l .tokens) 0 filler .start ≡ at) → st .setup ≡ setup → length (st .instructions) ≡ words
-      → stepOn room st at (recordMeant s l) ≡ onward (faultMeant (r .fault)) (instructionOn (some (recordMeant s l))) (settingsMeant (r .config)) (entering s r room st)
-  pub counts : r .fault ≡ Good → r .words ≡ words + length (instructionOn (some (recordMeant s l)))
-  pub most : r .fault ≡ Good → words ≤ 32768 → r .words ≤ 32768
-  pub ends : r .end ≡ l .end
-  pub in-text : r .start + r .length ≤ length s
-
 -- What the line at a place comes to, behind so many words and with settings.
 pub record Comes (s : List ℕ) (from words : ℕ) (setup : Settings) (r : Step) : Type 0 where
   pub steps : (room : ℕ) (st : State) → st .setup ≡ setup → length (st .instructions) ≡ words
-      → step room st (from + indent (restAt s from)) (readLine present (restAt s from)) ≡ onward (faultMeant (r .fault)) (instructionOn (readLine present (restAt s from))) (settingsMeant (r .config)) (entering s r room st)
-  pub counts : r .fault ≡ Good → r .words ≡ words + length (instructionOn (readLine present (restAt s from)))
+      → step room st (from + indent (restAt s from)) (readOn (contextOf st) (readLine present (restAt s from)))
+      ≡ onward (faultMeant (r .fault)) (codedBy (effectAt s from setup)) (settingsMeant (r .config)) (labelStep s r room st)
+  pub counts : r .fault ≡ Good → r .words ≡ words + length (codedBy (effectAt s from setup))
   pub most : r .fault ≡ Good → words ≤ 32768 → r .words ≤ 32768
   pub ends : r .fault ≡ Good → r .end ≡ endAt s from
   pub in-text : r .start + r .length ≤ length s
@@ -224,12 +298,13 @@ pub record GoesOn (s : List ℕ) (p : Pass) (e : Checked) (r : Pass) : Type 0 wh
 -- The word of a line, if it has one.
 abbrev pub codedMeant : Coding → List ℕ
 codedMeant (Word w) = w ∷ []
-codedMeant Nothing = []
+codedMeant NoWord = []
 
--- The word of the line at a place, and where the line ends, unless it has a bad token.
-pub record Codes (s : List ℕ) (at : ℕ) (r : CodedLine) : Type 0 where
-  pub words : (readLine present (restAt s at) ≡ none → ⊥) → codedMeant (r .coded) ≡ map wordOf (instructionOn (readLine present (restAt s at)))
-  pub ends : (readLine present (restAt s at) ≡ none → ⊥) → r .end ≡ endAt s at
+-- The word of the line at a place, the settings after the line, and where it ends.
+pub record CodesLine (s : List ℕ) (at : ℕ) (setup : Settings) (r : CodedLine) : Type 0 where
+  pub words : codedMeant (r .coded) ≡ map wordOf (codedBy (effectAt s at setup))
+  pub settings : settingsMeant (r .config) ≡ changedBy setup (effectAt s at setup)
+  pub ends : r .end ≡ endOf s at
 
 -- No line has a bad token.
 unfoldable pub allRead : List (List ℕ) → Bool

@@ -7,8 +7,9 @@ ghost use Rattle.text.specs.Lines.{lines};
 ghost use Rattle.image.specs.Assembling.{rustLine};
 ghost use Rattle.image.specs.Contracts.{settingsMeant};
 ghost use Rattle.labels.specs.Contracts.{noLabel};
-ghost use Rattle.passes.specs.Contracts.{Tables, Sound, Stops, Ends, labelledPass, ScanFrom, Scans, Begins, GoesOn};
-use crate::line::Step;
+ghost use Rattle.passes.specs.Contracts.{Tables, wordFault, stepAfter, Sound, Stops, Ends, labelledPass, ScanFrom, Scans, Begins, GoesOn};
+use crate::line::Effect;
+use crate::line::Read;
 use image::config::Checked;
 use image::config::Config;
 use labels::label::Label;
@@ -28,6 +29,18 @@ pub struct Pass {
     pub words: usize,
     pub config: Config,
     pub end: usize,
+}
+
+// What a line comes to: where its label stands, if it has one; whether what follows the label is refused; the words and settings after
+// the line; where it ends.
+pub(crate) struct Step {
+    pub(crate) labelled: bool,
+    pub(crate) start: usize,
+    pub(crate) length: usize,
+    pub(crate) fault: Checked,
+    pub(crate) words: usize,
+    pub(crate) config: Config,
+    pub(crate) end: usize,
 }
 
 // The number of the line that a place stands in.
@@ -107,6 +120,69 @@ fn finished(labels: usize, words: usize, config: Config) -> Pass
     }
 }
 
+// Refuses a 32,769th instruction (22).
+fn counted(words: usize) -> Checked
+    ensures { λ r. ⌜ r ≡ wordFault words ⌝ }
+{
+    if words < 32768 {
+        return Checked::Good;
+    }
+    Checked::Refused(22)
+}
+
+// What a line comes to after so many words and with settings, by what it reads as.
+fn step_of(read: Read, words: usize, config: Config) -> Step
+    requires { ⌜ words ≤ 32768 ⌝ }
+    ensures { λ r. ⌜ r ≡ stepAfter read words config ⌝ }
+{
+    let labelled = read.labelled;
+    let start = read.start;
+    let length = read.length;
+    let end = read.end;
+    let effect = read.effect;
+    match effect {
+        Effect::Nothing => Step {
+            labelled,
+            start,
+            length,
+            fault: Checked::Good,
+            words,
+            config,
+            end,
+        },
+        Effect::Sets(changed) => Step {
+            labelled,
+            start,
+            length,
+            fault: Checked::Good,
+            words,
+            config: changed,
+            end,
+        },
+        Effect::Codes {
+            row: _,
+            operands: _,
+        } => Step {
+            labelled,
+            start,
+            length,
+            fault: counted(words),
+            words: words + 1,
+            config,
+            end,
+        },
+        Effect::Faulty(number) => Step {
+            labelled,
+            start,
+            length,
+            fault: Checked::Refused(number),
+            words,
+            config,
+            end,
+        },
+    }
+}
+
 // The walk goes on from the line that begins at `from` to the next label or the end.
 fn scan(
     source: &[u8],
@@ -127,7 +203,8 @@ fn scan(
     let mut words = before;
     let mut config = settings;
     loop {
-        let step = crate::line::read_line(source, at, words, config, mnemonics, forms, slots);
+        let read = crate::line::read_line(source, at, config, mnemonics, forms, slots);
+        let step = step_of(read, words, config);
         if step.labelled {
             return at_label(step, words, line, labels);
         }

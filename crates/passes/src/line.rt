@@ -1,17 +1,18 @@
-// A line of a source: what it is, and what it comes to.
+// A line of a source: what it is, and what it reads as.
 ghost use mathlib.Core.Path.{_≡_};
 ghost use mathlib.Core.Bool.{true, false};
 ghost use Prim.Native.Nat.{_≤_};
 ghost use lib.ListN.{length, getD};
 ghost use Rattle.text.specs.Contracts.{firsts, filler, spelling as spellingOf};
 ghost use Rattle.instruction.specs.Operands.{readInstruction, behind};
-ghost use Rattle.image.specs.Assembling.{labelled, config as configKind, kindOf};
-ghost use Rattle.image.specs.Contracts.{recordMeant, settingsMeant, faultMeant};
-ghost use Rattle.image.specs.declared.config.Checked.the-variants.{Good};
-ghost use Rattle.passes.specs.Contracts.{Tables, Told, kindMeant, wordFault, instructionFault, ComesOf, Comes};
-use image::config::Checked;
+ghost use Rattle.image.specs.Settings.{configured};
+ghost use Rattle.image.specs.Assembling.{labelled, kindOf, Context, setting, coding};
+ghost use Rattle.image.specs.Contracts.{recordMeant, settingsMeant};
+ghost use Rattle.passes.specs.Contracts.{Tables, Told, kindMeant, contextFor, effectMeant, InTable, RecordIs, LineIs};
+ghost use Rattle.passes.specs.declared.line.Effect.the-variants.{Nothing};
 use image::config::Config;
 use image::config::Configured;
+use instruction::instruction::Operands;
 use reading::assembler::Parsed;
 use straight::line::Straight;
 use text::lexer::Kind;
@@ -25,15 +26,22 @@ pub(crate) enum LineKind {
     Plain,
 }
 
-// What a line comes to: a label's span, if one stands in front; whether what is behind it is refused; the words and settings up
-// to here; where the line ends.
-pub(crate) struct Step {
+// What a line does, its label aside.
+pub(crate) enum Effect {
+    Nothing,
+    Sets(Config),
+    // The row of the instruction's mnemonic, and its operands.
+    Codes { row: usize, operands: Operands },
+    // The number of the refusal.
+    Faulty(u8),
+}
+
+// What a line reads as: where its label stands, if it has one, what it does then, and where it ends.
+pub(crate) struct Read {
     pub(crate) labelled: bool,
     pub(crate) start: usize,
     pub(crate) length: usize,
-    pub(crate) fault: Checked,
-    pub(crate) words: usize,
-    pub(crate) config: Config,
+    pub(crate) effect: Effect,
     pub(crate) end: usize,
 }
 
@@ -73,73 +81,58 @@ pub(crate) fn line_kind(source: &[u8], line: Line) -> LineKind
     }
 }
 
-// A word more: 22.
-fn counted(words: usize) -> Checked
-    ensures { λ r. ⌜ faultMeant r ≡ wordFault words ⌝ }
-{
-    if words < 32768 {
-        return Checked::Good;
-    }
-    Checked::Refused(22)
-}
-
-// Whether the instruction that begins at a token is refused, behind so many words.
-fn instruction_fault(
-    source: &[u8],
-    line: Line,
-    at: usize,
-    words: usize,
-    mnemonics: &[u64; 50],
-    forms: &[u8; 50],
-    slots: &[u8; 293],
-) -> Checked
-    requires { ⌜ Told (now source) line ⌝ ∗ ⌜ at ≤ 2 ⌝ ∗ ⌜ Tables (now mnemonics) (now forms) (now slots) ⌝ }
-    ensures { λ r. ⌜ faultMeant r ≡ instructionFault words (readInstruction (behind at (recordMeant (now (source .entry)) line))) ⌝ }
-{
-    match reading::assembler::parse_instruction(source, line, at, mnemonics, forms, slots) {
-        Parsed::Refused(n) => Checked::Refused(n),
-        Parsed::Is(_) => counted(words),
-    }
-}
-
 // A line without a label.
-fn unlabelled(fault: Checked, words: usize, config: Config, end: usize) -> Step
-    ensures { λ r. ⌜ r ≡ record { labelled = false; start = 0; length = 0; fault = fault; words = words; config = config; end = end } ⌝ }
+fn unlabelled(effect: Effect, end: usize) -> Read
+    ensures { λ r. ⌜ r ≡ record { labelled = false; start = 0; length = 0; effect = effect; end = end } ⌝ }
 {
-    Step {
+    Read {
         labelled: false,
         start: 0,
         length: 0,
-        fault,
-        words,
-        config,
+        effect,
         end,
     }
 }
 
-// A line with a label and nothing behind it.
-fn label_alone(start: usize, length: usize, words: usize, config: Config, end: usize) -> Step
-    ensures { λ r. ⌜ r ≡ record { labelled = true; start = start; length = length; fault = Good; words = words; config = config; end = end } ⌝ }
+// A line with a label and nothing after it.
+fn label_alone(start: usize, length: usize, end: usize) -> Read
+    ensures { λ r. ⌜ r ≡ record { labelled = true; start = start; length = length; effect = Nothing; end = end } ⌝ }
 {
-    Step {
+    Read {
         labelled: true,
         start,
         length,
-        fault: Checked::Good,
-        words,
-        config,
+        effect: Effect::Nothing,
         end,
     }
 }
 
-fn read_config(source: &[u8], line: Line, words: usize, config: Config) -> Step
-    requires { ⌜ Told (now source) line ⌝ ∗ ⌜ kindOf (firsts (now source) (line .tokens) (line .count)) ≡ configKind ⌝ }
-    ensures { λ r. ⌜ ComesOf (now (source .entry)) line words (settingsMeant config) r ⌝ }
+// The instruction that begins at a token of a line's record, or why there is none.
+fn read_instruction(
+    source: &[u8],
+    line: Line,
+    at: usize,
+    mnemonics: &[u64; 50],
+    forms: &[u8; 50],
+    slots: &[u8; 293],
+) -> Effect
+    requires { ⌜ Told (now source) line ⌝ ∗ ⌜ at ≤ 2 ⌝ ∗ ⌜ Tables (now mnemonics) (now forms) (now slots) ⌝ }
+    ensures { λ r. ⌜ effectMeant r ≡ coding (readInstruction (behind at (recordMeant (now (source .entry)) line))) ⌝ ∗ ⌜ InTable r ⌝ }
 {
-    let end = line.end;
+    match reading::assembler::parse_instruction(source, line, at, mnemonics, forms, slots) {
+        Parsed::Refused(n) => Effect::Faulty(n),
+        Parsed::Is { row, operands } => Effect::Codes { row, operands },
+    }
+}
+
+// A `.config` line.
+fn read_config(source: &[u8], line: Line, config: Config) -> Effect
+    requires { ⌜ Told (now source) line ⌝ }
+    ensures { λ r. ⌜ effectMeant r ≡ setting (configured (settingsMeant config) (recordMeant (now (source .entry)) line)) ⌝ ∗ ⌜ InTable r ⌝ }
+{
     match image::config::parse_config(source, line, config) {
-        Configured::Refused(n) => unlabelled(Checked::Refused(n), words, config, end),
-        Configured::Is(changed) => unlabelled(Checked::Good, words, changed, end),
+        Configured::Refused(n) => Effect::Faulty(n),
+        Configured::Is(changed) => Effect::Sets(changed),
     }
 }
 
@@ -147,14 +140,12 @@ fn read_config(source: &[u8], line: Line, words: usize, config: Config) -> Step
 fn read_label(
     source: &[u8],
     line: Line,
-    words: usize,
-    config: Config,
     mnemonics: &[u64; 50],
     forms: &[u8; 50],
     slots: &[u8; 293],
-) -> Step
-    requires { ⌜ Told (now source) line ⌝ ∗ ⌜ words ≤ 32768 ⌝ ∗ ⌜ kindOf (firsts (now source) (line .tokens) (line .count)) ≡ labelled (spellingOf (now source) (getD (line .tokens) 0 filler)) ⌝ ∗ ⌜ Tables (now mnemonics) (now forms) (now slots) ⌝ }
-    ensures { λ r. ⌜ ComesOf (now (source .entry)) line words (settingsMeant config) r ⌝ }
+) -> Read
+    requires { ⌜ Told (now source) line ⌝ ∗ ⌜ kindOf (firsts (now source) (line .tokens) (line .count)) ≡ labelled (spellingOf (now source) (getD (line .tokens) 0 filler)) ⌝ ∗ ⌜ Tables (now mnemonics) (now forms) (now slots) ⌝ }
+    ensures { λ r. ⌜ ((c : Context) → RecordIs (now (source .entry)) line c r) ⌝ }
 {
     let tokens = line.tokens;
     let label = tokens[0];
@@ -162,69 +153,64 @@ fn read_label(
     let length = label.length;
     let end = line.end;
     if line.count == 2 {
-        return label_alone(start, length, words, config, end);
+        return label_alone(start, length, end);
     }
-    Step {
+    Read {
         labelled: true,
         start,
         length,
-        fault: instruction_fault(source, line, 2, words, mnemonics, forms, slots),
-        words: words + 1,
-        config,
+        effect: read_instruction(source, line, 2, mnemonics, forms, slots),
         end,
     }
 }
 
-// What the line that begins at `at` comes to by the record of its tokens.
+// The line that begins at `at`, by the record of its tokens.
 fn read_record(
     source: &[u8],
     at: usize,
-    words: usize,
     config: Config,
     mnemonics: &[u64; 50],
     forms: &[u8; 50],
     slots: &[u8; 293],
-) -> Step
-    requires { ⌜ at ≤ length (now source) ⌝ ∗ ⌜ words ≤ 32768 ⌝ ∗ ⌜ Tables (now mnemonics) (now forms) (now slots) ⌝ }
-    ensures { λ r. ⌜ Comes (now (source .entry)) at words (settingsMeant config) r ⌝ }
+) -> Read
+    requires { ⌜ at ≤ length (now source) ⌝ ∗ ⌜ Tables (now mnemonics) (now forms) (now slots) ⌝ }
+    ensures { λ r. ⌜ LineIs (now (source .entry)) at (contextFor config) r ⌝ }
 {
     let line = text::parser::tokenize(source, at);
     let end = line.end;
     if line.bad {
-        return unlabelled(Checked::Refused(3), words, config, end);
+        return unlabelled(Effect::Faulty(3), end);
     }
     match line_kind(source, line) {
-        LineKind::Empty | LineKind::Ignored => unlabelled(Checked::Good, words, config, end),
-        LineKind::Config => read_config(source, line, words, config),
-        LineKind::Label => read_label(source, line, words, config, mnemonics, forms, slots),
-        LineKind::Plain => {
-            let fault = instruction_fault(source, line, 0, words, mnemonics, forms, slots);
-            unlabelled(fault, words + 1, config, end)
-        }
+        LineKind::Empty | LineKind::Ignored => unlabelled(Effect::Nothing, end),
+        LineKind::Config => unlabelled(read_config(source, line, config), end),
+        LineKind::Label => read_label(source, line, mnemonics, forms, slots),
+        LineKind::Plain => unlabelled(
+            read_instruction(source, line, 0, mnemonics, forms, slots),
+            end,
+        ),
     }
 }
 
-// What the line that begins at `at` comes to, behind so many words and with settings.
+// The line that begins at `at`, where the settings are these. Both walks read their lines by it.
 pub(crate) fn read_line(
     source: &[u8],
     at: usize,
-    words: usize,
     config: Config,
     mnemonics: &[u64; 50],
     forms: &[u8; 50],
     slots: &[u8; 293],
-) -> Step
-    requires { ⌜ at ≤ length (now source) ⌝ ∗ ⌜ words ≤ 32768 ⌝ ∗ ⌜ Tables (now mnemonics) (now forms) (now slots) ⌝ }
-    ensures { λ r. ⌜ Comes (now (source .entry)) at words (settingsMeant config) r ⌝ }
+) -> Read
+    requires { ⌜ at ≤ length (now source) ⌝ ∗ ⌜ Tables (now mnemonics) (now forms) (now slots) ⌝ }
+    ensures { λ r. ⌜ LineIs (now (source .entry)) at (contextFor config) r ⌝ }
 {
     match straight::line::read_straight(source, at, mnemonics, forms, slots) {
-        Straight::Instruction {
-            row: _,
-            operands: _,
+        Straight::Instruction { row, operands, end } => unlabelled(
+            Effect::Codes { row, operands },
             end,
-        } => unlabelled(counted(words), words + 1, config, end),
-        Straight::Label { start, length, end } => label_alone(start, length, words, config, end),
-        Straight::Empty(end) => unlabelled(Checked::Good, words, config, end),
-        Straight::Other => read_record(source, at, words, config, mnemonics, forms, slots),
+        ),
+        Straight::Label { start, length, end } => label_alone(start, length, end),
+        Straight::Empty(end) => unlabelled(Effect::Nothing, end),
+        Straight::Other => read_record(source, at, config, mnemonics, forms, slots),
     }
 }

@@ -1,27 +1,21 @@
 // The second walk writes the words; and what assembling answers.
 ghost use mathlib.Core.Path.{_≡_};
-ghost use mathlib.Core.List.{map, flatMap};
-ghost use mathlib.Core.Option.{some};
+ghost use mathlib.Core.List.{flatMap};
 ghost use Prim.Native.Nat.{_+_, _≤_, _<_};
 ghost use lib.ListN.{length};
 ghost use Rattle.spelling.specs.Numbers.{little};
-ghost use Rattle.instruction.specs.Operands.{readInstruction, behind};
 ghost use Rattle.instruction.specs.Words.{wordOf};
 ghost use Rattle.instruction.specs.Contracts.{opcodeNumbers, formNumbers, partsMeant};
 ghost use Rattle.coding.specs.Contracts.{Written};
-ghost use Rattle.image.specs.Meaning.{oneOf, instructionOn};
-ghost use Rattle.image.specs.Contracts.{recordMeant, settingsMeant};
+ghost use Rattle.image.specs.Contracts.{settingsMeant};
 ghost use Rattle.image.specs.declared.config.Checked.the-variants.{Good};
-ghost use Rattle.passes.specs.Contracts.{Tables, Told, codedMeant, Codes, Readable, codeBytes, Ready, Fills, Finishes};
+ghost use Rattle.passes.specs.Contracts.{Tables, codedMeant, CodesLine, Readable, codeBytes, Ready, Fills, Finishes};
 use crate::first_pass::Pass;
-use crate::line::LineKind;
+use crate::line::Effect;
 use image::config::Checked;
 use image::config::Config;
 use instruction::instruction::Instruction;
 use instruction::instruction::Operands;
-use reading::assembler::Parsed;
-use straight::line::Straight;
-use text::parser::Line;
 
 pub enum Assembled {
     Is {
@@ -42,60 +36,21 @@ pub enum Assembled {
     },
 }
 
+// The word of a line, if it has one.
 enum Coded {
     Word(u32),
     Nothing,
 }
 
-// A line's word, if it has one, and where the line ends.
+// A line's word, the settings after the line, and where it ends.
 struct CodedLine {
     coded: Coded,
+    config: Config,
     end: usize,
 }
 
-// The word of the instruction that begins at a token.
-fn word_at(
-    source: &[u8],
-    line: Line,
-    at: usize,
-    mnemonics: &[u64; 50],
-    opcodes: &[u8; 50],
-    forms: &[u8; 50],
-    slots: &[u8; 293],
-) -> Coded
-    requires { ⌜ Told (now source) line ⌝ ∗ ⌜ at ≤ 2 ⌝ ∗ ⌜ Tables (now mnemonics) (now forms) (now slots) ⌝ ∗ ⌜ now opcodes ≡ opcodeNumbers ⌝ }
-    ensures { λ r. ⌜ codedMeant r ≡ map wordOf (oneOf (readInstruction (behind at (recordMeant (now (source .entry)) line)))) ⌝ }
-{
-    match reading::assembler::parse_instruction(source, line, at, mnemonics, forms, slots) {
-        Parsed::Refused(_) => Coded::Nothing,
-        Parsed::Is(instruction) => Coded::Word(coding::encoder::encode(
-            instruction,
-            opcodes,
-            forms,
-        )),
-    }
-}
-
-fn line_word(
-    source: &[u8],
-    line: Line,
-    mnemonics: &[u64; 50],
-    opcodes: &[u8; 50],
-    forms: &[u8; 50],
-    slots: &[u8; 293],
-) -> Coded
-    requires { ⌜ Told (now source) line ⌝ ∗ ⌜ Tables (now mnemonics) (now forms) (now slots) ⌝ ∗ ⌜ now opcodes ≡ opcodeNumbers ⌝ }
-    ensures { λ r. ⌜ codedMeant r ≡ map wordOf (instructionOn (some (recordMeant (now (source .entry)) line))) ⌝ }
-{
-    match crate::line::line_kind(source, line) {
-        LineKind::Label => word_at(source, line, 2, mnemonics, opcodes, forms, slots),
-        LineKind::Plain => word_at(source, line, 0, mnemonics, opcodes, forms, slots),
-        _ => Coded::Nothing,
-    }
-}
-
 // The word of an instruction by its row and operands.
-fn straight_word(row: usize, operands: Operands, opcodes: &[u8; 50], forms: &[u8; 50]) -> u32
+fn word_of(row: usize, operands: Operands, opcodes: &[u8; 50], forms: &[u8; 50]) -> u32
     requires { ⌜ row < 50 ⌝ ∗ ⌜ now opcodes ≡ opcodeNumbers ⌝ ∗ ⌜ now forms ≡ formNumbers ⌝ }
     ensures { λ r. ⌜ r ≡ wordOf (partsMeant (record { row = row; operands = operands })) ⌝ }
 {
@@ -103,42 +58,38 @@ fn straight_word(row: usize, operands: Operands, opcodes: &[u8; 50], forms: &[u8
     coding::encoder::encode(instruction, opcodes, forms)
 }
 
-// The word of the line that begins at `at`, if it has one, and where the line ends.
-fn coded_line(
+// The line that begins at `at`, where the settings are these.
+fn code_line(
     source: &[u8],
     at: usize,
+    config: Config,
     mnemonics: &[u64; 50],
     opcodes: &[u8; 50],
     forms: &[u8; 50],
     slots: &[u8; 293],
 ) -> CodedLine
     requires { ⌜ at ≤ length (now source) ⌝ ∗ ⌜ Tables (now mnemonics) (now forms) (now slots) ⌝ ∗ ⌜ now opcodes ≡ opcodeNumbers ⌝ }
-    ensures { λ r. ⌜ Codes (now (source .entry)) at r ⌝ }
+    ensures { λ r. ⌜ CodesLine (now (source .entry)) at (settingsMeant config) r ⌝ }
 {
-    match straight::line::read_straight(source, at, mnemonics, forms, slots) {
-        Straight::Instruction { row, operands, end } => {
-            let word = straight_word(row, operands, opcodes, forms);
-            CodedLine {
-                coded: Coded::Word(word),
-                end,
-            }
-        }
-        Straight::Label {
-            start: _,
-            length: _,
-            end,
-        }
-        | Straight::Empty(end) => CodedLine {
-            coded: Coded::Nothing,
+    let read = crate::line::read_line(source, at, config, mnemonics, forms, slots);
+    let end = read.end;
+    let effect = read.effect;
+    match effect {
+        Effect::Codes { row, operands } => CodedLine {
+            coded: Coded::Word(word_of(row, operands, opcodes, forms)),
+            config,
             end,
         },
-        Straight::Other => {
-            let line = text::parser::tokenize(source, at);
-            CodedLine {
-                coded: line_word(source, line, mnemonics, opcodes, forms, slots),
-                end: line.end,
-            }
-        }
+        Effect::Sets(changed) => CodedLine {
+            coded: Coded::Nothing,
+            config: changed,
+            end,
+        },
+        _ => CodedLine {
+            coded: Coded::Nothing,
+            config,
+            end,
+        },
     }
 }
 
@@ -167,9 +118,11 @@ fn second_pass(
 {
     let mut place: usize = 32;
     let mut at: usize = 0;
+    let mut config = Config::begin();
     loop {
-        let line = coded_line(source, at, mnemonics, opcodes, forms, slots);
+        let line = code_line(source, at, config, mnemonics, opcodes, forms, slots);
         let coded = line.coded;
+        config = line.config;
         place = write_coded(image, place, coded);
         let end = line.end;
         if source.len() <= end {

@@ -9,7 +9,7 @@ use Rattle.text.specs.Contracts.{filler}
 use Rattle.text.specs.declared.lexer.Kind.the-variants.{Identifier}
 use Rattle.text.specs.declared.lexer.Token.{Token}
 use Rattle.reading.proofs.Line.{getD-any}
-use Rattle.passes.proofs.Steps.{two-tokens, comes-label, comes-labelled}
+use Rattle.passes.proofs.Steps.{two-tokens, record-alone, record-labelled}
 use Rattle.passes.proofs.line.read_label.Statement.{statement}
 use Rattle.passes.proofs.line.read_label.Tie as tie
 
@@ -24,30 +24,27 @@ label-alone-requires : tie.Need-label-alone-requires
 label-alone-requires c κs = search needs
 
 returns : tie.Need-returns
-returns c =
+returns c x =
     let b = c .before .before .before .before .before .before in
     let a = b .args in
-    let k = sym (b .pre .1 .1 .0) in
+    let k = sym (b .pre .1 .0) in
     rw (c .label-alone .ensures, first (a .line .tokens) (b .pre .0 .kept .nine))
-    (comes-label (a .source .now) (a .line) (a .words) (a .config) (b .pre .0) (two-tokens (a .source .now) (a .line .tokens) (a .line .count) _ k) k (c .before .if1 .taken))
+    (record-alone (a .source .now) (a .line) x (b .pre .0) (two-tokens (a .source .now) (a .line .tokens) (a .line .count) _ k) k (c .before .if1 .taken))
 
-instruction-fault-requires : tie.Need-instruction-fault-requires
-instruction-fault-requires c κs = let p = c .before .before .before .before .before .pre in (p .0, (omega arith, p .1 .1 .1))
-
-add-t18 : tie.Need-add-t18
-add-t18 c = let h = c .before .before .before .before .before .before .pre .1 .0 in omega (arith, h)
+read-instruction-requires : tie.Need-read-instruction-requires
+read-instruction-requires c κs = let p = c .before .before .before .before .before .pre in (p .0, (omega arith, p .1 .1))
 
 returns-2 : tie.Need-returns-2
-returns-2 c =
+returns-2 c x =
     let e = c .before in
     let b = e .before .before .before .before .before in
     let a = b .args in
-    let k = sym (b .pre .1 .1 .0) in
+    let k = sym (b .pre .1 .0) in
     let m = two-tokens (a .source .now) (a .line .tokens) (a .line .count) _ k in
     let h : 2 < a .line .count = omega (arith, m, e .if1 .left) in
     rw (first (a .line .tokens) (b .pre .0 .kept .nine))
-    (comes-labelled (a .source .now) (a .line) (a .words) (a .config) (b .pre .0) m k (c .instruction-fault .result) h (c .instruction-fault .ensures))
+    (record-labelled (a .source .now) (a .line) x (b .pre .0) m k (c .read-instruction .result) h (c .read-instruction .ensures .0) (c .read-instruction .ensures .1))
 
 pub read-label-spec : {M : Type 1} → statement M
 read-label-spec =
-    tie.close (tie.spec array-copy-out-label label-alone-requires returns instruction-fault-requires add-t18 returns-2)
+    tie.close (tie.spec array-copy-out-label label-alone-requires returns read-instruction-requires returns-2)

@@ -1,20 +1,15 @@
 -- `passes::line::read_line` meets its contract.
-use Rattle.passes.proofs.Steps.{comes-straight, comes-alone, comes-bare}
 use borrow.Author.Needs.{needs}
+use Rattle.passes.specs.Contracts.{contextFor}
+use Rattle.passes.proofs.Steps.{line-instruction, line-label, line-empty}
 use Rattle.passes.proofs.line.read_line.Statement.{statement}
 use Rattle.passes.proofs.line.read_line.Tie as tie
 
 read-straight-requires : tie.Need-read-straight-requires
 read-straight-requires c κs = search needs
 
-enum-known-end : tie.Need-enum-known-end
-enum-known-end c = search needs
-
-counted-requires : tie.Need-counted-requires
-counted-requires c κs = search needs
-
-add-unlabelled : tie.Need-add-unlabelled
-add-unlabelled c = search needs
+enum-known-row : tie.Need-enum-known-row
+enum-known-row c = search needs
 
 unlabelled-requires : tie.Need-unlabelled-requires
 unlabelled-requires c κs = search needs
@@ -25,8 +20,8 @@ enum-known-start c = search needs
 label-alone-requires : tie.Need-label-alone-requires
 label-alone-requires c κs = search needs
 
-enum-known-end-2 : tie.Need-enum-known-end-2
-enum-known-end-2 c = search needs
+enum-known-end : tie.Need-enum-known-end
+enum-known-end c = search needs
 
 unlabelled-requires-2 : tie.Need-unlabelled-requires-2
 unlabelled-requires-2 c κs = search needs
@@ -39,25 +34,24 @@ read-record-requires c κs = search needs
 
 returns : tie.Need-returns
 returns c =
-    let e = c .before .before .before in
+    let e = c .before .before in
     let r = e .before .before in
     let a = r .before .before .args in
-    rw (c .unlabelled .ensures)
-    (comes-straight (a .source .now) (a .at) (a .words) _ (a .config) _ _ (c .before .counted .result) (rw (e .end .given .1) at (r .read-straight .ensures)) (c .before .counted .ensures))
+    rw (c .unlabelled .ensures) (line-instruction (a .source .now) (a .at) _ (contextFor (a .config)) _ _ (rw (e .row .given .1) at (r .read-straight .ensures)))
 
 returns-2 : tie.Need-returns-2
 returns-2 c =
     let e = c .before .before in
     let r = e .before .before in
     let a = r .before .before .args in
-    rw (c .label-alone .ensures) (comes-alone (a .source .now) (a .at) (a .words) _ (a .config) _ _ (rw (e .start .given .1) at (r .read-straight .ensures)))
+    rw (c .label-alone .ensures) (line-label (a .source .now) (a .at) _ (contextFor (a .config)) _ _ (rw (e .start .given .1) at (r .read-straight .ensures)))
 
 returns-3 : tie.Need-returns-3
 returns-3 c =
     let e = c .before .before in
     let r = e .before .before in
     let a = r .before .before .args in
-    rw (c .unlabelled2 .ensures) (comes-bare (a .source .now) (a .at) (a .words) _ (a .config) (rw (e .end2 .given .1) at (r .read-straight .ensures)))
+    rw (c .unlabelled2 .ensures) (line-empty (a .source .now) (a .at) _ (contextFor (a .config)) (rw (e .end .given .1) at (r .read-straight .ensures)))
 
 returns-4 : tie.Need-returns-4
 returns-4 c = search needs
@@ -67,13 +61,11 @@ read-line-spec =
     tie.close
     (tie.spec
     read-straight-requires
-    enum-known-end
-    counted-requires
-    add-unlabelled
+    enum-known-row
     unlabelled-requires
     enum-known-start
     label-alone-requires
-    enum-known-end-2
+    enum-known-end
     unlabelled-requires-2
     enum-told
     read-record-requires

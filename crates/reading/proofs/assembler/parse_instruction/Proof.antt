@@ -65,8 +65,7 @@ returns-2 : tie.Need-returns-2
 returns-2 c =
     let e = c .before .before in
     let b = e .before .before .before in
-    let a = b .args in
-    (
+    let a = b .args in (
       others-refused (getD (a .line .tokens) (a .at) past .kind) (spelling (a .source .now) (getD (a .line .tokens) (a .at) past)) _ _ (c .match .keys2)
           ∙ first-some (a .source .now) (a .line .tokens) (a .at) (a .line .count) past (e .if1 .left) (omega (arith, b .pre .0 .nine)),
       tt,

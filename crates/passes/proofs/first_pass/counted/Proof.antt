@@ -1,7 +1,7 @@
--- `passes::line::counted` meets its contract.
+-- `passes::first_pass::counted` meets its contract.
 use Rattle.passes.proofs.Steps.{word-none, word-many}
-use Rattle.passes.proofs.line.counted.Statement.{statement}
-use Rattle.passes.proofs.line.counted.Tie as tie
+use Rattle.passes.proofs.first_pass.counted.Statement.{statement}
+use Rattle.passes.proofs.first_pass.counted.Tie as tie
 
 returns : tie.Need-returns
 returns c = word-none _ (c .if1 .taken)
