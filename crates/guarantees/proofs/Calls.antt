@@ -142,8 +142,7 @@ module _ (bs text text′ : List ℕ) (r : Listing) (h : Lists bs text text′ r
       let (a, e) = is-written k in
       ap₂ (λ (n : ℕ) (x : List ℕ). take n x) (ap textLength a) e ∙ take-over (textOf bs) text
 
--- Bytes that are listed are filled by a call, which assembles their text, without a label table; the buffer holds just these bytes
--- beforehand, say.
+-- Bytes that are listed are filled by a call: that of their text, with a label table without entries and an image buffer of their length.
 listed-has-call : (bs : List ℕ) (n : ℕ) → AreBytes bs → Listed bs n → HasCall bs
 unfolding present-set
 listed-has-call bs n b k =
