@@ -14,7 +14,7 @@ use Rattle.image.specs.Lent.{Answer, answerOf, entered, imageAfter, ListAnswer,
 use Rattle.image.specs.Contracts.{openedMeant}
 use Rattle.passes.specs.Contracts.{answerMeant}
 use Rattle.listing.specs.Contracts.{listingMeant}
-use Rattle.guarantees.specs.Calls.{openingNumbers, OneOf, IsNumbered, IsOpening, IsListing, IsRefusal, IsUnlisted, labelCount, Demand1}
+use Rattle.guarantees.specs.Calls.{assemblingNumbers, openingNumbers, OneOf, IsNumbered, IsOpening, IsListing, IsRefusal, IsUnlisted, labelCount, Demand1}
 use Rattle.guarantees.proofs.Numbered.{OfFault, OfAnswer, OfListing, assembling-numbered, opening-numbered, listing-numbered}
 
 -- An answer that is a refusal is that of a refused source, which leaves the image.
@@ -33,7 +33,7 @@ unfolding listAnswerOf textAfter
 text-left text text′ (unwritten r) x e h k = h
 text-left text text′ (written t) x e h k = absurd (subst IsUnlisted e k)
 
-is-numbered : (a : Reading) (x : Answer) → x ≡ answerOf a → OfAnswer a → IsNumbered x
+is-numbered : (a : Reading) (x : Answer) → x ≡ answerOf a → OfAnswer assemblingNumbers a → IsNumbered x
 unfolding answerOf
 is-numbered (accepted st) x e h = subst IsNumbered (sym e) tt
 is-numbered (rejected r) x e h = subst IsNumbered (sym e) h

@@ -5,3 +5,4 @@ pub mod Demand3
 pub mod Demand1
 pub mod Calls
 pub mod Numbered
+pub mod Longest

@@ -21,11 +21,21 @@ use Rattle.image.specs.Program.{Header, magic, version, header-size, headerOf, 
 use Rattle.image.specs.Opening.{headerFault, openingFault}
 use Rattle.image.specs.Listing.{wordsOf, textOf, Refusal, refusal, isUsual, wordsFault, listingFault, Listing, written, rejected as unwritten, listing}
 use Rattle.image.specs.Assembling.{State, start, Step, next, stop, Kind, empty, labelled, config, ignored, plain, kindOf, isKnown, withLabel, enter, withSettings, most-words, withInstruction, afterLabel, stepOn, step, Walk, finished, stopped, walk, Assembled, accepted, rejected, refusing, readTo, most-bytes, reading, fitted, assembling}
-use Rattle.guarantees.specs.Calls.{assemblingNumbers, openingNumbers, listingNumbers, isOneOf, OneOf}
+use Rattle.guarantees.specs.Calls.{readingNumbers, assemblingNumbers, openingNumbers, textlessNumbers, listingNumbers, isOneOf, OneOf}
 
--- The number is one of assembling's.
+-- One of some numbers is one of more.
+pub one-of-more : (ms ns : List ℕ) (n : ℕ) → OneOf ms n → OneOf (ms ++ ns) n
+one-of-more [] ns n h = absurd (true≢false (sym h))
+one-of-more (m ∷ ms) ns n h = go (eqb n m) h (one-of-more ms ns n)
+  where
+    go : (b : Bool) → elim b [ true ↦ true | false ↦ isOneOf ms n ] ≡ true → (OneOf ms n → OneOf (ms ++ ns) n)
+        → elim b [ true ↦ true | false ↦ isOneOf (ms ++ ns) n ] ≡ true
+    go true h f = refl
+    go false h f = f h
+
+-- A number that a source can be refused with as it is read.
 abbrev Numbered : ℕ → Type 0
-Numbered = OneOf assemblingNumbers
+Numbered = OneOf readingNumbers
 
 -- ---- reading an instruction
 
@@ -255,20 +265,20 @@ of-walk names room line at st (l ∷ ls) =
 
 -- ---- the answer
 
-abbrev pub OfAnswer : Assembled → Type 0
-OfAnswer (accepted st) = Unit {0}
-OfAnswer (rejected r) = Numbered (r .number)
+abbrev pub OfAnswer : List ℕ → Assembled → Type 0
+OfAnswer ns (accepted st) = Unit {0}
+OfAnswer ns (rejected r) = OneOf ns (r .number)
 
-of-read : (w : Walk) → OfWalk w → OfAnswer (readTo w)
+of-read : (w : Walk) → OfWalk w → OfAnswer readingNumbers (readTo w)
 unfolding readTo refusing
 of-read (finished st) h = tt
 of-read (stopped n line st) h = h
 
-of-reading : (names : List Name) (s : List ℕ) (room : ℕ) → OfAnswer (reading names s room)
+pub reading-numbered : (names : List Name) (s : List ℕ) (room : ℕ) → OfAnswer readingNumbers (reading names s room)
 unfolding reading refusing
-of-reading names s room = go (leb (length s) most-bytes) (every ascii s)
+reading-numbered names s room = go (leb (length s) most-bytes) (every ascii s)
   where
-    go : (a b : Bool) → OfAnswer (elim a [
+    go : (a b : Bool) → OfAnswer readingNumbers (elim a [
       | false ↦ refusing 1 0 0 [] none
       | true ↦ elim b [
         | false ↦ refusing 2 0 (length (lines (before ascii s))) [] none
@@ -279,18 +289,18 @@ of-reading names s room = go (leb (length s) most-bytes) (every ascii s)
     go true false = refl
     go true true = of-read (walk names room 1 0 start (lines s)) (of-walk names room 1 0 start (lines s))
 
-of-fitted : (size : ℕ) (a : Assembled) → OfAnswer a → OfAnswer (fitted size a)
+of-fitted : (size : ℕ) (a : Assembled) → OfAnswer readingNumbers a → OfAnswer assemblingNumbers (fitted size a)
 unfolding fitted refusing
-of-fitted size (rejected r) h = h
+of-fitted size (rejected r) h = one-of-more readingNumbers (23 ∷ []) (r .number) h
 of-fitted size (accepted st) h = go (leb (imageLength (length (st .instructions))) size)
   where
-    go : (b : Bool) → OfAnswer (elim b [ true ↦ accepted st | false ↦ refusing 23 0 0 (st .labels) (some (imageLength (length (st .instructions)))) ])
+    go : (b : Bool) → OfAnswer assemblingNumbers (elim b [ true ↦ accepted st | false ↦ refusing 23 0 0 (st .labels) (some (imageLength (length (st .instructions)))) ])
     go true = tt
     go false = refl
 
-pub assembling-numbered : (names : List Name) (s : List ℕ) (room size : ℕ) → OfAnswer (assembling names s room size)
+pub assembling-numbered : (names : List Name) (s : List ℕ) (room size : ℕ) → OfAnswer assemblingNumbers (assembling names s room size)
 unfolding assembling
-assembling-numbered names s room size = of-fitted size (reading names s room) (of-reading names s room)
+assembling-numbered names s room size = of-fitted size (reading names s room) (reading-numbered names s room)
 
 -- ---- opening and listing
 
@@ -319,16 +329,6 @@ opening-numbered b =
     go false none k true false = refl
     go false none k true true = tt
 
--- One of some numbers is one of more.
-one-of-more : (ms ns : List ℕ) (n : ℕ) → OneOf ms n → OneOf (ms ++ ns) n
-one-of-more [] ns n h = absurd (true≢false (sym h))
-one-of-more (m ∷ ms) ns n h = go (eqb n m) h (one-of-more ms ns n)
-  where
-    go : (b : Bool) → elim b [ true ↦ true | false ↦ isOneOf ms n ] ≡ true → (OneOf ms n → OneOf (ms ++ ns) n)
-        → elim b [ true ↦ true | false ↦ isOneOf (ms ++ ns) n ] ≡ true
-    go true h f = refl
-    go false h f = f h
-
 -- Two refusals that are equal have one number, and a value is none.
 abbrev numberOf : Result Instruction → ℕ
 numberOf (value i) = 0
@@ -341,23 +341,23 @@ value-not : {i : Instruction} {m : ℕ} → _≡_ {A = Result Instruction} (valu
 value-not q = let e = ap numberOf q in absurd (omega (arith, e))
 
 -- A refusal's number, if there is one.
-abbrev OfRefusal : Option Refusal → Type 0
+abbrev pub OfRefusal : Option Refusal → Type 0
 OfRefusal none = Unit {0}
-OfRefusal (some r) = OneOf listingNumbers (r .number)
+OfRefusal (some r) = OneOf textlessNumbers (r .number)
 
-of-decoded : (w n : ℕ) → instructionOf w ≡ refused n → OneOf listingNumbers n
+of-decoded : (w n : ℕ) → instructionOf w ≡ refused n → OneOf textlessNumbers n
 unfolding instructionOf
 of-decoded w n e = go (rowCoded (w % 128)) e
   where
-    clear : (r : Row) (b : Bool) → _≡_ {A = Result Instruction} (elim b [ true ↦ value (taken r w) | false ↦ refused 31 ]) (refused n) → OneOf listingNumbers n
+    clear : (r : Row) (b : Bool) → _≡_ {A = Result Instruction} (elim b [ true ↦ value (taken r w) | false ↦ refused 31 ]) (refused n) → OneOf textlessNumbers n
     clear r true q = absurd (value-not q)
-    clear r false q = subst (OneOf listingNumbers) (refused-is q) refl
+    clear r false q = subst (OneOf textlessNumbers) (refused-is q) refl
 
     go : (o : Option Row) → _≡_ {A = Result Instruction} (elim o [
       | none ↦ refused 30
       | some r ↦ elim (ltb w (2 ^ unusedFrom (places (r .form)))) [ true ↦ value (taken r w) | false ↦ refused 31 ]
-    ]) (refused n) → OneOf listingNumbers n
-    go none q = subst (OneOf listingNumbers) (refused-is q) refl
+    ]) (refused n) → OneOf textlessNumbers n
+    go none q = subst (OneOf textlessNumbers) (refused-is q) refl
     go (some r) q = clear r (ltb w (2 ^ unusedFrom (places (r .form)))) q
 
 words-numbered : (i : ℕ) (ws : List ℕ) → OfRefusal (wordsFault i ws)
@@ -365,12 +365,12 @@ unfolding wordsFault refusal
 words-numbered i [] = tt
 words-numbered i (w ∷ ws) = go (instructionOf w) (of-decoded w) (words-numbered (suc i) ws)
   where
-    go : (x : Result Instruction) → ((n : ℕ) → x ≡ refused n → OneOf listingNumbers n) → OfRefusal (wordsFault (suc i) ws)
+    go : (x : Result Instruction) → ((n : ℕ) → x ≡ refused n → OneOf textlessNumbers n) → OfRefusal (wordsFault (suc i) ws)
         → OfRefusal (elim x [ value _ ↦ wordsFault (suc i) ws | refused n ↦ some (refusal n (some i) none) ])
     go (value j) f k = k
     go (refused n) f k = f n refl
 
-fault-numbered : (b : List ℕ) → OfRefusal (listingFault b)
+pub fault-numbered : (b : List ℕ) → OfRefusal (listingFault b)
 unfolding listingFault refusal
 fault-numbered b = go (openingFault b) (opening-numbered b) (isUsual (headerOf b))
   where
@@ -378,7 +378,7 @@ fault-numbered b = go (openingFault b) (opening-numbered b) (isUsual (headerOf b
       | some n ↦ some (refusal n none none)
       | none ↦ elim u [ false ↦ some (refusal 29 none none) | true ↦ wordsFault 0 (wordsOf (codeOf b)) ]
     ])
-    go (some n) k u = one-of-more openingNumbers (29 ∷ 30 ∷ 31 ∷ 32 ∷ []) n k
+    go (some n) k u = one-of-more openingNumbers (29 ∷ 30 ∷ 31 ∷ []) n k
     go none k false = refl
     go none k true = words-numbered 0 (wordsOf (codeOf b))
 
@@ -394,6 +394,6 @@ listing-numbered b size = go (listingFault b) (fault-numbered b) (leb (length (t
       | some r ↦ unwritten r
       | none ↦ elim u [ true ↦ written (textOf b) | false ↦ unwritten (refusal 32 none (some (length (textOf b)))) ]
     ])
-    go (some r) k u = k
+    go (some r) k u = one-of-more textlessNumbers (32 ∷ []) (r .number) k
     go none k true = tt
     go none k false = refl

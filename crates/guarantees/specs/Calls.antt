@@ -29,19 +29,26 @@ use Rattle.guarantees.specs.Promises.{Agree, AreBytes}
 
 -- ---- the numbers of refusals
 
--- Assembling: from "1 source over 1,048,576 bytes" to "23 image buffer too short".
+-- Reading a source: from "1 source over 1,048,576 bytes" to "22 a 32,769th instruction".
+abbrev pub readingNumbers : List ℕ
+readingNumbers = 1 ∷ 2 ∷ 3 ∷ 4 ∷ 5 ∷ 6 ∷ 7 ∷ 8 ∷ 9 ∷ 10 ∷ 11 ∷ 12 ∷ 13 ∷ 14 ∷ 15 ∷ 16 ∷ 17 ∷ 18 ∷ 19 ∷ 20 ∷ 21 ∷ 22 ∷ []
+
+-- Assembling: these, and "At the end: 23 image buffer too short".
 abbrev pub assemblingNumbers : List ℕ
-assemblingNumbers =
-    1 ∷ 2 ∷ 3 ∷ 4 ∷ 5 ∷ 6 ∷ 7 ∷ 8 ∷ 9 ∷ 10 ∷ 11 ∷ 12 ∷ 13 ∷ 14 ∷ 15 ∷ 16 ∷ 17 ∷ 18 ∷ 19 ∷ 20 ∷ 21 ∷ 22 ∷ 23 ∷ []
+assemblingNumbers = readingNumbers ++ (23 ∷ [])
 
 -- Opening: "In order: 24 under 32 bytes; 25 wrong magic; 26 wrong version; 10 to 13 on the settings; 27 code size no multiple of 4;
 -- 28 length differs".
 abbrev pub openingNumbers : List ℕ
 openingNumbers = 24 ∷ 25 ∷ 26 ∷ 10 ∷ 11 ∷ 12 ∷ 13 ∷ 27 ∷ 28 ∷ []
 
--- Listing: "First Opening's refusals, then 29"; "30 unknown opcode, 31 an unused bit set"; "Last, 32 text buffer too short".
+-- An image without a text: "First Opening's refusals, then 29"; "30 unknown opcode, 31 an unused bit set".
+abbrev pub textlessNumbers : List ℕ
+textlessNumbers = openingNumbers ++ (29 ∷ 30 ∷ 31 ∷ [])
+
+-- Listing: these, and "Last, 32 text buffer too short".
 abbrev pub listingNumbers : List ℕ
-listingNumbers = openingNumbers ++ (29 ∷ 30 ∷ 31 ∷ 32 ∷ [])
+listingNumbers = textlessNumbers ++ (32 ∷ [])
 
 -- Whether a number is one of these.
 abbrev pub isOneOf : List ℕ → ℕ → Bool
