@@ -131,7 +131,7 @@ module _ (b : List ℕ) (size : ℕ) where
       go none e true = text-most b e
       go none e false = omega arith
 
-  never-32 : 720962 ≤ size → listNumber (listAnswerOf (listing b size)) ≡ 32 → ⊥
+  never-32 : 720959 ≤ size → listNumber (listAnswerOf (listing b size)) ≡ 32 → ⊥
   unfolding listing listAnswerOf refusal
   never-32 h = go (listingFault b) refl (fault-numbered b) (leb (length (textOf b)) size) refl
     where
@@ -159,7 +159,7 @@ promises =
             number = subst (OneOf (0 ∷ assemblingNumbers)) (sym (h .number)) (assembling-number a n);
             image-kept = λ k. h .image-holds ∙ image-left source image a (λ e. k (h .number ∙ e));
             image-length = λ e. omega (arith, ap (λ (x : List ℕ). getD x 0 0) (h .answer), words-answered source room size (z .0 e));
-            image-fits = λ l e. never-23 source room size l (sym (h .number) ∙ e);
+            image-fits = λ l e. never-23 source room size (omega arith) (sym (h .number) ∙ e);
           };
       opening = λ image answer′ r h.
           record {
@@ -175,6 +175,6 @@ promises =
             number = subst (OneOf (0 ∷ listingNumbers)) (sym (h .number)) (listing-number w n);
             text-kept = λ k. h .text-holds ∙ text-left text w (λ e. k (h .number ∙ e));
             text-length = λ e. omega (arith, ap (λ (x : List ℕ). getD x 0 0) (h .answer), text-answered image size);
-            text-fits = λ l e. never-32 image size l (sym (h .number) ∙ e);
+            text-fits = λ l e. never-32 image size (omega arith) (sym (h .number) ∙ e);
           };
     }
