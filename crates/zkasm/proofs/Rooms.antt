@@ -13,6 +13,7 @@ use Rattle.spelling.specs.Names.{Name, present}
 use Rattle.text.specs.Lines.{extended, lines, readLine}
 use Rattle.instruction.specs.Operands.{Instruction}
 use Rattle.instruction.specs.Words.{wordOf}
+use Rattle.image.specs.Settings.{begin}
 use Rattle.image.specs.Program.{header-size, imageLength}
 use Rattle.image.specs.Assembling.{Effect, nothing, sets, codes, faulty, Context, readOn, contextAfter, readsFrom, reads, Assembled, accepted, rejected, reading, fitted, assembling}
 use Rattle.image.specs.Listing.{textOf, listingFault, written, listing}
