@@ -1,8 +1,8 @@
 /* Assembling zkIR v3.4 text to program images, opening such images, and listing them as text again.
  *
- * Three functions, and one of them in a second form, whose every answer is proved: crates/capi holds their contracts. Each takes any input,
- * and returns 0, or the number of the one refusal that meets it (enum zkasm_refusal). In both cases it fills its answer; a field that says
- * nothing is 0.
+ * Three functions, and one of them in a second form, whose every answer is proved: crates/capi holds their contracts, and
+ * crates/capi/specs/Promises.antt what follows for a caller. Each takes any input, and returns 0, or the number of the one refusal that
+ * meets it (enum zkasm_refusal). In both cases it fills its answer; a field that says nothing is 0.
  *
  * What a caller owes, and no proof can see:
  *   - each pointer is aligned for its type and not NULL, even where its length is 0. The functions are marked so (ZKASM_NONNULL), and gcc
@@ -99,7 +99,7 @@ typedef struct zkasm_assembled {
  *   image, image_length     room for the image. Accepted: its first 32 + 4 * words bytes are written, the header and then a word each,
  *                           lowest byte first; later bytes keep their values. Refused: the bytes are as before
  *   answer                  filled in every case
- * 131,104 bytes hold every image. */
+ * 131,104 bytes hold every image: with as many, 23 is never returned. */
 ZKASM_NONNULL
 uint32_t zkasm_assemble(const uint8_t *source, size_t source_length, zkasm_label *table, size_t table_length, uint8_t *image,
                         size_t image_length, zkasm_assembled *answer);
@@ -142,7 +142,7 @@ typedef struct zkasm_listed {
  *   text, text_length     room for the text. Accepted: its first `length` bytes are written, with no 0 after them; later bytes keep their
  *                         values. Refused: the bytes are as before
  *   answer                filled in every case
- * 720,962 bytes hold every text. */
+ * 720,962 bytes hold every text: with as many, 32 is never returned. */
 ZKASM_NONNULL
 uint32_t zkasm_list(const uint8_t *image, size_t image_length, uint8_t *text, size_t text_length, zkasm_listed *answer);
 

@@ -1,3 +1,3 @@
 pub mod Answers
 pub mod Passed
-pub mod Zero
+pub mod Promises

@@ -1,23 +1,34 @@
 -- Calls do what demand 3 speaks of.
-use Prim.Native.Nat.{ℕ}
-use mathlib.Core.Path.{_≡_, refl, sym, ap, _∙_, subst}
+use Prim.Native.Nat.{ℕ, _+_, _*_, _≤_}
+use mathlib.Core.Path.{_≡_, refl, sym, ap, ap₂, _∙_, subst}
+use mathlib.Core.Logic.{_↔_}
 use mathlib.Core.Bool.{true, true≢false}
-use mathlib.Core.List.{List}
-use lib.ListN.{length, take}
+use mathlib.Core.List.{List, [], map}
+use native.Mathlib.Omega.{arith}
+use lib.ListN.{length, take, length-map}
 use Rattle.spelling.specs.Names.{present}
+use Rattle.instruction.specs.Words.{wordOf}
+use Rattle.image.specs.Settings.{Settings, settings}
+use Rattle.image.specs.Program.{header-size, imageLength}
 use Rattle.image.specs.Assembling.{Assembled as Reading, accepted, rejected, assembling}
 use Rattle.image.specs.Listing.{textOf, Listing as Written, written, rejected as unwritten, listing}
-use Rattle.image.specs.Meaning.{instructionsOf, settingsOf, imageOf, isAccepted, Accepted, isWritten}
-use Rattle.image.specs.Lent.{over, Answer, assembled, answerOf, entered, imageAfter, ListAnswer, listAnswerOf, textAfter}
+use Rattle.image.specs.Meaning.{instructionsOf, settingsOf, imageOf, isAccepted, Accepted, isWritten, Listed}
+use Rattle.image.specs.Lent.{over, Answer, assembled, answerOf, entered, imageAfter, ListAnswer, listed, listAnswerOf, textAfter}
+use Rattle.image.specs.declared.config.Config.{Config}
+use Rattle.labels.specs.Contracts.{entryOf}
 use Rattle.labels.specs.declared.label.Label.{Label as Entry}
 use Rattle.passes.specs.Contracts.{answerMeant}
 use Rattle.passes.specs.declared.second_pass.Assembled.{Assembled}
+use Rattle.passes.specs.declared.second_pass.Assembled.the-variants.{Is as IsAssembled}
 use Rattle.assembling.specs.Contracts.{Assembles}
+use Rattle.listing.specs.Contracts.{listingMeant, Lists}
+use Rattle.listing.specs.declared.disassembler.Listing.{Listing}
+use Rattle.image.proofs.Images.{image-length}
 use Rattle.image.proofs.Over.{take-over}
-use Rattle.guarantees.proofs.NameSets.{present-set}
-use Rattle.listing.specs.Contracts.{listingMeant}
 use Rattle.image.proofs.Walking.{accepted-assembles}
-use Rattle.guarantees.specs.Calls.{IsRefusal, IsUnlisted, Calls}
+use Rattle.guarantees.specs.Promises.{AreBytes, HasSource}
+use Rattle.guarantees.specs.Calls.{IsRefusal, IsUnlisted, wordCount, textLength, AcceptedCall, filled, HasCall, Calls}
+use Rattle.guarantees.proofs.NameSets.{present-set}
 use Rattle.guarantees.proofs.Demand3.{demand-3}
 
 -- ---- assembling
@@ -45,6 +56,53 @@ module _ (source : List ℕ) (room : ℕ) (image image′ : List ℕ) (x : Answe
   unfolding imageAfter
   fills = let a = accepted-assembles present source room (length image) k in h ∙ ap (λ (w : Reading). imageAfter present source w image) (a .answer)
 
+-- ---- the bytes that a call has filled
+
+image-size : (source : List ℕ) → length (imageOf present source) ≡ 32 + 4 * length (instructionsOf present source)
+unfolding imageOf imageLength header-size
+image-size source =
+    let is = instructionsOf present source in
+    image-length (settingsOf present source) (map wordOf is) ∙ ap (λ (n : ℕ). 32 + 4 * n) (length-map is wordOf)
+
+module _ {source : List ℕ} (c : AcceptedCall source) where
+  is-accepted : Accepted present source (length (c .table)) (length (c .image))
+  is-accepted = accepts _ (answerMeant (c .answer)) (c .promised .answer) (c .not-refused)
+
+  -- They are the source's image.
+  filled-image : filled c ≡ imageOf present source
+  filled-image =
+      let room = length (c .table) in
+      let a = answers source room (c .image) (c .image′) (answerMeant (c .answer)) (c .promised .answer) (c .promised .image-holds) is-accepted in
+      let f = fills source room (c .image) (c .image′) (answerMeant (c .answer)) (c .promised .answer) (c .promised .image-holds) is-accepted in
+      ap₂ (λ (n : ℕ) (x : List ℕ). take (32 + 4 * n) x) (ap wordCount a) f
+      ∙ ap (λ (n : ℕ). take n (over (imageOf present source) (c .image))) (sym (image-size source))
+      ∙ take-over (imageOf present source) (c .image)
+
+-- Equations of what is filled are those of images.
+filled-tell : {source source′ : List ℕ} {P : Type 0} (c : AcceptedCall source) (c′ : AcceptedCall source′)
+    → (imageOf present source ≡ imageOf present source′) ↔ P → (filled c ≡ filled c′) ↔ P
+filled-tell c c′ (to, from) = (λ e. to (sym (filled-image c) ∙ e ∙ filled-image c′), λ p. filled-image c ∙ from p ∙ sym (filled-image c′))
+
+-- A source that is accepted with a table and an image buffer has such a call, since what the contract promises of one are equations.
+abbrev configOf : Settings → Config
+configOf s = record { «limb_bits» = s .limb-bits; «data_limbs» = s .data-limbs; «addr_limbs» = s .addr-limbs }
+
+accepted-is-called : (source : List ℕ) (table : List Entry) (image : List ℕ) → Accepted present source (length table) (length image) → AcceptedCall source
+unfolding answerOf settings
+accepted-is-called source table image k =
+    let w = assembling present source (length table) (length image) in
+    let a = accepted-assembles present source (length table) (length image) k in
+    let st = a .state in
+    record {
+      table = table;
+      image = image;
+      table′ = over (map entryOf (entered w)) table;
+      image′ = imageAfter present source w image;
+      answer = IsAssembled (length (st .instructions)) (length (st .labels)) (configOf (st .setup));
+      promised = record { answer = sym (ap answerOf (a .answer)); table-holds = refl; image-holds = refl };
+      not-refused = λ r. r;
+    }
+
 -- ---- listing
 
 writes : (w : Written) (x : ListAnswer) → x ≡ listAnswerOf w → (IsUnlisted x → ⊥) → isWritten w ≡ true
@@ -66,29 +124,67 @@ again bs table image table′ image′ r (k, e) h =
       fills (textOf bs) (length table) image image′ (answerMeant r) (h .answer) (h .image-holds) k ∙ ap (λ (b : List ℕ). over b image) e,
     )
 
--- The front of what a call has left in a text buffer is the text that it has written.
-front-text : (t old new : List ℕ) → new ≡ over t old → take (length t) new ≡ t
-front-text t old new e = ap (take (length t)) e ∙ take-over t old
+-- ---- what a call has written, and the calls that fill bytes
+
+module _ (bs text text′ : List ℕ) (r : Listing) (h : Lists bs text text′ r) where
+  is-listed : (IsUnlisted (listingMeant r) → ⊥) → Listed bs (length text)
+  is-listed = writes (listing bs (length text)) (listingMeant r) (h .answer)
+
+  is-written : Listed bs (length text) → (listingMeant r ≡ listed (length (textOf bs))) × (text′ ≡ over (textOf bs) text)
+  unfolding listAnswerOf textAfter
+  is-written k =
+      let q = demand-3 .writes-text bs (length text) k in
+      (h .answer ∙ ap listAnswerOf q, h .text ∙ ap (λ (w : Written). textAfter w text) q)
+
+  -- The front of the text buffer, as long as is answered, is the text.
+  front-text : Listed bs (length text) → take (textLength (listingMeant r)) text′ ≡ textOf bs
+  front-text k =
+      let (a, e) = is-written k in
+      ap₂ (λ (n : ℕ) (x : List ℕ). take n x) (ap textLength a) e ∙ take-over (textOf bs) text
+
+-- Bytes that are listed are filled by a call: that of their text, with a label table without entries and an image buffer of their length.
+listed-has-call : (bs : List ℕ) (n : ℕ) → AreBytes bs → Listed bs n → HasCall bs
+unfolding present-set
+listed-has-call bs n b k =
+    let (x, y) = demand-3 .text-assembles present-set bs n 0 (length bs) b k (omega arith) in
+    let c = accepted-is-called (textOf bs) [] bs x in
+    record { source = textOf bs; call = c; fills = filled-image c ∙ y }
+
+-- Bytes that a call has filled have a source.
+called-has-source : (bs : List ℕ) → HasCall bs → HasSource present bs
+called-has-source bs h =
+    let c = h .call in
+    record {
+      source = h .source;
+      table = length (c .table);
+      size = length (c .image);
+      is-accepted = is-accepted c;
+      same-image = sym (filled-image c) ∙ h .fills;
+    }
 
 pub calls : Calls
-unfolding listAnswerOf textAfter present-set
+unfolding present-set
 calls =
     record {
+      present-is = (present-set, refl);
       accepted-call = λ source table image table′ image′ r h.
           let a = assembling present source (length table) (length image) in
           (accepts a (answerMeant r) (h .answer), not-refused a (answerMeant r) (h .answer));
       fills-image = λ source table image table′ image′ r h k.
           let room = length table in
           (answers source room image image′ (answerMeant r) (h .answer) (h .image-holds) k, fills source room image image′ (answerMeant r) (h .answer) (h .image-holds) k);
-      listed-call = λ image text text′ r h.
-          let w = listing image (length text) in (writes w (listingMeant r) (h .answer), not-unlisted w (listingMeant r) (h .answer));
-      fills-text = λ image text text′ r h k.
-          let q = demand-3 .writes-text image (length text) k in (h .answer ∙ ap listAnswerOf q, h .text ∙ ap (λ (w : Written). textAfter w text) q);
-      present-is = (present-set, refl);
+      listed-call = λ image text text′ r h. (is-listed image text text′ r h, not-unlisted (listing image (length text)) (listingMeant r) (h .answer));
+      fills-text = λ image text text′ r h k. is-written image text text′ r h k;
+      equal-images = λ s s′ c c′.
+          filled-tell c c′
+          (demand-3 .images-tell present-set present-set s s′ (length (c .table)) (length (c′ .table)) (length (c .image)) (length (c′ .image)) (is-accepted c) (is-accepted c′));
+      lists-exactly = λ bs text text′ r b h.
+          let (to, from) = demand-3 .lists-exactly present-set bs (length text) b in (
+            (λ u. let k = is-listed bs text text′ r h u in (listed-has-call bs (length text) b k, to k .1)),
+            (λ (x : HasCall bs × (length (textOf bs) ≤ length text)). not-unlisted (listing bs (length text)) (listingMeant r) (h .answer) (from (called-has-source bs (x .0), x .1))),
+          );
       text-again = λ bs text text′ r b h u table image table′ image′ r′ l h′.
-          let k = writes (listing bs (length text)) (listingMeant r) (h .answer) u in
-          let q = demand-3 .writes-text bs (length text) k in
-          let written-is = h .text ∙ ap (λ (w : Written). textAfter w text) q in
+          let k = is-listed bs text text′ r h u in
           again bs table image table′ image′ r′ (demand-3 .text-assembles present-set bs (length text) (length table) (length image) b k l)
-          (subst (λ (s : List ℕ). Assembles s table image table′ image′ r′) (front-text (textOf bs) text text′ written-is) h′);
+          (subst (λ (s : List ℕ). Assembles s table image table′ image′ r′) (front-text bs text text′ r h k) h′);
     }

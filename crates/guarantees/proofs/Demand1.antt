@@ -1,6 +1,5 @@
 -- Demand 1 holds of every call.
 use Prim.Native.Nat.{ℕ, _+_}
-use native.Mathlib.Omega.{arith}
 use mathlib.Core.Option.{Option, none, some}
 use mathlib.Core.Path.{_≡_, sym, ap, subst}
 use mathlib.Core.List.{List}
@@ -15,7 +14,7 @@ use Rattle.image.specs.Lent.{Answer, answerOf, entered, imageAfter, ListAnswer,
 use Rattle.image.specs.Contracts.{openedMeant}
 use Rattle.passes.specs.Contracts.{answerMeant}
 use Rattle.listing.specs.Contracts.{listingMeant}
-use Rattle.guarantees.specs.Calls.{Opens, IsNumbered, IsOpening, IsListing, IsRefusal, IsUnlisted, labelCount, Demand1}
+use Rattle.guarantees.specs.Calls.{assemblingNumbers, openingNumbers, OneOf, IsNumbered, IsOpening, IsListing, IsRefusal, IsUnlisted, labelCount, Demand1}
 use Rattle.guarantees.proofs.Numbered.{OfFault, OfAnswer, OfListing, assembling-numbered, opening-numbered, listing-numbered}
 
 -- An answer that is a refusal is that of a refused source, which leaves the image.
@@ -34,16 +33,16 @@ unfolding listAnswerOf textAfter
 text-left text text′ (unwritten r) x e h k = h
 text-left text text′ (written t) x e h k = absurd (subst IsUnlisted e k)
 
-is-numbered : (a : Reading) (x : Answer) → x ≡ answerOf a → OfAnswer a → IsNumbered x
+is-numbered : (a : Reading) (x : Answer) → x ≡ answerOf a → OfAnswer assemblingNumbers a → IsNumbered x
 unfolding answerOf
 is-numbered (accepted st) x e h = subst IsNumbered (sym e) tt
 is-numbered (rejected r) x e h = subst IsNumbered (sym e) h
 
 is-opening : (b : List ℕ) (x : Result Opened) → x ≡ opening b → IsOpening x
 unfolding opening
-is-opening b x e = subst IsOpening (sym e) (go (openingFault b) (opening-numbered 28 (omega arith) b))
+is-opening b x e = subst IsOpening (sym e) (go (openingFault b) (opening-numbered b))
   where
-    go : (o : Option ℕ) → OfFault (Opens 28) o → IsOpening (elim o [
+    go : (o : Option ℕ) → OfFault (OneOf openingNumbers) o → IsOpening (elim o [
       | some n ↦ refused n
       | none ↦ value (record { header = headerOf b; code-end = header-size + headerOf b .code-size; code = codeOf b; initialized = dataOf b })
     ])

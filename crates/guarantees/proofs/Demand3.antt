@@ -141,8 +141,8 @@ none-listed b n h l = ap isWritten (none-written b n h l)
 
 -- ---- the text of what is listed, as a source
 
-key-of : (N : NameSet) (key : List ℕ) → isIdentifier key ≡ true → not (isRegister (N .names) key) ≡ true → every visible key ≡ true → length key ≤ 10 → Key (N .names) key
-key-of N key i r v l = record { is-identifier = i; no-register = not-true (isRegister (N .names) key) r; is-visible = v; is-short = l }
+key-of : (N : NameSet) (key : List ℕ) → isIdentifier key ≡ true → not (isRegister (N .names) key) ≡ true → every visible key ≡ true → Key (N .names) key
+key-of N key i r v = record { is-identifier = i; no-register = not-true (isRegister (N .names) key) r; is-visible = v }
 
 keys-of : (N : NameSet) → Keys (N .names)
 unfolding keys each limb-bits-key data-limbs-key addr-limbs-key bytes isIdentifier nameStart namePart letter digit between every visible
@@ -151,9 +151,9 @@ keys-of N =
     let (b, y) = both (not (isRegister (N .names) data-limbs-key)) _ x in
     let (c, z) = both (not (isRegister (N .names) addr-limbs-key)) _ y in
     record {
-      limb-bits = key-of N limb-bits-key refl a refl (omega arith);
-      data-limbs = key-of N data-limbs-key refl b refl (omega arith);
-      addr-limbs = key-of N addr-limbs-key refl c refl (omega arith);
+      limb-bits = key-of N limb-bits-key refl a refl;
+      data-limbs = key-of N data-limbs-key refl b refl;
+      addr-limbs = key-of N addr-limbs-key refl c refl;
     }
 
 instructions-length : (names : List Name) (ws : List ℕ) (r : AllRead names ws) → length (instructionsIn names ws r) ≡ length ws

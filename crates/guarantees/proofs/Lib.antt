@@ -6,3 +6,4 @@ pub mod Modulo
 pub mod Demand1
 pub mod Calls
 pub mod Numbered
+pub mod Longest

@@ -1,9 +1,8 @@
--- The numbers of refusals: of assembling 1 to 23, of opening and listing 10 to 13 and 24 on.
-use Prim.Native.Nat.{ℕ, suc, _+_, _-_, _%_, _^_, _≤_}
-use mathlib.Core.Path.{_≡_, refl, ap, subst}
-use mathlib.Core.Logic.{inl, inr}
+-- The numbers of refusals are those that the promises list.
+use Prim.Native.Nat.{ℕ, suc, _+_, _-_, _%_, _^_}
+use mathlib.Core.Path.{_≡_, refl, sym, ap, subst}
 use native.Mathlib.Omega.{arith}
-use mathlib.Core.Bool.{Bool, true, false}
+use mathlib.Core.Bool.{Bool, true, false, true≢false}
 use mathlib.Core.Option.{Option, none, some}
 use mathlib.Core.List.{List, [], _∷_, _++_, map}
 use lib.ListN.{length, drop}
@@ -22,7 +21,21 @@ use Rattle.image.specs.Program.{Header, magic, version, header-size, headerOf, 
 use Rattle.image.specs.Opening.{headerFault, openingFault}
 use Rattle.image.specs.Listing.{wordsOf, textOf, Refusal, refusal, isUsual, wordsFault, listingFault, Listing, written, rejected as unwritten, listing}
 use Rattle.image.specs.Assembling.{State, start, Step, next, stop, Kind, empty, labelled, config, ignored, plain, kindOf, isKnown, withLabel, enter, withSettings, most-words, withInstruction, afterLabel, stepOn, step, Walk, finished, stopped, walk, Assembled, accepted, rejected, refusing, readTo, most-bytes, reading, fitted, assembling}
-use Rattle.guarantees.specs.Calls.{Numbered, Opens}
+use Rattle.guarantees.specs.Calls.{readingNumbers, assemblingNumbers, openingNumbers, textlessNumbers, listingNumbers, isOneOf, OneOf}
+
+-- One of some numbers is one of more.
+pub one-of-more : (ms ns : List ℕ) (n : ℕ) → OneOf ms n → OneOf (ms ++ ns) n
+one-of-more [] ns n h = absurd (true≢false (sym h))
+one-of-more (m ∷ ms) ns n h = go (eqb n m) h (one-of-more ms ns n)
+  where
+    go : (b : Bool) → elim b [ true ↦ true | false ↦ isOneOf ms n ] ≡ true → (OneOf ms n → OneOf (ms ++ ns) n)
+        → elim b [ true ↦ true | false ↦ isOneOf (ms ++ ns) n ] ≡ true
+    go true h f = refl
+    go false h f = f h
+
+-- A number that a source can be refused with as it is read.
+abbrev Numbered : ℕ → Type 0
+Numbered = OneOf readingNumbers
 
 -- ---- reading an instruction
 
@@ -33,16 +46,16 @@ OfResult (refused n) = Numbered n
 of-register : (t : Token) → OfResult (readRegister t)
 unfolding readRegister
 of-register (register (some n)) = tt
-of-register (register none) = (omega arith, omega arith)
-of-register (identifier s) = (omega arith, omega arith)
-of-register (number z) = (omega arith, omega arith)
-of-register (hex n) = (omega arith, omega arith)
-of-register (binary n) = (omega arith, omega arith)
-of-register (directive s) = (omega arith, omega arith)
-of-register comma = (omega arith, omega arith)
-of-register colon = (omega arith, omega arith)
-of-register opening = (omega arith, omega arith)
-of-register closing = (omega arith, omega arith)
+of-register (register none) = refl
+of-register (identifier s) = refl
+of-register (number z) = refl
+of-register (hex n) = refl
+of-register (binary n) = refl
+of-register (directive s) = refl
+of-register comma = refl
+of-register colon = refl
+of-register opening = refl
+of-register closing = refl
 
 with-register : (n : ℕ) (rest : Result Operands) → OfResult rest → OfResult (withRegister n rest)
 unfolding withRegister
@@ -69,15 +82,15 @@ of-place (num bit width signed) t rest h = go (readNumber t)
   where
     go : (x : Option ℤ) → OfResult {A = Operands} (elim x [ some z ↦ withNumber z rest | none ↦ refused 8 ])
     go (some z) = with-number z rest h
-    go none = (omega arith, omega arith)
-of-place comma-place t rest h = of-mark (eqb (markByte t) 44) 19 rest (omega arith, omega arith) h
-of-place opening-place t rest h = of-mark (eqb (markByte t) 40) 20 rest (omega arith, omega arith) h
-of-place closing-place t rest h = of-mark (eqb (markByte t) 41) 21 rest (omega arith, omega arith) h
+    go none = refl
+of-place comma-place t rest h = of-mark (eqb (markByte t) 44) 19 rest refl h
+of-place opening-place t rest h = of-mark (eqb (markByte t) 40) 20 rest refl h
+of-place closing-place t rest h = of-mark (eqb (markByte t) 41) 21 rest refl h
 
 of-operands : (ps : List Place) (ts : List Token) → OfResult (readOperands ps ts)
 unfolding readOperands
 of-operands [] ts = tt
-of-operands (p ∷ ps) [] = (omega arith, omega arith)
+of-operands (p ∷ ps) [] = refl
 of-operands (p ∷ ps) (t ∷ ts) = of-place p t (readOperands ps ts) (of-operands ps ts)
 
 of-made : (r : Row) (o : Result Operands) → OfResult o → OfResult (made r o)
@@ -91,18 +104,18 @@ of-row r count ts = go (eqb count (length (places (r .form))))
   where
     go : (b : Bool) → OfResult {A = Instruction} (elim b [ true ↦ made r (readOperands (places (r .form)) ts) | false ↦ refused 16 ])
     go true = of-made r (readOperands (places (r .form)) ts) (of-operands (places (r .form)) ts)
-    go false = (omega arith, omega arith)
+    go false = refl
 
 of-mnemonic : (t : Token) (count : ℕ) (ts : List Token) → OfResult (readMnemonic t count ts)
 unfolding readMnemonic
 of-mnemonic t count ts = go (readIdentifier t)
   where
     named : (o : Option Row) → OfResult {A = Instruction} (elim o [ none ↦ refused 15 | some r ↦ readRow r count ts ])
-    named none = (omega arith, omega arith)
+    named none = refl
     named (some r) = of-row r count ts
 
     go : (x : Option (List ℕ)) → OfResult {A = Instruction} (elim x [ none ↦ refused 14 | some s ↦ elim (rowNamed (map lower s)) [ none ↦ refused 15 | some r ↦ readRow r count ts ] ])
-    go none = (omega arith, omega arith)
+    go none = refl
     go (some s) = named (rowNamed (map lower s))
 
 of-instruction : (l : Line) → OfResult (readInstruction l)
@@ -110,7 +123,7 @@ unfolding readInstruction
 of-instruction l = go (l .first)
   where
     go : (ts : List Token) → OfResult {A = Instruction} (elim ts [ [] ↦ refused 14 | t ∷ us ↦ readMnemonic t (l .count - 1) us ])
-    go [] = (omega arith, omega arith)
+    go [] = refl
     go (t ∷ us) = of-mnemonic t (l .count - 1) us
 
 -- ---- the `.config` line
@@ -135,7 +148,7 @@ of-checked : (x : Result Settings) → OfResult x → OfResult (checked x)
 unfolding checked
 of-checked (refused n) h = h
 of-checked (value s) h =
-    go (settingsFault s) (of-fault Numbered (omega arith, omega arith) (omega arith, omega arith) (omega arith, omega arith) (omega arith, omega arith) s)
+    go (settingsFault s) (of-fault Numbered refl refl refl refl s)
   where
     go : (o : Option ℕ) → OfFault Numbered o → OfResult {A = Settings} (elim o [ some n ↦ refused n | none ↦ value s ])
     go none k = tt
@@ -155,24 +168,24 @@ of-set s key v = go (same key limb-bits-key) (same key data-limbs-key) (same key
     go true b c = tt
     go false true c = tt
     go false false true = tt
-    go false false false = (omega arith, omega arith)
+    go false false false = refl
 
 of-configured : (s : Settings) (l : Line) → OfResult (configured s l)
 unfolding configured configuredWith configuredBy
 of-configured s l = go (eqb (l .count) 3) (drop 1 (l .first))
   where
     by-number : (k : List ℕ) (o : Option ℤ) → OfResult {A = Settings} (elim o [ none ↦ refused 8 | some z ↦ checked (setField s k (residue 8 z)) ])
-    by-number k none = (omega arith, omega arith)
+    by-number k none = refl
     by-number k (some z) = of-checked (setField s k (residue 8 z)) (of-set s k (residue 8 z))
 
     by-key : (v : Token) (o : Option (List ℕ)) → OfResult {A = Settings} (elim o [ none ↦ refused 7 | some k ↦ elim (readNumber v) [ none ↦ refused 8 | some z ↦ checked (setField s k (residue 8 z)) ] ])
-    by-key v none = (omega arith, omega arith)
+    by-key v none = refl
     by-key v (some k) = by-number k (readNumber v)
 
     go : (b : Bool) (ts : List Token) → OfResult {A = Settings} (elim b [ true ↦ configuredWith s ts | false ↦ refused 6 ])
-    go false ts = (omega arith, omega arith)
-    go true [] = (omega arith, omega arith)
-    go true (key ∷ []) = (omega arith, omega arith)
+    go false ts = refl
+    go true [] = refl
+    go true (key ∷ []) = refl
     go true (key ∷ v ∷ ts) = by-key v (readIdentifier key)
 
 -- ---- lines
@@ -191,7 +204,7 @@ of-word st (value i) h = go (ltb (length (st .instructions)) most-words)
       | false ↦ stop 22 st
     ])
     go true = tt
-    go false = (omega arith, omega arith)
+    go false = refl
 
 of-settings : (st : State) (x : Result Settings) → OfResult x → OfStep (withSettings st x)
 unfolding withSettings
@@ -212,13 +225,13 @@ unfolding enter
 of-label room st at s = go (isKnown (st .labels) s) (ltb (length (st .labels)) room)
   where
     go : (a b : Bool) → OfStep (elim a [ true ↦ stop 4 st | false ↦ elim b [ true ↦ next (withLabel st at s) | false ↦ stop 5 st ] ])
-    go true b = (omega arith, omega arith)
+    go true b = refl
     go false true = tt
-    go false false = (omega arith, omega arith)
+    go false false = refl
 
 of-line : (room : ℕ) (st : State) (at : ℕ) (o : Option Line) → OfStep (step room st at o)
 unfolding step stepOn
-of-line room st at none = (omega arith, omega arith)
+of-line room st at none = refl
 of-line room st at (some l) = go (kindOf (l .first))
   where
     go : (k : Kind) → OfStep (elim k [
@@ -252,72 +265,68 @@ of-walk names room line at st (l ∷ ls) =
 
 -- ---- the answer
 
-abbrev pub OfAnswer : Assembled → Type 0
-OfAnswer (accepted st) = Unit {0}
-OfAnswer (rejected r) = Numbered (r .number)
+abbrev pub OfAnswer : List ℕ → Assembled → Type 0
+OfAnswer ns (accepted st) = Unit {0}
+OfAnswer ns (rejected r) = OneOf ns (r .number)
 
-of-read : (w : Walk) → OfWalk w → OfAnswer (readTo w)
+of-read : (w : Walk) → OfWalk w → OfAnswer readingNumbers (readTo w)
 unfolding readTo refusing
 of-read (finished st) h = tt
 of-read (stopped n line st) h = h
 
-of-reading : (names : List Name) (s : List ℕ) (room : ℕ) → OfAnswer (reading names s room)
+pub reading-numbered : (names : List Name) (s : List ℕ) (room : ℕ) → OfAnswer readingNumbers (reading names s room)
 unfolding reading refusing
-of-reading names s room = go (leb (length s) most-bytes) (every ascii s)
+reading-numbered names s room = go (leb (length s) most-bytes) (every ascii s)
   where
-    go : (a b : Bool) → OfAnswer (elim a [
+    go : (a b : Bool) → OfAnswer readingNumbers (elim a [
       | false ↦ refusing 1 0 0 [] none
       | true ↦ elim b [
         | false ↦ refusing 2 0 (length (lines (before ascii s))) [] none
         | true ↦ readTo (walk names room 1 0 start (lines s))
       ]
     ])
-    go false b = (omega arith, omega arith)
-    go true false = (omega arith, omega arith)
+    go false b = refl
+    go true false = refl
     go true true = of-read (walk names room 1 0 start (lines s)) (of-walk names room 1 0 start (lines s))
 
-of-fitted : (size : ℕ) (a : Assembled) → OfAnswer a → OfAnswer (fitted size a)
+of-fitted : (size : ℕ) (a : Assembled) → OfAnswer readingNumbers a → OfAnswer assemblingNumbers (fitted size a)
 unfolding fitted refusing
-of-fitted size (rejected r) h = h
+of-fitted size (rejected r) h = one-of-more readingNumbers (23 ∷ []) (r .number) h
 of-fitted size (accepted st) h = go (leb (imageLength (length (st .instructions))) size)
   where
-    go : (b : Bool) → OfAnswer (elim b [ true ↦ accepted st | false ↦ refusing 23 0 0 (st .labels) (some (imageLength (length (st .instructions)))) ])
+    go : (b : Bool) → OfAnswer assemblingNumbers (elim b [ true ↦ accepted st | false ↦ refusing 23 0 0 (st .labels) (some (imageLength (length (st .instructions)))) ])
     go true = tt
-    go false = (omega arith, omega arith)
+    go false = refl
 
-pub assembling-numbered : (names : List Name) (s : List ℕ) (room size : ℕ) → OfAnswer (assembling names s room size)
+pub assembling-numbered : (names : List Name) (s : List ℕ) (room size : ℕ) → OfAnswer assemblingNumbers (assembling names s room size)
 unfolding assembling
-assembling-numbered names s room size = of-fitted size (reading names s room) (of-reading names s room)
+assembling-numbered names s room size = of-fitted size (reading names s room) (reading-numbered names s room)
 
 -- ---- opening and listing
 
-settings-numbered : (most : ℕ) (s : Settings) → OfFault (Opens most) (settingsFault s)
-settings-numbered most =
-    of-fault (Opens most) (inl (omega arith, omega arith)) (inl (omega arith, omega arith)) (inl (omega arith, omega arith)) (inl (omega arith, omega arith))
-
-header-numbered : (most : ℕ) → 28 ≤ most → (h : Header) → OfFault (Opens most) (headerFault h)
+header-numbered : (h : Header) → OfFault (OneOf openingNumbers) (headerFault h)
 unfolding headerFault
-header-numbered most m h = go (eqb (h .magic) magic) (eqb (h .version) version)
+header-numbered h = go (eqb (h .magic) magic) (eqb (h .version) version)
   where
-    go : (a b : Bool) → OfFault (Opens most) (elim a [ false ↦ some 25 | true ↦ elim b [ false ↦ some 26 | true ↦ settingsFault (h .setup) ] ])
-    go false b = inr (omega arith, omega arith)
-    go true false = inr (omega arith, omega arith)
-    go true true = settings-numbered most (h .setup)
+    go : (a b : Bool) → OfFault (OneOf openingNumbers) (elim a [ false ↦ some 25 | true ↦ elim b [ false ↦ some 26 | true ↦ settingsFault (h .setup) ] ])
+    go false b = refl
+    go true false = refl
+    go true true = of-fault (OneOf openingNumbers) refl refl refl refl (h .setup)
 
-pub opening-numbered : (most : ℕ) → 28 ≤ most → (b : List ℕ) → OfFault (Opens most) (openingFault b)
+pub opening-numbered : (b : List ℕ) → OfFault (OneOf openingNumbers) (openingFault b)
 unfolding openingFault
-opening-numbered most h b =
-    go (ltb (length b) header-size) (headerFault (headerOf b)) (header-numbered most h (headerOf b))
+opening-numbered b =
+    go (ltb (length b) header-size) (headerFault (headerOf b)) (header-numbered (headerOf b))
     (eqb (headerOf b .code-size % 4) 0) (eqb (length b) (header-size + headerOf b .code-size + headerOf b .data-size))
   where
-    go : (a : Bool) (o : Option ℕ) → OfFault (Opens most) o → (c d : Bool) → OfFault (Opens most) (elim a [
+    go : (a : Bool) (o : Option ℕ) → OfFault (OneOf openingNumbers) o → (c d : Bool) → OfFault (OneOf openingNumbers) (elim a [
       | true ↦ some 24
       | false ↦ elim o [ some n ↦ some n | none ↦ elim c [ false ↦ some 27 | true ↦ elim d [ false ↦ some 28 | true ↦ none ] ] ]
     ])
-    go true o k c d = inr (omega arith, omega arith)
+    go true o k c d = refl
     go false (some n) k c d = k
-    go false none k false d = inr (omega arith, omega arith)
-    go false none k true false = inr (omega arith, omega arith)
+    go false none k false d = refl
+    go false none k true false = refl
     go false none k true true = tt
 
 -- Two refusals that are equal have one number, and a value is none.
@@ -332,23 +341,23 @@ value-not : {i : Instruction} {m : ℕ} → _≡_ {A = Result Instruction} (valu
 value-not q = let e = ap numberOf q in absurd (omega (arith, e))
 
 -- A refusal's number, if there is one.
-abbrev OfRefusal : Option Refusal → Type 0
+abbrev pub OfRefusal : Option Refusal → Type 0
 OfRefusal none = Unit {0}
-OfRefusal (some r) = Opens 32 (r .number)
+OfRefusal (some r) = OneOf textlessNumbers (r .number)
 
-of-decoded : (w n : ℕ) → instructionOf w ≡ refused n → Opens 32 n
+of-decoded : (w n : ℕ) → instructionOf w ≡ refused n → OneOf textlessNumbers n
 unfolding instructionOf
 of-decoded w n e = go (rowCoded (w % 128)) e
   where
-    clear : (r : Row) (b : Bool) → _≡_ {A = Result Instruction} (elim b [ true ↦ value (taken r w) | false ↦ refused 31 ]) (refused n) → Opens 32 n
+    clear : (r : Row) (b : Bool) → _≡_ {A = Result Instruction} (elim b [ true ↦ value (taken r w) | false ↦ refused 31 ]) (refused n) → OneOf textlessNumbers n
     clear r true q = absurd (value-not q)
-    clear r false q = subst (Opens 32) (refused-is q) (inr (omega arith, omega arith))
+    clear r false q = subst (OneOf textlessNumbers) (refused-is q) refl
 
     go : (o : Option Row) → _≡_ {A = Result Instruction} (elim o [
       | none ↦ refused 30
       | some r ↦ elim (ltb w (2 ^ unusedFrom (places (r .form)))) [ true ↦ value (taken r w) | false ↦ refused 31 ]
-    ]) (refused n) → Opens 32 n
-    go none q = subst (Opens 32) (refused-is q) (inr (omega arith, omega arith))
+    ]) (refused n) → OneOf textlessNumbers n
+    go none q = subst (OneOf textlessNumbers) (refused-is q) refl
     go (some r) q = clear r (ltb w (2 ^ unusedFrom (places (r .form)))) q
 
 words-numbered : (i : ℕ) (ws : List ℕ) → OfRefusal (wordsFault i ws)
@@ -356,26 +365,26 @@ unfolding wordsFault refusal
 words-numbered i [] = tt
 words-numbered i (w ∷ ws) = go (instructionOf w) (of-decoded w) (words-numbered (suc i) ws)
   where
-    go : (x : Result Instruction) → ((n : ℕ) → x ≡ refused n → Opens 32 n) → OfRefusal (wordsFault (suc i) ws)
+    go : (x : Result Instruction) → ((n : ℕ) → x ≡ refused n → OneOf textlessNumbers n) → OfRefusal (wordsFault (suc i) ws)
         → OfRefusal (elim x [ value _ ↦ wordsFault (suc i) ws | refused n ↦ some (refusal n (some i) none) ])
     go (value j) f k = k
     go (refused n) f k = f n refl
 
-fault-numbered : (b : List ℕ) → OfRefusal (listingFault b)
+pub fault-numbered : (b : List ℕ) → OfRefusal (listingFault b)
 unfolding listingFault refusal
-fault-numbered b = go (openingFault b) (opening-numbered 32 (omega arith) b) (isUsual (headerOf b))
+fault-numbered b = go (openingFault b) (opening-numbered b) (isUsual (headerOf b))
   where
-    go : (o : Option ℕ) → OfFault (Opens 32) o → (u : Bool) → OfRefusal (elim o [
+    go : (o : Option ℕ) → OfFault (OneOf openingNumbers) o → (u : Bool) → OfRefusal (elim o [
       | some n ↦ some (refusal n none none)
       | none ↦ elim u [ false ↦ some (refusal 29 none none) | true ↦ wordsFault 0 (wordsOf (codeOf b)) ]
     ])
-    go (some n) k u = k
-    go none k false = inr (omega arith, omega arith)
+    go (some n) k u = one-of-more openingNumbers (29 ∷ 30 ∷ 31 ∷ []) n k
+    go none k false = refl
     go none k true = words-numbered 0 (wordsOf (codeOf b))
 
 abbrev pub OfListing : Listing → Type 0
 OfListing (written t) = Unit {0}
-OfListing (unwritten r) = Opens 32 (r .number)
+OfListing (unwritten r) = OneOf listingNumbers (r .number)
 
 pub listing-numbered : (b : List ℕ) (size : ℕ) → OfListing (listing b size)
 unfolding listing refusal
@@ -385,6 +394,6 @@ listing-numbered b size = go (listingFault b) (fault-numbered b) (leb (length (t
       | some r ↦ unwritten r
       | none ↦ elim u [ true ↦ written (textOf b) | false ↦ unwritten (refusal 32 none (some (length (textOf b)))) ]
     ])
-    go (some r) k u = k
+    go (some r) k u = one-of-more textlessNumbers (32 ∷ []) (r .number) k
     go none k true = tt
-    go none k false = inr (omega arith, omega arith)
+    go none k false = refl

@@ -67,6 +67,14 @@ starred =
     ∷ gives program (words-are (0xFFFF8588 ∷ 0x0004593A ∷ 0xFFFFF0C8 ∷ 0x00000050 ∷ []))
     ∷ []
 
+-- An example of our own. The starred line `.config limb_bits 276` sets the value that settings begin at, so a line that does nothing would
+-- meet it as well. Here another value is set first.
+unfoldable pub unstarred : List Example
+unstarred =
+    gives ".config limb_bits 24" (settings-are 24 2 2)
+    ∷ gives ".config limb_bits 24\n.config limb_bits 276" (settings-are 20 2 2)
+    ∷ []
+
 -- What the program prints for its example.
 unfoldable pub printed : String
 printed = ".config limb_bits 24\n.config data_limbs 2\n.config addr_limbs 2\naddi r11, r0, -1\nsw r11, 8(r2)\njal r1, -2\necall\n"

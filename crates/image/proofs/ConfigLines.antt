@@ -1,18 +1,18 @@
 -- Settings that lines lead to pass their checks, and a listed `.config` line sets its field again.
 use mathlib.Core.Path.{_≡_, refl, sym, ap, _∙_}
-use Prim.Native.Nat.{ℕ, _<_, _≤_}
+use Prim.Native.Nat.{ℕ, _<_}
 use native.Mathlib.Omega.{arith}
 use mathlib.Core.Bool.{Bool, true, false}
 use mathlib.Core.Option.{Option, none, some}
 use mathlib.Core.List.{List, [], _∷_, _++_, append-nil}
-use lib.ListN.{length, drop, length-append}
+use lib.ListN.{drop}
 use lib.Dec.{eqb}
 use lib.IntN.{ℤ, pos}
 use Rattle.spelling.specs.Bytes.{Result, value, refused, bytes, between, letter, digit, nameStart, namePart, every, same, each}
 use Rattle.spelling.specs.Numbers.{residue, decimal, signedDecimal}
 use Rattle.spelling.specs.Names.{Name}
 use Rattle.spelling.proofs.Strings.{every-append, ends}
-use Rattle.spelling.proofs.Numbers.{residue-small, decimal-length}
+use Rattle.spelling.proofs.Numbers.{residue-small}
 use Rattle.text.specs.Tokens.{Token, identifier, number, directive, isIdentifier, isRegister, infront, tokens}
 use Rattle.text.specs.Lines.{Line, lines, kept, lineOf, readLine}
 use Rattle.text.proofs.Tokens.{tokens-nil, Within64, reads-directive, reads-space, reads-identifier, reads-decimal}
@@ -107,7 +107,6 @@ pub record Key (names : List Name) (key : List ℕ) : Type 0 where
   pub is-identifier : isIdentifier key ≡ true
   pub no-register : isRegister names key ≡ false
   pub is-visible : every visible key ≡ true
-  pub is-short : length key ≤ 10
 
 -- The line, without its end.
 unfoldable pub configText : List ℕ → ℕ → List ℕ
@@ -139,10 +138,6 @@ module _ (names : List Name) (ok : each (λ n. isIdentifier (n .spelling)) names
         plain = high-plain 46 (omega arith);
         closed = closed-append (bytes ".config ") (key ++ (32 ∷ decimal v)) (closed-append key (32 ∷ decimal v) (closed-append (32 ∷ []) (decimal v) (decimal-closed v)));
       }
-
-  pub config-short : length (configText key v) ≤ 21
-  unfolding configText bytes
-  config-short = omega (arith, length-append key (32 ∷ decimal v), k .is-short, decimal-length 1 v small)
 
   -- It sets the field of its key.
   pub config-step : (room : ℕ) (st : State) (at : ℕ) (s : Settings) → setField (st .setup) key v ≡ value s → settingsFault s ≡ none

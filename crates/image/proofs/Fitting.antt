@@ -20,7 +20,7 @@ use Rattle.instruction.specs.Fits.{Fits, reducedTo}
 use Rattle.instruction.proofs.Rows.{carried}
 use Rattle.instruction.proofs.Decoding.{decode-encode, word-bound, decoded-fits, decoded-reduced, encode-decode}
 use Rattle.instruction.proofs.Reading.{numberedToken, read-fits, line-numbered, behind-numbered}
-use Rattle.instruction.proofs.Text.{operandTokens, noColon, no-colon, tokens-kept, tokens-read, text-visible, text-length, text-line}
+use Rattle.instruction.proofs.Text.{operandTokens, noColon, no-colon, tokens-kept, tokens-read, text-visible, text-line}
 use Rattle.image.specs.Assembling.{Kind, empty, labelled, config, ignored, plain, identifierKind, kindOf}
 use Rattle.image.specs.Meaning.{oneOf, instructionOn, instructionsOf}
 use Rattle.image.proofs.Images.{Words}
@@ -107,7 +107,6 @@ module _ (names : List Name) (N : Naming names) (free : each (λ r. not (isRegis
         instruction = i;
         decoded = d .1;
         is-visible = text-visible i f;
-        is-short = text-length i f r;
         line = lineOf (identifier (i .row .mnemonic) ∷ operandTokens i);
         is-line = text-line i f r names N n;
         is-plain = ap kindOf (tokens-kept i f) ∙ plain-first (i .row .mnemonic) (operandTokens i) (no-colon i);

@@ -2,6 +2,7 @@ pub mod Faults
 pub mod Settings
 pub mod Images
 pub mod Listed
+pub mod Lengths
 pub mod Walking
 pub mod ConfigLines
 pub mod Round

@@ -1,6 +1,6 @@
 -- The text of settings and words, taken as a source, is read to those settings and the words' instructions.
 use mathlib.Core.Path.{_≡_, refl, sym, ap, _∙_}
-use Prim.Native.Nat.{ℕ, suc, _+_, _*_, _<_, _≤_}
+use Prim.Native.Nat.{ℕ, suc, _+_, _<_, _≤_}
 use native.Mathlib.Omega.{arith}
 use mathlib.Core.Bool.{true}
 use mathlib.Core.Option.{some}
@@ -20,7 +20,9 @@ use Rattle.image.specs.Settings.{Settings, settings, begin, limb-bits-ke
 use Rattle.image.specs.Assembling.{State, start, next, plain, kindOf, most-words, withInstruction, stepOn, step, finished, walk, accepted, readTo, most-bytes, reading}
 use Rattle.image.specs.Listing.{lineText, settingText, settingsText, wordText}
 use Rattle.image.proofs.Settings.{Good, no-fault, small-bits, small-data, small-addr}
-use Rattle.image.proofs.ConfigLines.{Key, configText, config-visible, config-short, config-step}
+use Rattle.image.proofs.ConfigLines.{Key, configText, config-visible, config-step}
+use Rattle.image.proofs.Listed.{AllDecoded}
+use Rattle.image.proofs.Lengths.{settings-short, word-line, words-short}
 
 -- ---- one line more
 
@@ -45,7 +47,6 @@ pub record Reads (names : List Name) (w : ℕ) : Type 0 where
   pub instruction : Instruction
   pub decoded : instructionOf w ≡ value instruction
   pub is-visible : every visible (instructionText instruction) ≡ true
-  pub is-short : length (instructionText instruction) ≤ 21
   pub line : Line
   pub is-line : readLine names (instructionText instruction) ≡ some line
   pub is-plain : kindOf (line .first) ≡ plain
@@ -60,9 +61,10 @@ unfoldable pub instructionsIn : (names : List Name) (ws : List ℕ) → AllRead 
 instructionsIn names [] r = []
 instructionsIn names (w ∷ ws) r = r .0 .instruction ∷ instructionsIn names ws (r .1)
 
-word-text : (names : List Name) (w : ℕ) (r : Reads names w) → wordText w ≡ lineText (instructionText (r .instruction))
-unfolding wordText
-word-text names w r = rw (wordText, r .decoded)
+-- They are decoded.
+all-decoded : (names : List Name) (ws : List ℕ) → AllRead names ws → AllDecoded ws
+all-decoded names [] r = tt
+all-decoded names (w ∷ ws) r = ((r .0 .instruction, r .0 .decoded), all-decoded names ws (r .1))
 
 withMore : State → List Instruction → State
 withMore st is = record { labels = st .labels; instructions = st .instructions ++ is; setup = st .setup }
@@ -81,7 +83,7 @@ walk-words names room line at st [] r h =
 walk-words names room line at st (w ∷ ws) r h =
     let i = r .0 .instruction in
     let t = instructionText i in
-    ap (λ (x : List ℕ). walk names room line at st (lines (x ++ flatMap wordText ws))) (word-text names w (r .0))
+    ap (λ (x : List ℕ). walk names room line at st (lines (x ++ flatMap wordText ws))) (word-line w i (r .0 .decoded))
     ∙ walk-line names room line at st (withMore st (i ∷ [])) t (flatMap wordText ws) (r .0 .is-visible) (word-step names w room (at + indent t) st (r .0) (omega arith))
     ∙ walk-words names room (suc line) (at + suc (length t)) (withMore st (i ∷ [])) ws (r .1) (omega (arith, length-append (st .instructions) (i ∷ [])))
     ∙ ap (λ (x : List Instruction). finished (record { labels = st .labels; instructions = x; setup = st .setup }))
@@ -95,17 +97,7 @@ words-ascii : (names : List Name) (ws : List ℕ) → AllRead names ws → every
 unfolding flatMap every
 words-ascii names [] r = refl
 words-ascii names (w ∷ ws) r =
-    every-append ascii (wordText w) (flatMap wordText ws) (rw (word-text names w (r .0)) (line-ascii (instructionText (r .0 .instruction)) (r .0 .is-visible))) (words-ascii names ws (r .1))
-
-line-length : (t : List ℕ) (n : ℕ) → length t ≤ n → length (lineText t) ≤ suc n
-unfolding lineText
-line-length t n h = omega (arith, length-append t (10 ∷ []))
-
-words-length : (names : List Name) (ws : List ℕ) → AllRead names ws → length (flatMap wordText ws) ≤ 22 * length ws
-unfolding flatMap
-words-length names [] r = omega arith
-words-length names (w ∷ ws) r =
-    omega (arith, length-append (wordText w) (flatMap wordText ws), ap length (word-text names w (r .0)), line-length (instructionText (r .0 .instruction)) 21 (r .0 .is-short), words-length names ws (r .1))
+    every-append ascii (wordText w) (flatMap wordText ws) (rw (word-line w (r .0 .instruction) (r .0 .decoded)) (line-ascii (instructionText (r .0 .instruction)) (r .0 .is-visible))) (words-ascii names ws (r .1))
 
 -- ---- the settings' lines
 
@@ -187,22 +179,6 @@ module _ (names : List Name) (ok : each (λ n. isIdentifier (n .spelling)) names
       (every-append ascii _ _ (line-ascii (configText limb-bits-key (s .limb-bits)) bits-visible)
       (every-append ascii _ _ (line-ascii (configText data-limbs-key (s .data-limbs)) data-visible) (line-ascii (configText addr-limbs-key (s .addr-limbs)) addr-visible))) h
 
-  text-length : (rest : List ℕ) → length (settingsText s ++ rest) ≤ 66 + length rest
-  unfolding settingsText settingText configText
-  text-length rest =
-      let a = configText limb-bits-key (s .limb-bits) in
-      let b = configText data-limbs-key (s .data-limbs) in
-      let c = configText addr-limbs-key (s .addr-limbs) in
-      omega (
-        arith,
-        length-append (settingsText s) rest,
-        length-append (lineText a) (lineText b ++ lineText c),
-        length-append (lineText b) (lineText c),
-        line-length a 21 (config-short names ok limb-bits-key (k .limb-bits) (s .limb-bits) (small-bits s g)),
-        line-length b 21 (config-short names ok data-limbs-key (k .data-limbs) (s .data-limbs) (small-data s g)),
-        line-length c 21 (config-short names ok addr-limbs-key (k .addr-limbs) (s .addr-limbs) (small-addr s g)),
-      )
-
   pub text-reading : (room : ℕ) (ws : List ℕ) (r : AllRead names ws) → length ws ≤ 32768
       → reading names (settingsText s ++ flatMap wordText ws) room ≡ accepted (record { labels = []; instructions = instructionsIn names ws r; setup = s })
   unfolding reading readTo configuredState most-bytes withMore
@@ -211,7 +187,7 @@ module _ (names : List Name) (ok : each (λ n. isIdentifier (n .spelling)) names
       let w = e ∙ walk-words names room line at configuredState ws r (omega arith) in
       rw (
         reading,
-        le-leb (length (settingsText s ++ flatMap wordText ws)) 1048576 (omega (arith, text-length (flatMap wordText ws), words-length names ws r)),
+        le-leb (length (settingsText s ++ flatMap wordText ws)) 1048576 (omega (arith, length-append (settingsText s) (flatMap wordText ws), settings-short s g, words-short ws (all-decoded names ws r))),
         text-visible (flatMap wordText ws) (words-ascii names ws r),
         w,
       )

@@ -8,17 +8,17 @@ use mathlib.Core.List.{List, [], _∷_, _++_, flatMap, append-nil, append-assoc}
 use lib.ListN.{length, take, drop, length-append, length-drop, drop-of-length-le}
 use lib.Seq.{drop-drop}
 use borrow.Author.Tests.{le-leb, lt-leb}
-use Rattle.spelling.specs.Bytes.{Result, value, refused, bytes}
-use Rattle.spelling.specs.Numbers.{unlittle, decimal}
+use Rattle.spelling.specs.Bytes.{Result, value, refused}
+use Rattle.spelling.specs.Numbers.{unlittle}
 use Rattle.instruction.specs.Operands.{Instruction}
 use Rattle.instruction.specs.Words.{instructionOf}
 use Rattle.instruction.specs.Text.{instructionText}
 use Rattle.coding.specs.Contracts.{Written}
 use Rattle.coding.proofs.Writing.{written-none, written-length, written-append, room-behind, room-before}
-use Rattle.image.specs.Settings.{Settings, settings, limb-bits-key, data-limbs-key, addr-limbs-key}
+use Rattle.image.specs.Settings.{Settings}
 use Rattle.image.specs.Program.{header-size, Header, numberAt, headerOf, codeOf, dataOf}
 use Rattle.image.specs.Opening.{Opened as MeantOpened, openingFault, opening}
-use Rattle.image.specs.Listing.{Listing as Answered, wordsOf, lineText, settingText, settingsText, wordText, textOf, Refusal, refusal, isUsual, wordsFault, listingFault, rejected, written, listing}
+use Rattle.image.specs.Listing.{Listing as Answered, wordsOf, lineText, settingsText, wordText, textOf, Refusal, refusal, isUsual, wordsFault, listingFault, rejected, written, listing}
 use Rattle.image.specs.Lent.{over, listed, unlisted, listAnswerOf, textAfter}
 use Rattle.image.specs.Contracts.{settingsMeant, headerMeant, openedMeant}
 use Rattle.listing.specs.Contracts.{lineLength, WholeWords, Measures, Usual, listingMeant, Lists}
@@ -30,35 +30,9 @@ use Rattle.listing.specs.declared.disassembler.Measured.the-variants.{Is
 use Rattle.listing.specs.declared.disassembler.WordLength.the-variants.{Is as IsLength, Refused as RefusedWord}
 use Rattle.image.proofs.Images.{words-length}
 use Rattle.image.proofs.Listed.{sound, customary, code-all}
+pub use Rattle.image.proofs.Lengths.{line-length, settings-length, word-line}
 
 -- ---- lines
-
--- A line is one byte longer than what stands on it.
-pub line-length : (s : List ℕ) → length (lineText s) ≡ 1 + length s
-unfolding lineText
-line-length s = omega (arith, length-append s (10 ∷ []))
-
--- The length of the line of a setting, and of all three.
-setting-length : (key : List ℕ) (v : ℕ) → length (settingText key v) ≡ 10 + length key + length (decimal v)
-unfolding settingText bytes
-setting-length key v =
-    omega (arith, line-length (bytes ".config " ++ (key ++ (32 ∷ decimal v))), length-append key (32 ∷ decimal v))
-
-pub settings-length : (a b c : ℕ)
-    → length (settingsText (settings a b c)) ≡ (10 + 9 + length (decimal a)) + (10 + 10 + length (decimal b)) + (10 + 10 + length (decimal c))
-unfolding settingsText settings limb-bits-key data-limbs-key addr-limbs-key bytes
-settings-length a b c =
-    let x = settingText limb-bits-key a in
-    let y = settingText data-limbs-key b in
-    let z = settingText addr-limbs-key c in
-    omega (
-      arith,
-      length-append x (y ++ z),
-      length-append y z,
-      setting-length limb-bits-key a,
-      setting-length data-limbs-key b,
-      setting-length addr-limbs-key c,
-    )
 
 -- A word whose line has a length is an instruction's,
 pub line-value : (w n : ℕ) → lineLength (instructionOf w) ≡ value n → (i : Instruction) × (instructionOf w ≡ value i) × (length (lineText (instructionText i)) ≡ n)
@@ -86,14 +60,10 @@ length-is q = cc
 pub no-length : {X : Type 0} {n m : ℕ} → RefusedWord n ≡ IsLength m → X
 no-length q = let z : _≡_ {A = ℕ} 0 1 = cc in absurd (omega arith)
 
--- A word's line, by the instruction that it means.
+-- A word that is refused has no line.
 pub word-none : (w n : ℕ) → instructionOf w ≡ refused n → wordText w ≡ []
 unfolding wordText
 word-none w n e = rw (wordText, e)
-
-pub word-line : (w : ℕ) (i : Instruction) → instructionOf w ≡ value i → wordText w ≡ lineText (instructionText i)
-unfolding wordText
-word-line w i e = rw (wordText, e)
 
 -- ---- the words of an image, from a place on
 
