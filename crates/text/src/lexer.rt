@@ -7,6 +7,7 @@ ghost use Rattle.spelling.specs.Bytes.{nameStart, digit, mark, blank};
 ghost use Rattle.text.specs.Contracts.{At, Stepped, IsDecimal, NoWord};
 use spelling::bytes::Class;
 use spelling::name::RegisterName;
+use spelling::number::Radix;
 use spelling::number::Value;
 use spelling::register::Register;
 
@@ -72,7 +73,7 @@ fn decimal(text: &[u8], at: usize, end: usize) -> Scan
     requires { ⌜ IsDecimal (now text) at end ⌝ }
     ensures { λ r. ⌜ At (now (text .entry)) at r ⌝ }
 {
-    match spelling::number::value_of(&text[at..end], 10, 1844674407370955161) {
+    match spelling::number::value_of(&text[at..end], Radix::Decimal) {
         Value::TooLarge => Scan::Bad,
         Value::Fits(value) => {
             if value < 9223372036854775808 {
@@ -94,7 +95,7 @@ fn minus(text: &[u8], at: usize) -> Scan
     if end == begin {
         return Scan::Bad;
     }
-    match spelling::number::value_of(&text[begin..end], 10, 1844674407370955161) {
+    match spelling::number::value_of(&text[begin..end], Radix::Decimal) {
         Value::TooLarge => Scan::Bad,
         Value::Fits(value) => {
             if value <= 9223372036854775808 {
@@ -116,7 +117,7 @@ fn hex(text: &[u8], at: usize) -> Scan
     if end == begin {
         return decimal(text, at, at + 1);
     }
-    match spelling::number::value_of(&text[begin..end], 16, 1152921504606846975) {
+    match spelling::number::value_of(&text[begin..end], Radix::Hex) {
         Value::TooLarge => Scan::Bad,
         Value::Fits(value) => found(Kind::Hex(value), at, end),
     }
@@ -132,7 +133,7 @@ fn binary(text: &[u8], at: usize) -> Scan
     if end == begin {
         return decimal(text, at, at + 1);
     }
-    match spelling::number::value_of(&text[begin..end], 2, 9223372036854775807) {
+    match spelling::number::value_of(&text[begin..end], Radix::Binary) {
         Value::TooLarge => Scan::Bad,
         Value::Fits(value) => found(Kind::Binary(value), at, end),
     }
