@@ -1,4 +1,4 @@
--- A token's kind, by its meaning and its spelling, means that token again.
+-- A token's kind, by its meaning and its spelling, means that token again, and has the sign of that spelling.
 use Prim.Native.Nat.{ℕ, zero, suc, _+_, _-_, _^_, _<_}
 use mathlib.Core.Path.{_≡_, refl, sym, ap, _∙_}
 use native.Mathlib.Omega.{arith}
@@ -8,16 +8,18 @@ use mathlib.Core.List.{List, [], _∷_}
 use lib.ListN.{take, drop, getD}
 use lib.Dec.{leb, ltb, eqb}
 use lib.IntN.{pos, natAbs}
-use borrow.Author.Tests.{ltb-true}
+use borrow.Author.Tests.{ltb-true, eqb-true, eq-eqb}
 use Rattle.spelling.specs.Bytes.{each, same}
 use Rattle.spelling.specs.Numbers.{valueOf, minus}
 use Rattle.spelling.specs.Names.{Name, name, named, numbered, conventional, present}
-use Rattle.spelling.proofs.Tests.{by-test}
+use Rattle.spelling.proofs.Tests.{by-test, no-both}
 use Rattle.spelling.proofs.Strings.{found}
 use Rattle.spelling.proofs.Registers.{index-register}
-use Rattle.text.specs.Tokens.{Class, Register, Identifier, Number, Hex, Binary, Directive, Mark, Match, Token, register, number, hex, binary, comma, colon, opening, closing, within, numberToken, patternToken, registerToken, markToken, tokenOf, Sized, sized, matched, front, longest}
+use Rattle.text.specs.Tokens.{Class, Register, Identifier, Number, Hex, Binary, Directive, Mark, Match, Token, identifier, register, number, hex, binary, directive, comma, colon, opening, closing, within, numberToken, patternToken, registerToken, markToken, tokenOf, Sized, sized, matched, front, longest}
 use Rattle.text.specs.NameSets.{isNumbered}
-use Rattle.text.specs.Contracts.{kindMeant, kindFor}
+use Rattle.text.specs.Contracts.{kindMeant, registerKind, kindFor}
+use Rattle.text.specs.declared.lexer.Kind.{Kind}
+use Rattle.text.specs.declared.lexer.Kind.the-variants.{Identifier as IdentifierKind, Register as RegisterKind, NoRegister, Number as NumberKind, Negative, Hex as HexKind, Binary as BinaryKind, Directive as DirectiveKind, Comma, Colon, LParen, RParen}
 
 -- a number, and the number of its magnitude
 pub abs-minus : (n : ℕ) → natAbs (minus n) ≡ n
@@ -108,3 +110,46 @@ front-means s t h = by-match (longest present s _) h
     by-match : (o : Option Match) → matched present s o ≡ some t → kindMeant (kindFor (t .token) (take (t .size) s)) (take (t .size) s) ≡ t .token
     by-match none g = let z : _≡_ {A = ℕ} 0 1 = cc in absurd (omega arith)
     by-match (some m) g = by-token (m .size) (m .class) (tokenOf present (m .class) (take (m .size) s)) refl g
+
+-- ---- the sign
+
+-- 1: a number with a sign, 2: one without, 0: no such number.
+signed : Kind → ℕ
+signed (Negative n) = 1
+signed (NumberKind n) = 2
+signed IdentifierKind = 0
+signed (RegisterKind r) = 0
+signed NoRegister = 0
+signed (HexKind n) = 0
+signed (BinaryKind n) = 0
+signed DirectiveKind = 0
+signed Comma = 0
+signed Colon = 0
+signed LParen = 0
+signed RParen = 0
+
+register-signed : (r : Option ℕ) → signed (registerKind r) ≡ 0
+unfolding signed
+register-signed none = refl
+register-signed (some n) = refl
+
+-- A kind with a sign is one of a number whose spelling begins with `-`, and a decimal number without one is not.
+kind-signed : (m : Token) (u : List ℕ) → (signed (kindFor m u) ≡ 1 → getD u 0 0 ≡ 45) × (signed (kindFor m u) ≡ 2 → getD u 0 0 ≡ 45 → ⊥)
+unfolding signed
+kind-signed (number z) u =
+    by-test (eqb (getD u 0 0) 45)
+    (λ e. ((λ h. eqb-true (getD u 0 0) 45 e), (λ h. let k : _≡_ {A = ℕ} 1 2 = rw e at h in absurd (omega arith))))
+    (λ e. ((λ h. let k : _≡_ {A = ℕ} 2 1 = rw e at h in absurd (omega arith)), (λ h q. no-both (eq-eqb (getD u 0 0) 45 q) e)))
+kind-signed (register r) u = ((λ h. absurd (omega (arith, register-signed r))), (λ h. absurd (omega (arith, register-signed r))))
+kind-signed (identifier v) u = ((λ h. absurd (omega arith)), (λ h. absurd (omega arith)))
+kind-signed (hex n) u = ((λ h. absurd (omega arith)), (λ h. absurd (omega arith)))
+kind-signed (binary n) u = ((λ h. absurd (omega arith)), (λ h. absurd (omega arith)))
+kind-signed (directive v) u = ((λ h. absurd (omega arith)), (λ h. absurd (omega arith)))
+kind-signed comma u = ((λ h. absurd (omega arith)), (λ h. absurd (omega arith)))
+kind-signed colon u = ((λ h. absurd (omega arith)), (λ h. absurd (omega arith)))
+kind-signed opening u = ((λ h. absurd (omega arith)), (λ h. absurd (omega arith)))
+kind-signed closing u = ((λ h. absurd (omega arith)), (λ h. absurd (omega arith)))
+
+pub kind-sign : (m : Token) (u : List ℕ) (n : ℕ) → (kindFor m u ≡ Negative n → getD u 0 0 ≡ 45) × (kindFor m u ≡ NumberKind n → getD u 0 0 ≡ 45 → ⊥)
+unfolding signed
+kind-sign m u n = ((λ e. kind-signed m u .0 (ap signed e)), (λ e. kind-signed m u .1 (ap signed e)))

@@ -7,7 +7,7 @@ use mathlib.Core.Logic.{_⊎_}
 use mathlib.Core.List.{List, [], _∷_}
 use mathlib.Core.Option.{Option, none, some}
 use lib.ListN.{length, take, drop, getD, length-drop}
-use lib.Seq.{getD-drop}
+use lib.Seq.{getD-take, getD-drop}
 use Rattle.spelling.specs.Bytes.{blank, mark, before, run, every, inside, margin}
 use Rattle.spelling.specs.Names.{present}
 use Rattle.spelling.proofs.Strings.{run-le, run-no, run-end, run-stop, take-run, every-run, every-mono}
@@ -15,11 +15,12 @@ use Rattle.text.specs.Tokens.{Token as Meant, markToken, Sized, front, i
 use Rattle.text.specs.Places.{leftAt, endAt}
 use Rattle.text.specs.Contracts.{kindMeant, kindFor, meant, foundAt, tokenAt, standsAt, past, scanAt, NoWord}
 use Rattle.text.specs.declared.lexer.Kind.{Kind}
+use Rattle.text.specs.declared.lexer.Kind.the-variants.{Number, Negative}
 use Rattle.text.specs.declared.lexer.Token.{Token}
 use Rattle.text.specs.declared.lexer.Scan.{Scan}
 use Rattle.text.specs.declared.lexer.Scan.the-variants.{Found, Bad, End}
 use Rattle.text.proofs.Left.{solid, mark-solid, solid-plain, margin-inside, blank-inside, blanks-at, front-at, left-byte, solid-left, found-at, found-solid, nothing-left, none-read, left-read-bad, bad-left, bad-at, end-on}
-use Rattle.text.proofs.Meanings.{front-means}
+use Rattle.text.proofs.Meanings.{front-means, kind-sign}
 use Rattle.text.proofs.Fronts.{names-ok, at-found, at-none, mark-front, mark-none}
 
 -- ---- what stands at a place
@@ -184,3 +185,27 @@ pub record Stepped (s : List ℕ) (from : ℕ) (r : Scan) : Type 0 where
 
 pub stepped : (s : List ℕ) (from : ℕ) (r : Scan) → r ≡ scanAt s from → Stepped s from r
 stepped s from r e = rw e (record { means = means s from (scanAt s from) (finds s from); leads = leads s from (scanAt s from) (finds s from) })
+
+-- ---- the sign of a number
+
+Signs : List ℕ → Scan → Type 0
+Signs s (Found t next) = (n : ℕ) → (t .kind ≡ Negative n → getD s (t .start) 0 ≡ 45) × (t .kind ≡ Number n → getD s (t .start) 0 ≡ 45 → ⊥)
+Signs s Bad = Unit {0}
+Signs s (End e) = Unit {0}
+
+signs : (s : List ℕ) (from : ℕ) (r : Scan) → Finds s from r → Signs s r
+unfolding Signs
+signs s from _ (a-token t e) = λ n.
+    let at = past s from in
+    let (p, l, i) = found-solid present names-ok (drop at s) (t .token) (t .size) e in
+    let z : at + 0 ≡ at = omega arith in
+    let b : getD (take (t .size) (drop at s)) 0 0 ≡ getD s at 0 = getD-take (t .size) (drop at s) 0 0 p ∙ getD-drop at s 0 0 ∙ ap (λ (x : ℕ). getD s x 0) z in
+    rw b at (kind-sign (t .token) (take (t .size) (drop at s)) n)
+signs s from _ (no-token e n) = tt
+signs s from _ (the-end e) = tt
+
+-- A decimal number is Negative exactly if its first byte is `-`, whatever its value: `-0` is Negative and `0` is not.
+pub sign-settled : (s : List ℕ) (from : ℕ) (t : Token) (next n : ℕ) → Found t next ≡ scanAt s from
+    → (t .kind ≡ Negative n → getD s (t .start) 0 ≡ 45) × (t .kind ≡ Number n → getD s (t .start) 0 ≡ 45 → ⊥)
+unfolding Signs
+sign-settled s from t next n e = rw (← e) at (signs s from (scanAt s from) (finds s from)) n

@@ -84,7 +84,7 @@ mul-tokens : tie.Need-mul-tokens Inv-loop μ-loop
 mul-tokens c = search needs
 
 array-set-from-tokens : tie.Need-array-set-from-tokens Inv-loop μ-loop
-array-set-from-tokens c = c .if1 .taken
+array-set-from-tokens c = omega (arith, c .if1 .taken)
 
 add-count : tie.Need-add-count Inv-loop μ-loop
 add-count c =
