@@ -79,16 +79,8 @@ keyOf s = elim (leb (length s) 7) [ true ↦ packed s | false ↦ 0 ]
 -- ---- numbers
 
 -- A value, where it fits 64 bits.
-abbrev pub whenFits : Bool → ℕ → Option ℕ
-whenFits true n = some n
-whenFits false n = none
-
-abbrev pub fitting : ℕ → Option ℕ
-fitting n = whenFits (ltb n (2 ^ 64)) n
-
-abbrev pub valueMeant : Value → Option ℕ
-valueMeant (Fits n) = some n
-valueMeant TooLarge = none
+unfoldable pub fitting : ℕ → Value
+fitting n = elim (ltb n (2 ^ 64)) [ true ↦ Fits n | false ↦ TooLarge ]
 
 abbrev pub baseOf : Radix → ℕ
 baseOf Binary = 2

@@ -2,9 +2,9 @@
 ghost use mathlib.Core.Path.{_≡_};
 ghost use Prim.Native.Nat.{suc, _%_};
 ghost use Rattle.spelling.specs.Numbers.{digitValue, valueOf};
-ghost use Rattle.spelling.specs.Contracts.{baseOf, valueMeant, fitting, Capped, wholeMeant, Reduced};
+ghost use Rattle.spelling.specs.Contracts.{baseOf, fitting, Capped, wholeMeant, Reduced};
 
-// What digits are read by.
+// The radix by which digits are read.
 pub enum Radix {
     Binary,
     Decimal,
@@ -73,7 +73,7 @@ impl Radix {
 
 // The value of digits, the highest first.
 pub fn value_of(digits: &[u8], radix: Radix) -> Value
-    ensures { λ r. ⌜ valueMeant r ≡ fitting (valueOf (baseOf radix) (now (digits .entry))) ⌝ }
+    ensures { λ r. ⌜ r ≡ fitting (valueOf (baseOf radix) (now (digits .entry))) ⌝ }
 {
     let base = radix.base();
     let cap = radix.cap();

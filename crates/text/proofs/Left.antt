@@ -453,13 +453,6 @@ found-solid names ok s m n h =
 margin-split : (t : List ℕ) → before margin t ++ drop (run margin t) t ≡ t
 margin-split t = ap (λ (x : List ℕ). x ++ drop (run margin t) t) (sym (take-run margin t)) ∙ take-append-drop (run margin t) t
 
--- A solid byte that no token begins at.
-pub solid-bad : (names : List Name) → each (λ n. isIdentifier (n .spelling)) names ≡ true → (s : List ℕ) (at : ℕ) → at < length s → solid (getD s at 0) ≡ true
-    → front names (drop at s) ≡ none → tokens names (leftAt s at) ≡ none
-solid-bad names ok s at l h f =
-    let e = drop-cons s at 0 l in
-    ap (tokens names) (left-is s at) ∙ rw e (left-bad names ok (getD s at 0) (drop (suc at) s) (left (drop (suc at) s)) (left-solid (getD s at 0) (drop (suc at) s) h) (solid-plain (getD s at 0) h) (rw e at f))
-
 -- Margin up to the text's end, the line's end or a comment: nothing is left.
 pub nothing-left : (s : List ℕ) (at : ℕ) → at ≤ length s
     → (at + run margin (drop at s) < length s → (getD s (at + run margin (drop at s)) 0 ≡ 10) ⊎ (getD s (at + run margin (drop at s)) 0 ≡ 35))

@@ -2,11 +2,10 @@
 use mathlib.Core.Path.{_≡_, refl, sym, ap, _∙_}
 use Prim.Native.Nat.{ℕ, zero, suc, _+_, _-_, _≤_, _<_}
 use native.Mathlib.Omega.{arith}
-use native.Mathlib.Numerals.{add-one}
 use mathlib.Core.Bool.{Bool, true, false, true≢false}
 use mathlib.Core.List.{List, [], _∷_, _++_, map, append-assoc, append-nil}
 use mathlib.Core.Option.{Option, none, some}
-use lib.ListN.{length, take, drop, getD, set, replicate, length-append, length-drop, length-take, length-map, length-replicate, List·getD-append, List·getD-eq-default}
+use lib.ListN.{length, take, drop, getD, set, replicate, length-append, length-drop, length-take, length-map, length-replicate, List·getD-append}
 use lib.Seq.{take-all, take-append-le, take-append-seam, set-at, getD-append-add, getD-drop, getD-take}
 use Rattle.spelling.specs.Bytes.{blank, run, inside, margin}
 use Rattle.spelling.specs.Names.{present}

@@ -11,7 +11,7 @@ use lib.Seq.{getD-take, getD-drop}
 use Rattle.spelling.specs.Bytes.{blank, mark, before, run, every, inside, margin}
 use Rattle.spelling.specs.Names.{present}
 use Rattle.spelling.proofs.Strings.{run-le, run-no, run-end, run-stop, take-run, every-run, every-mono}
-use Rattle.text.specs.Tokens.{Token as Meant, markToken, Sized, front, infront, tokens, sized}
+use Rattle.text.specs.Tokens.{Token as Meant, markToken, Sized, front, infront, tokens}
 use Rattle.text.specs.Places.{leftAt, endAt}
 use Rattle.text.specs.Contracts.{kindMeant, kindFor, meant, foundAt, tokenAt, standsAt, past, scanAt, NoWord}
 use Rattle.text.specs.declared.lexer.Kind.{Kind}

@@ -1,7 +1,7 @@
 -- `straight::operand::any_number` meets its contract.
 use Rattle.text.specs.Contracts.{scanAt, meant}
 use Rattle.text.specs.declared.lexer.Scan.the-variants.{Found}
-use mathlib.Core.Path.{_≡_, refl}
+use mathlib.Core.Path.{_≡_}
 use Rattle.instruction.specs.Operands.{readNumber}
 use Rattle.straight.proofs.Places.{stepped-reads}
 use borrow.Author.Needs.{needs}

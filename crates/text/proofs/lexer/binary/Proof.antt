@@ -1,11 +1,10 @@
 -- `text::lexer::binary` meets its contract.
-use mathlib.Core.Path.{refl, sym, ap, _∙_}
+use mathlib.Core.Path.{refl, sym, _∙_}
 use Prim.Native.Nat.{_+_, _-_, _≤_}
 use native.Mathlib.Omega.{arith}
 use lib.ListN.{length, take, drop}
 use Rattle.spelling.specs.Bytes.{binaryDigit}
 use Rattle.spelling.specs.Numbers.{valueOf}
-use Rattle.spelling.specs.Contracts.{valueMeant}
 use Rattle.spelling.proofs.Values.{fits-is, large-is}
 use Rattle.text.specs.Tokens.{Binary, Number, binary}
 use Rattle.text.specs.declared.lexer.Kind.the-variants.{Binary as BinaryKind}
@@ -78,7 +77,7 @@ returns-2 c =
     at-none (a .text .now) (a .at)
     (radix-large Binary binary 2 binary-means (a .text .now) (a .at) e (ends r .0) (ends r .1)
     (radix-some 98 binaryDigit Binary binary-scan (a .text .now) (a .at) e (q .0) (q .1 .0) (q .1 .1) (r .run-end .ensures) (k .if1 .left))
-    (large-is (valueOf 2 (take (e - (a .at + 2)) (drop (a .at + 2) (a .text .now)))) (sym (ap valueMeant (c .enum-told .given .1)) ∙ v .value-of .ensures)))
+    (large-is (valueOf 2 (take (e - (a .at + 2)) (drop (a .at + 2) (a .text .now)))) (sym (c .enum-told .given .1) ∙ v .value-of .ensures)))
 
 returns-3 : tie.Need-returns-3
 returns-3 c =
@@ -89,7 +88,7 @@ returns-3 c =
     let q = r .before .before .pre in
     let e = r .run-end .result in
     let n = c .before .before .value .given .0 .0 in
-    let f = fits-is (valueOf 2 (take (e - (a .at + 2)) (drop (a .at + 2) (a .text .now)))) n (sym (ap valueMeant (c .before .before .value .given .1)) ∙ v .value-of .ensures) in
+    let f = fits-is (valueOf 2 (take (e - (a .at + 2)) (drop (a .at + 2) (a .text .now)))) n (sym (c .before .before .value .given .1) ∙ v .value-of .ensures) in
     rw (c .found .ensures)
     (at-found (a .text .now) (a .at) e (BinaryKind n) (omega (arith, ends r .0)) refl
     (radix-fits Binary binary 2 binary-means (a .text .now) (a .at) e n (ends r .0) (ends r .1)

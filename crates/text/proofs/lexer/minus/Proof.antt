@@ -1,11 +1,10 @@
 -- `text::lexer::minus` meets its contract.
-use mathlib.Core.Path.{sym, ap, _∙_}
+use mathlib.Core.Path.{sym, _∙_}
 use Prim.Native.Nat.{_+_, _-_, _≤_}
 use native.Mathlib.Omega.{arith}
 use lib.ListN.{length, take, drop}
 use Rattle.spelling.specs.Bytes.{digit}
 use Rattle.spelling.specs.Numbers.{valueOf}
-use Rattle.spelling.specs.Contracts.{valueMeant}
 use Rattle.spelling.proofs.Values.{fits-is, large-is}
 use Rattle.text.specs.declared.lexer.Kind.the-variants.{Negative}
 use Rattle.text.proofs.Fronts.{run-in, at-found, at-none, minus-kind, minus-none, minus-fits, minus-large}
@@ -62,7 +61,7 @@ returns-2 c =
     let a = r .before .before .args in
     at-none (a .text .now) (a .at)
     (minus-large (a .text .now) (a .at) (r .run-end .result) (r .before .before .pre .0) (r .before .before .pre .1) (r .run-end .ensures) (k .if1 .left)
-    (omega (arith, large-is (valueOf 10 (take (r .run-end .result - (a .at + 1)) (drop (a .at + 1) (a .text .now)))) (sym (ap valueMeant (c .enum-told .given .1)) ∙ v .value-of .ensures))))
+    (omega (arith, large-is (valueOf 10 (take (r .run-end .result - (a .at + 1)) (drop (a .at + 1) (a .text .now)))) (sym (c .enum-told .given .1) ∙ v .value-of .ensures))))
 
 returns-3 : tie.Need-returns-3
 returns-3 c =
@@ -71,7 +70,7 @@ returns-3 c =
     let r = k .before in
     let a = r .before .before .args in
     let n = c .before .before .before .value .given .0 .0 in
-    let f = fits-is (valueOf 10 (take (r .run-end .result - (a .at + 1)) (drop (a .at + 1) (a .text .now)))) n (sym (ap valueMeant (c .before .before .before .value .given .1)) ∙ v .value-of .ensures) in
+    let f = fits-is (valueOf 10 (take (r .run-end .result - (a .at + 1)) (drop (a .at + 1) (a .text .now)))) n (sym (c .before .before .before .value .given .1) ∙ v .value-of .ensures) in
     rw (c .found .ensures)
     (at-found (a .text .now) (a .at) (r .run-end .result) (Negative n) (omega (arith, ends r .0))
     (minus-kind (a .text .now) (a .at) (r .run-end .result) n (omega (arith, ends r .0)) (r .before .before .pre .0) (r .before .before .pre .1))
@@ -84,7 +83,7 @@ returns-4 c =
     let r = k .before in
     let a = r .before .before .args in
     let n = c .before .before .value .given .0 .0 in
-    let f = fits-is (valueOf 10 (take (r .run-end .result - (a .at + 1)) (drop (a .at + 1) (a .text .now)))) n (sym (ap valueMeant (c .before .before .value .given .1)) ∙ v .value-of .ensures) in
+    let f = fits-is (valueOf 10 (take (r .run-end .result - (a .at + 1)) (drop (a .at + 1) (a .text .now)))) n (sym (c .before .before .value .given .1) ∙ v .value-of .ensures) in
     at-none (a .text .now) (a .at)
     (minus-large (a .text .now) (a .at) (r .run-end .result) (r .before .before .pre .0) (r .before .before .pre .1) (r .run-end .ensures) (k .if1 .left) (omega (arith, f .0, c .if2 .left)))
 
