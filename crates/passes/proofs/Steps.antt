@@ -340,9 +340,9 @@ two-tokens s ts count u e =
 
 -- ---- the line at a place
 
-module _ (s : List ℕ) (from words : ℕ) (setup : Settings) (l : Line) (e : l ≡ recordAt s from) where
+module _ (s : List ℕ) (from words : ℕ) (setup : Settings) (l : Line) (is : l ≡ recordAt s from) where
   h : LineRead s from l
-  h = line-read s from l e
+  h = line-read s from l is
 
   line-is : l .bad ≡ false → readLine present (restAt s from) ≡ some (recordMeant s l)
   line-is b = h .means ∙ rw b

@@ -21,13 +21,13 @@ use Rattle.text.specs.Contracts.{kindMeant, registerKind, kindFor}
 use Rattle.text.specs.declared.lexer.Kind.{Kind}
 use Rattle.text.specs.declared.lexer.Kind.the-variants.{Identifier as IdentifierKind, Register as RegisterKind, NoRegister, Number as NumberKind, Negative, Hex as HexKind, Binary as BinaryKind, Directive as DirectiveKind, Comma, Colon, LParen, RParen}
 
--- a number, and the number of its magnitude
+-- The magnitude of -n.
 pub abs-minus : (n : ℕ) → natAbs (minus n) ≡ n
 unfolding minus
 abs-minus zero = refl
 abs-minus (suc n) = refl
 
--- no token is one
+-- Where there is no token there is none.
 no-token : {t : Token} → _≡_ {A = Option Token} none (some t) → ⊥
 no-token e = let z : _≡_ {A = ℕ} 0 1 = cc in absurd (omega arith)
 
@@ -39,6 +39,7 @@ sixteen : each (λ n. isNumbered (n .number)) present ≡ true
 unfolding each present numbered conventional name isNumbered
 sixteen = refl
 
+-- A token's kind means the token.
 Means : Token → List ℕ → Type 0
 Means m u = kindMeant (kindFor m u) u ≡ m
 
@@ -133,7 +134,7 @@ unfolding signed
 register-signed none = refl
 register-signed (some n) = refl
 
--- A kind with a sign is one of a number whose spelling begins with `-`, and a decimal number without one is not.
+-- The spelling of a kind with a sign begins with `-`, and that of a decimal number without one does not.
 kind-signed : (m : Token) (u : List ℕ) → (signed (kindFor m u) ≡ 1 → getD u 0 0 ≡ 45) × (signed (kindFor m u) ≡ 2 → getD u 0 0 ≡ 45 → ⊥)
 unfolding signed
 kind-signed (number z) u =

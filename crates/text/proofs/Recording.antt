@@ -144,7 +144,7 @@ nine-full ts t h =
     let k : 9 - length (ts ++ (t ∷ [])) ≡ 0 = omega (arith, length-append ts (t ∷ [])) in
     rw (m, k, take-append-le 9 ts (t ∷ []) h)
 
--- ---- what the record of a line says
+-- ---- what a record says of its line
 
 abbrev pub unlessBad : Bool → Record → Option Record
 unlessBad true l = none
@@ -173,7 +173,7 @@ unfolding recordOf meantAll lineOf kept
 record-means s from none = refl
 record-means s from (some ts) = rw (length-map ts (meant s), firsts-nine s ts)
 
--- Behind the margin no blank stands.
+-- After the margin no blank stands.
 no-blank : (s : List ℕ) (from at : ℕ) → at ≡ from + run margin (drop from s) → run blank (drop at s) ≡ 0
 no-blank s from at q =
     split at (length s)
@@ -182,6 +182,7 @@ no-blank s from at q =
     run-no blank s at l (not-true (blank (getD s at 0)) (λ e. no-both (blank-margin (getD s at 0) e) m)))
     (λ l. run-end blank s at l)
 
+-- What the record of a line has to say.
 pub record LineRead (s : List ℕ) (from : ℕ) (r : Line) : Type 0 where
   pub means : readLine present (restAt s from) ≡ lineMeant s r
   -- where the line ends, unless a token is bad
@@ -225,7 +226,7 @@ line-with s from (some ts) p f e =
     first [] g h = absurd (omega arith)
     first (t ∷ us) g h = g
 
--- What the record of a line says.
+-- The record of the line from a place on says all of it.
 pub line-read : (s : List ℕ) (from : ℕ) (r : Line) → r ≡ recordAt s from → LineRead s from r
 unfolding readLine recordAt
 line-read s from r e =
