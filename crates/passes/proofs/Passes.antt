@@ -15,11 +15,12 @@ use Rattle.spelling.specs.Names.{present}
 use Rattle.text.specs.Lines.{extended, lines, readLine}
 use Rattle.text.specs.Lines.{Line as Record}
 use Rattle.text.specs.Places.{restAt, endAt}
-use Rattle.text.specs.Contracts.{firsts, LineRead}
+use Rattle.text.specs.Contracts.{firsts, recordAt}
 use Rattle.text.specs.declared.parser.Line.{Line}
 use Rattle.instruction.specs.Operands.{Instruction, markByte, readInstruction, behind}
 use Rattle.spelling.proofs.Tests.{split, by-test}
 use Rattle.text.proofs.Lines.{line-at, last-line}
+use Rattle.text.proofs.Recording.{LineRead, line-read}
 use Rattle.instruction.specs.Words.{wordOf}
 use Rattle.coding.specs.Contracts.{Written}
 use Rattle.coding.proofs.Writing.{written-none, written-length, written-append, room-behind, room-before}
@@ -228,9 +229,10 @@ module _ {old s m : List ℕ} {place at : ℕ} (d : Worded old s m place at) (ro
 record-read : (s : List ℕ) (at : ℕ) (l : Line) → LineRead s at l → (readLine present (restAt s at) ≡ none → ⊥) → l .bad ≡ false
 record-read s at l h some-record = by-test (l .bad) (λ b. absurd (some-record (h .means ∙ rw b))) (λ b. b)
 
-pub codes-record : (s : List ℕ) (at : ℕ) (l : Line) (c : Coding) → LineRead s at l → codedMeant c ≡ map wordOf (instructionOn (some (recordMeant s l)))
+pub codes-record : (s : List ℕ) (at : ℕ) (l : Line) (c : Coding) → l ≡ recordAt s at → codedMeant c ≡ map wordOf (instructionOn (some (recordMeant s l)))
     → Codes s at (record { coded = c; end = l .end })
-codes-record s at l c h e =
+codes-record s at l c is e =
+    let h = line-read s at l is in
     record {
       words = λ k. let q : readLine present (restAt s at) ≡ some (recordMeant s l) = h .means ∙ rw (record-read s at l h k) in rw q e;
       ends = λ k. h .ends (record-read s at l h k);

@@ -17,13 +17,13 @@ use Rattle.text.specs.Tokens.{Token as Meant}
 use Rattle.text.specs.Lines.{indent, readLine}
 use Rattle.text.specs.Lines.{Line as Record}
 use Rattle.text.specs.Places.{restAt}
-use Rattle.text.specs.Contracts.{kindMeant, filler, firsts, meant, spelling, LineRead}
+use Rattle.text.specs.Contracts.{kindMeant, filler, firsts, meant, spelling, recordAt}
 use Rattle.text.specs.declared.lexer.Kind.{Kind as TokenKind}
 use Rattle.text.specs.declared.lexer.Kind.the-variants.{Directive}
 use Rattle.text.specs.declared.lexer.Token.{Token}
 use Rattle.text.specs.declared.parser.Line.{Line}
-use Rattle.text.proofs.Fronts.{part-cons, names-ok}
-use Rattle.text.proofs.Left.{found-solid}
+use Rattle.text.proofs.Fronts.{part-cons}
+use Rattle.text.proofs.Recording.{LineRead, line-read}
 use Rattle.instruction.specs.Operands.{Instruction, markByte, readInstruction, behind}
 use Rattle.reading.proofs.Line.{behind-none}
 use Rattle.image.specs.Settings.{Settings, configured}
@@ -40,12 +40,10 @@ use Rattle.passes.specs.declared.line.Step.{Step as Stepped}
 
 -- ---- the tokens of a record
 
-pub told : {s : List ℕ} {from : ℕ} {l : Line} → LineRead s from l → Told s l
-told r =
-    record {
-      kept = record { nine = r .nine; inside-text = r .inside-text };
-      solid = λ i h k. found-solid present names-ok _ _ _ (r .is-next i h k .0) .0;
-    }
+pub told : (s : List ℕ) (from : ℕ) (l : Line) → l ≡ recordAt s from → Told s l
+told s from l e =
+    let r = line-read s from l e in
+    record { kept = record { nine = r .nine; inside-text = r .inside-text }; solid = r .solid }
 
 module _ (s : List ℕ) (ts : List Token) (count : ℕ) where
   firsts-length : length (firsts s ts count) ≤ count
@@ -342,7 +340,10 @@ two-tokens s ts count u e =
 
 -- ---- the line at a place
 
-module _ (s : List ℕ) (from words : ℕ) (setup : Settings) (l : Line) (h : LineRead s from l) where
+module _ (s : List ℕ) (from words : ℕ) (setup : Settings) (l : Line) (is : l ≡ recordAt s from) where
+  h : LineRead s from l
+  h = line-read s from l is
+
   line-is : l .bad ≡ false → readLine present (restAt s from) ≡ some (recordMeant s l)
   line-is b = h .means ∙ rw b
 

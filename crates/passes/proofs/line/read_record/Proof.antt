@@ -34,7 +34,7 @@ returns c =
     (comes-bad (a .source .now) (a .at) (a .words) (settingsMeant (a .config)) (t .tokenize .result) (t .tokenize .ensures) (a .config) refl (c .before .if1 .taken))
 
 line-kind-requires : tie.Need-line-kind-requires
-line-kind-requires c κs = told (c .before .tokenize .ensures)
+line-kind-requires c κs = told _ _ _ (c .before .tokenize .ensures)
 
 unlabelled-requires-2 : tie.Need-unlabelled-requires-2
 unlabelled-requires-2 c κs = search needs
@@ -45,7 +45,7 @@ enum-told c = search needs
 read-config-requires : tie.Need-read-config-requires
 read-config-requires c κs =
     let k = c .before .before in
-    (told (k .before .before .tokenize .ensures), sym (rw (c .enum-told .given .1) at (k .line-kind .ensures)))
+    (told _ _ _ (k .before .before .tokenize .ensures), sym (rw (c .enum-told .given .1) at (k .line-kind .ensures)))
 
 enum-told-2 : tie.Need-enum-told-2
 enum-told-2 c = search needs
@@ -54,7 +54,7 @@ read-label-requires : tie.Need-read-label-requires
 read-label-requires c κs =
     let k = c .before .before in
     let t = k .before .before in
-    (told (t .tokenize .ensures), (t .before .before .pre .1 .0, (sym (rw (c .enum-told2 .given .1) at (k .line-kind .ensures)), t .before .before .pre .1 .1)))
+    (told _ _ _ (t .tokenize .ensures), (t .before .before .pre .1 .0, (sym (rw (c .enum-told2 .given .1) at (k .line-kind .ensures)), t .before .before .pre .1 .1)))
 
 enum-told-3 : tie.Need-enum-told-3
 enum-told-3 c = search needs
@@ -62,7 +62,7 @@ enum-told-3 c = search needs
 instruction-fault-requires : tie.Need-instruction-fault-requires
 instruction-fault-requires c κs =
     let t = c .before .before .before .before in
-    (told (t .tokenize .ensures), (omega arith, t .before .before .pre .1 .1))
+    (told _ _ _ (t .tokenize .ensures), (omega arith, t .before .before .pre .1 .1))
 
 add-unlabelled : tie.Need-add-unlabelled
 add-unlabelled c = let h = c .before .before .before .before .before .before .before .pre .1 .0 in omega (arith, h)

@@ -30,7 +30,7 @@ tokenize-requires : tie.Need-tokenize-requires
 tokenize-requires c κs = search needs
 
 line-word-requires : tie.Need-line-word-requires
-line-word-requires c κs = let b = c .before .before .before .before .before in (told (c .tokenize .ensures), (b .pre .1 .0, b .pre .1 .1))
+line-word-requires c κs = let b = c .before .before .before .before .before in (told _ _ _ (c .tokenize .ensures), (b .pre .1 .0, b .pre .1 .1))
 
 returns : tie.Need-returns
 returns c =
