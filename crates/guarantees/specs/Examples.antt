@@ -67,7 +67,7 @@ starred =
     ∷ gives program (words-are (0xFFFF8588 ∷ 0x0004593A ∷ 0xFFFFF0C8 ∷ 0x00000050 ∷ []))
     ∷ []
 
--- An example of our own. The starred line `.config limb_bits 276` sets the value that settings begin at, so a line that does nothing would
+-- Examples of our own. The starred line `.config limb_bits 276` sets the value that settings begin at, so a line that does nothing would
 -- meet it as well. Here another value is set first.
 unfoldable pub unstarred : List Example
 unstarred =

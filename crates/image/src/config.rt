@@ -38,7 +38,7 @@ impl Config {
     }
 
     // The first check that fails: 10, 11, 12, 13.
-    pub fn validate(self) -> Checked
+    pub(crate) fn validate(self) -> Checked
         ensures { λ r. ⌜ faultMeant r ≡ settingsFault (settingsMeant self) ⌝ }
     {
         let limb_bits = self.limb_bits;

@@ -125,7 +125,7 @@ fn read_header(image: &[u8]) -> ProgramHeader
 
 impl ProgramHeader {
     // What a header alone can be refused for: 25, 26, 10 to 13.
-    pub fn validate(self) -> Checked
+    fn validate(self) -> Checked
         ensures { λ r. ⌜ faultMeant r ≡ headerFault (headerMeant self) ⌝ }
     {
         if self.magic != 0x52494B5A {

@@ -17,13 +17,13 @@ use Rattle.text.specs.Tokens.{Token as Meant}
 use Rattle.text.specs.Lines.{indent, readLine}
 use Rattle.text.specs.Lines.{Line as Record}
 use Rattle.text.specs.Places.{restAt, endAt}
-use Rattle.text.specs.Contracts.{kindMeant, filler, firsts, meant, spelling, LineRead}
+use Rattle.text.specs.Contracts.{kindMeant, filler, firsts, meant, spelling, recordAt}
 use Rattle.text.specs.declared.lexer.Kind.{Kind as TokenKind}
 use Rattle.text.specs.declared.lexer.Kind.the-variants.{Directive}
 use Rattle.text.specs.declared.lexer.Token.{Token}
 use Rattle.text.specs.declared.parser.Line.{Line}
-use Rattle.text.proofs.Fronts.{part-cons, names-ok}
-use Rattle.text.proofs.Left.{found-solid}
+use Rattle.text.proofs.Fronts.{part-cons}
+use Rattle.text.proofs.Recording.{LineRead, line-read}
 use Rattle.instruction.specs.Operands.{Instruction, markByte, readInstruction, behind}
 use Rattle.reading.proofs.Line.{behind-none}
 use Rattle.image.specs.Settings.{Settings, configured}
@@ -46,12 +46,10 @@ use Rattle.passes.specs.declared.second_pass.Coded.the-variants.{Word, N
 
 -- ---- the tokens of a record
 
-pub told : {s : List ℕ} {from : ℕ} {l : Line} → LineRead s from l → Told s l
-told r =
-    record {
-      kept = record { nine = r .nine; inside-text = r .inside-text };
-      solid = λ i h k. found-solid present names-ok _ _ _ (r .is-next i h k .0) .0;
-    }
+pub told : (s : List ℕ) (from : ℕ) (l : Line) → l ≡ recordAt s from → Told s l
+told s from l e =
+    let r = line-read s from l e in
+    record { kept = record { nine = r .nine; inside-text = r .inside-text }; solid = r .solid }
 
 module _ (s : List ℕ) (ts : List Token) (count : ℕ) where
   firsts-length : length (firsts s ts count) ≤ count
@@ -224,7 +222,10 @@ two-tokens s ts count u e =
 
 -- ---- the line at a place
 
-module _ (s : List ℕ) (from : ℕ) (l : Line) (h : LineRead s from l) (c : Context) where
+module _ (s : List ℕ) (from : ℕ) (l : Line) (is : l ≡ recordAt s from) (c : Context) where
+  h : LineRead s from l
+  h = line-read s from l is
+
   pub line-record : (r : Read) → l .bad ≡ false → RecordIs s l c r → LineIs s from c r
   unfolding endOf
   line-record r b q =
@@ -245,7 +246,7 @@ module _ (s : List ℕ) (from : ℕ) (l : Line) (h : LineRead s from l) (c : Con
       record {
         reads = rw e;
         starts = λ f. not-found f;
-        ends = rw (endOf, e) (ap (λ (x : Line). x .end) (h .is-spoiled b));
+        ends = rw (endOf, e) (h .bad-ends b);
         in-text = omega arith;
         in-table = tt;
       }

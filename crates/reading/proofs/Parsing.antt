@@ -1,7 +1,7 @@
 -- Operands as the code reads them: a register's, a number's and a mark's place, and the tokens behind a mnemonic.
 use Prim.Native.Nat.{ℕ, _<_}
 use native.Mathlib.Omega.{arith}
-use mathlib.Core.Path.{_≡_, refl}
+use mathlib.Core.Path.{_≡_, refl, ap}
 use mathlib.Core.Bool.{Bool, true, false}
 use mathlib.Core.List.{List, map}
 use lib.ListN.{getD, List·getD-map}
@@ -14,7 +14,7 @@ use Rattle.spelling.specs.declared.register.Register.{Register as Named}
 use Rattle.spelling.proofs.Tests.{by-test, between-true}
 use Rattle.spelling.proofs.Keys.{Below}
 use Rattle.text.specs.Tokens.{Token}
-use Rattle.text.specs.Contracts.{kindMeant, numberOf, extractMeant}
+use Rattle.text.specs.Contracts.{kindMeant, extracted, extractMeant, numberOf}
 use Rattle.text.specs.declared.lexer.Kind.{Kind}
 use Rattle.text.specs.declared.lexer.Kind.the-variants.{Identifier, Register, NoRegister, Number, Negative, Hex, Binary, Directive, Comma, Colon, LParen, RParen}
 use Rattle.text.specs.declared.parser.Extracted.{Extracted}
@@ -72,16 +72,16 @@ number-kind RParen u = refl
 
 -- A token at a number's place that is none.
 pub number-refused : {r : Extracted} (bit width : ℕ) (signed : Bool) (k : Kind) (u : List ℕ) (rest : Result Operands)
-    → r ≡ NoNumber → extractMeant r ≡ numberOf k → refused 8 ≡ readPlace (num bit width signed) (kindMeant k u) rest
+    → r ≡ NoNumber → r ≡ extracted k → refused 8 ≡ readPlace (num bit width signed) (kindMeant k u) rest
 unfolding readPlace
-number-refused bit width signed k u rest g e = rw (readPlace, number-kind k u, ← e, g)
+number-refused bit width signed k u rest g e = rw (readPlace, number-kind k u, ← ap extractMeant e, g)
 
 -- A number stands in front of what is read behind it.
 pub number-read : {r : Extracted} {found : Whole} (bit width : ℕ) (signed : Bool) (k : Kind) (u : List ℕ) (rest : Result Operands) {read : Result Operands}
-    → r ≡ Extract found → extractMeant r ≡ numberOf k → read ≡ rest
+    → r ≡ Extract found → r ≡ extracted k → read ≡ rest
     → withNumber (wholeMeant found) read ≡ readPlace (num bit width signed) (kindMeant k u) rest
 unfolding readPlace
-number-read bit width signed k u rest g e h = rw (readPlace, number-kind k u, ← e, g, h)
+number-read bit width signed k u rest g e h = rw (readPlace, number-kind k u, ← ap extractMeant e, g, h)
 
 -- ---- marks
 

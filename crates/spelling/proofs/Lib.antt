@@ -3,3 +3,4 @@ pub mod Strings
 pub mod Numbers
 pub mod Keys
 pub mod Values
+pub mod Registers

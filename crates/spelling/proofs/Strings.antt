@@ -115,10 +115,6 @@ pub ends-head : (p : ℕ → Bool) (b : ℕ) (s : List ℕ) → ends p (b ∷ s)
 unfolding ends
 ends-head p b s h = by-test (p b) (λ e. absurd (true≢false (sym h ∙ rw (ends, e)))) (λ e. e)
 
-pub ends-cons : (p : ℕ → Bool) (b : ℕ) (s : List ℕ) → p b ≡ false → ends p (b ∷ s) ≡ true
-unfolding ends
-ends-cons p b s h = rw (ends, h)
-
 -- What is of the class, and then something else.
 pub before-append : (p : ℕ → Bool) (s t : List ℕ) → every p s ≡ true → ends p t ≡ true → before p (s ++ t) ≡ s
 unfolding before every ends

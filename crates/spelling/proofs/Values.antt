@@ -3,21 +3,22 @@ use mathlib.Core.Path.{_≡_, _∙_}
 use Prim.Native.Nat.{ℕ, zero, suc, _+_, _*_, _^_, _≤_, _<_}
 use native.Mathlib.Nat.{le-trans, mul-le-mul-right, mul-le-mul-left, mul-one, mul-zero, lt-of-le-of-lt}
 use native.Mathlib.Omega.{arith}
-use mathlib.Core.Option.{none, some}
 use mathlib.Core.List.{List, [], _∷_}
 use lib.ListN.{length, drop, getD, drop-of-length-le}
 use lib.Seq.{drop-cons}
-use lib.Dec.{ltb}
-use borrow.Author.Tests.{lt-ltb, le-ltb, ltb-true, ltb-false}
+use borrow.Author.Tests.{lt-ltb, le-ltb}
 use Rattle.spelling.specs.Numbers.{digitValue, valueFrom}
 use Rattle.spelling.specs.Contracts.{fitting, Capped}
-use Rattle.spelling.proofs.Tests.{by-test}
+use Rattle.spelling.specs.declared.number.Value.the-variants.{Fits, TooLarge}
+use Rattle.spelling.proofs.Tests.{split}
 
-pub fitting-some : (n : ℕ) → n < 2 ^ 64 → fitting n ≡ some n
-fitting-some n h = rw (lt-ltb n (2 ^ 64) h)
+pub fitting-some : (n : ℕ) → n < 2 ^ 64 → fitting n ≡ Fits n
+unfolding fitting
+fitting-some n h = rw (fitting, lt-ltb n (2 ^ 64) h)
 
-pub fitting-none : (n : ℕ) → 2 ^ 64 ≤ n → fitting n ≡ none
-fitting-none n h = rw (le-ltb n (2 ^ 64) h)
+pub fitting-none : (n : ℕ) → 2 ^ 64 ≤ n → fitting n ≡ TooLarge
+unfolding fitting
+fitting-none n h = rw (fitting, le-ltb n (2 ^ 64) h)
 
 pub value-step : (radix a : ℕ) (s : List ℕ) (i : ℕ) → i < length s
     → valueFrom radix a (drop i s) ≡ valueFrom radix (a * radix + digitValue (getD s i 0)) (drop (suc i) s)
@@ -56,12 +57,14 @@ pub over : {radix cap : ℕ} → Capped radix cap → (a : ℕ) (s : List ℕ) (
 over {radix} c a s i h l = rw (value-step radix a s i h) (le-trans l (value-ge radix (radix-pos c) _ (drop (suc i) s)))
 
 -- What an answer says of the value.
-pub fits-is : (n v : ℕ) → some v ≡ fitting n → (n ≡ v) × (n < 2 ^ 64)
+pub fits-is : (n v : ℕ) → Fits v ≡ fitting n → (n ≡ v) × (n < 2 ^ 64)
 fits-is n v e =
-    by-test (ltb n (2 ^ 64)) (λ t. let q : some v ≡ some n = e ∙ rw t in (cc, ltb-true n (2 ^ 64) t))
-    (λ t. let q : some v ≡ none = e ∙ rw t in let z : _≡_ {A = ℕ} 0 1 = cc in absurd (omega arith))
+    split n (2 ^ 64)
+    (λ h. let q : Fits v ≡ Fits n = e ∙ fitting-some n h in (cc, h))
+    (λ h. let q : Fits v ≡ TooLarge = e ∙ fitting-none n h in let z : _≡_ {A = ℕ} 0 1 = cc in absurd (omega arith))
 
-pub large-is : (n : ℕ) → none ≡ fitting n → 2 ^ 64 ≤ n
+pub large-is : (n : ℕ) → TooLarge ≡ fitting n → 2 ^ 64 ≤ n
 large-is n e =
-    by-test (ltb n (2 ^ 64)) (λ t. let q : none ≡ some n = e ∙ rw t in let z : _≡_ {A = ℕ} 0 1 = cc in absurd (omega arith))
-    (λ t. ltb-false n (2 ^ 64) t)
+    split n (2 ^ 64)
+    (λ h. let q : TooLarge ≡ Fits n = e ∙ fitting-some n h in let z : _≡_ {A = ℕ} 0 1 = cc in absurd (omega arith))
+    (λ h. h)

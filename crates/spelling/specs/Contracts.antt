@@ -4,7 +4,7 @@ use mathlib.Core.Path.{_≡_}
 use mathlib.Core.Bool.{Bool, true, false}
 use mathlib.Core.Option.{Option, none, some}
 use mathlib.Core.List.{List, [], _∷_}
-use lib.ListN.{length}
+use lib.ListN.{length, getD}
 use lib.Dec.{leb, ltb}
 use lib.IntN.{ℤ, pos, negsuc}
 use Rattle.spelling.specs.Bytes.{digit, hexDigit, binaryDigit, namePart, blank, inside, margin, ascii}
@@ -16,6 +16,8 @@ use Rattle.spelling.specs.declared.register.Register.{Register}
 use Rattle.spelling.specs.declared.register.Register.the-variants.{R0, R1, R2, R3, R4, R5, R6, R7, R8, R9, R10, R11, R12, R13, R14, R15}
 use Rattle.spelling.specs.declared.name.RegisterName.{RegisterName}
 use Rattle.spelling.specs.declared.name.RegisterName.the-variants.{Is, NoSuch, Other}
+use Rattle.spelling.specs.declared.number.Radix.{Radix}
+use Rattle.spelling.specs.declared.number.Radix.the-variants.{Binary, Decimal, Hex}
 use Rattle.spelling.specs.declared.number.Value.{Value}
 use Rattle.spelling.specs.declared.number.Value.the-variants.{Fits, TooLarge}
 use Rattle.spelling.specs.declared.number.Whole.{Whole}
@@ -52,6 +54,10 @@ indexOf R13 = 13
 indexOf R14 = 14
 indexOf R15 = 15
 
+-- The register with a number; there is none above R15.
+unfoldable pub registerAt : ℕ → Register
+registerAt n = getD (R0 ∷ R1 ∷ R2 ∷ R3 ∷ R4 ∷ R5 ∷ R6 ∷ R7 ∷ R8 ∷ R9 ∷ R10 ∷ R11 ∷ R12 ∷ R13 ∷ R14 ∷ R15 ∷ []) n R15
+
 -- The number of the register that a name names, if it is a name and names one.
 abbrev pub nameNumber : Option Name → Option (Option ℕ)
 nameNumber none = none
@@ -73,16 +79,13 @@ keyOf s = elim (leb (length s) 7) [ true ↦ packed s | false ↦ 0 ]
 -- ---- numbers
 
 -- A value, where it fits 64 bits.
-abbrev pub whenFits : Bool → ℕ → Option ℕ
-whenFits true n = some n
-whenFits false n = none
+unfoldable pub fitting : ℕ → Value
+fitting n = elim (ltb n (2 ^ 64)) [ true ↦ Fits n | false ↦ TooLarge ]
 
-abbrev pub fitting : ℕ → Option ℕ
-fitting n = whenFits (ltb n (2 ^ 64)) n
-
-abbrev pub valueMeant : Value → Option ℕ
-valueMeant (Fits n) = some n
-valueMeant TooLarge = none
+abbrev pub baseOf : Radix → ℕ
+baseOf Binary = 2
+baseOf Decimal = 10
+baseOf Hex = 16
 
 -- The cap is the largest number whose product with the radix is below 2^64.
 pub record Capped (radix cap : ℕ) : Type 0 where

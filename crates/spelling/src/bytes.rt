@@ -6,7 +6,7 @@ ghost use Rattle.spelling.specs.Bytes.{between, letter, digit, hexDigit,
 ghost use Rattle.spelling.specs.Bytes.{same as sameSpelling};
 ghost use Rattle.spelling.specs.Contracts.{isOf};
 
-// A class that a run is of.
+// Byte classes that `run_end` can skip.
 pub enum Class {
     NamePart,
     Digit,
@@ -24,7 +24,7 @@ pub fn within(lo: u8, hi: u8, b: u8) -> bool
     lo <= b && b <= hi
 }
 
-pub fn is_letter(b: u8) -> bool
+fn is_letter(b: u8) -> bool
     ensures { λ r. ⌜ r ≡ letter b ⌝ }
 {
     within(b'a', b'z', b) || within(b'A', b'Z', b)
@@ -36,7 +36,7 @@ pub fn is_digit(b: u8) -> bool
     within(b'0', b'9', b)
 }
 
-pub fn is_hex_digit(b: u8) -> bool
+fn is_hex_digit(b: u8) -> bool
     ensures { λ r. ⌜ r ≡ hexDigit b ⌝ }
 {
     is_digit(b) || (within(b'a', b'f', b) || within(b'A', b'F', b))
@@ -54,14 +54,14 @@ pub fn is_name_part(b: u8) -> bool
     is_name_start(b) || is_digit(b)
 }
 
-pub fn is_blank(b: u8) -> bool
+fn is_blank(b: u8) -> bool
     ensures { λ r. ⌜ r ≡ blank b ⌝ }
 {
     b == b'\t' || b == b' '
 }
 
 // What an end of a line loses, byte 10 aside, which ends the line.
-pub fn is_margin(b: u8) -> bool
+fn is_margin(b: u8) -> bool
     ensures { λ r. ⌜ r ≡ margin b ⌝ }
 {
     if b == b'\n' {
@@ -70,7 +70,7 @@ pub fn is_margin(b: u8) -> bool
     within(9, 13, b) || b == b' '
 }
 
-pub fn is_in(class: Class, b: u8) -> bool
+fn is_in(class: Class, b: u8) -> bool
     ensures { λ r. ⌜ r ≡ isOf class b ⌝ }
 {
     match class {

@@ -13,7 +13,7 @@ pub enum RegisterName {
 }
 
 // The key of a spelling: its bytes, the first lowest, with a 1 behind them; 0 where there are more than seven.
-pub fn key(spelling: &[u8]) -> u64
+fn key(spelling: &[u8]) -> u64
     ensures { λ r. ⌜ r ≡ keyOf (now (spelling .entry)) ⌝ }
 {
     if 7 < spelling.len() {

@@ -2,7 +2,14 @@
 ghost use mathlib.Core.Path.{_≡_};
 ghost use Prim.Native.Nat.{suc, _%_};
 ghost use Rattle.spelling.specs.Numbers.{digitValue, valueOf};
-ghost use Rattle.spelling.specs.Contracts.{valueMeant, fitting, Capped, wholeMeant, Reduced};
+ghost use Rattle.spelling.specs.Contracts.{baseOf, fitting, Capped, wholeMeant, Reduced};
+
+// The radix by which digits are read.
+pub enum Radix {
+    Binary,
+    Decimal,
+    Hex,
+}
 
 pub enum Value {
     Fits(u64),
@@ -41,18 +48,42 @@ pub fn wide(x: u8) -> u64
     x as u64
 }
 
-// The value of digits, the highest first; `cap` is the largest number whose product with the radix fits.
-pub fn value_of(digits: &[u8], radix: u64, cap: u64) -> Value
-    requires { ⌜ Capped radix cap ⌝ }
-    ensures { λ r. ⌜ valueMeant r ≡ fitting (valueOf radix (now (digits .entry))) ⌝ }
+impl Radix {
+    fn base(self) -> u64
+        ensures { λ r. ⌜ r ≡ baseOf self ⌝ }
+    {
+        match self {
+            Radix::Binary => 2,
+            Radix::Decimal => 10,
+            Radix::Hex => 16,
+        }
+    }
+
+    // The largest number whose product with the base fits 64 bits: known beforehand, so that no number costs a division.
+    fn cap(self) -> u64
+        ensures { λ r. ⌜ Capped (baseOf self) r ⌝ }
+    {
+        match self {
+            Radix::Binary => 9223372036854775807,
+            Radix::Decimal => 1844674407370955161,
+            Radix::Hex => 1152921504606846975,
+        }
+    }
+}
+
+// The value of digits, the highest first.
+pub fn value_of(digits: &[u8], radix: Radix) -> Value
+    ensures { λ r. ⌜ r ≡ fitting (valueOf (baseOf radix) (now (digits .entry))) ⌝ }
 {
+    let base = radix.base();
+    let cap = radix.cap();
     let mut value: u64 = 0;
     let mut i = 0;
     while i < digits.len() {
         if cap < value {
             return Value::TooLarge;
         }
-        let shifted = value * radix;
+        let shifted = value * base;
         let digit = wide(digit_value(digits[i]));
         if 0xFFFF_FFFF_FFFF_FFFF - shifted < digit {
             return Value::TooLarge;

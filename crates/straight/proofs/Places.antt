@@ -22,14 +22,14 @@ use Rattle.spelling.proofs.Tests.{split, both, not-true, no-both, or-right, bet
 use Rattle.spelling.proofs.Strings.{every-head, every-tail, every-mono, every-run, take-run, run-past, run-no, run-yes, run-end, run-le}
 use Rattle.text.specs.Tokens.{Token, isIdentifier, isRegister, register, number, comma, colon, opening, closing, markToken, tokens}
 use Rattle.text.specs.Places.{restAt, leftAt, endAt}
-use Rattle.text.specs.Contracts.{meant, Stepped, NoWord}
+use Rattle.text.specs.Contracts.{meant, scanAt, NoWord}
 use Rattle.text.specs.declared.lexer.Token.{Token as KeptToken}
 use Rattle.text.specs.declared.lexer.Kind.the-variants.{Register as RegisterKind, Number, Negative, Comma, Colon, LParen, RParen}
 use Rattle.text.specs.declared.lexer.Scan.the-variants.{Found}
 use Rattle.text.proofs.Scanning.{register-identifier}
 use Rattle.text.proofs.Left.{start-solid, digit-solid, high-solid, blank-inside, blanks-at, end-on, nothing-left, none-read}
-use Rattle.text.proofs.Fronts.{part-cons, at-found, names-ok, word-at, decimal-fits, digits-scan, minus-fits}
-use Rattle.text.proofs.Stepping.{solid-step, margin-on, mark-step, blank-step}
+use Rattle.text.proofs.Fronts.{part-cons, at-found, names-ok, word-at, number-kind, minus-kind, decimal-fits, digits-scan, minus-fits}
+use Rattle.text.proofs.Stepping.{solid-step, margin-on, mark-step, blank-step, stepped}
 use Rattle.instruction.specs.Operands.{readNumber, markByte}
 use Rattle.straight.specs.Contracts.{Reads, RegisterIs, Names, Numbered, IsMark, DigitsAre, Signed, NumberIs}
 use Rattle.straight.specs.declared.operand.RegisterAt.{RegisterAt}
@@ -40,9 +40,10 @@ use Rattle.straight.specs.declared.operand.NumberAt.the-variants.{Is as 
 
 -- ---- what a scan finds
 
-pub stepped-reads : (s : List ℕ) (at : ℕ) (t : KeptToken) (next : ℕ) → Stepped s at (Found t next) → Reads s at (meant s t) next
-stepped-reads s at t next p =
-    let (st, sz, f, l, e) = p .leads in
+pub stepped-reads : (s : List ℕ) (at : ℕ) (t : KeptToken) (next : ℕ) → Found t next ≡ scanAt s at → Reads s at (meant s t) next
+stepped-reads s at t next found =
+    let p = stepped s at (Found t next) found in
+    let (st, sz, n, f, l, e) = p .leads in
     record { means = p .means; on = f; in-text = l; ends = e }
 
 -- Past blanks.
@@ -236,14 +237,14 @@ number-reads s at begin false d (l, q) are some-digit inside-text p =
     let sc = digits-scan s at e l b m (λ z k. split (at + 1) e
     (λ w. let g = part-at digit s at e (at + 1) f (omega arith) (omega arith) w in ((λ x. no-both g (rw x x-no-digit)), (λ x. no-both g (rw x b-no-digit))))
     (λ w. let g : e ≡ at + 1 = omega arith in ((λ x. no-letter _ 120 x-part p (rw g x)), (λ x. no-letter _ 98 b-part p (rw g x))))) in
-    let w = at-found s at e (Number (d .value)) (omega arith) (omega arith) (decimal-fits s at e (d .value) o (omega arith) b sc v (omega (arith, are .small))) in
+    let w = at-found s at e (Number (d .value)) (omega arith) (number-kind s at e (d .value) o l b) (decimal-fits s at e (d .value) o (omega arith) b sc v (omega (arith, are .small))) in
     (number (pos (d .value)), (refl, stepped-reads s at (record { kind = Number (d .value); start = at; length = e - at }) e (solid-step s at _ l (digit-solid _ b) w)))
 number-reads s at begin true d (l, (c, q)) are some-digit inside-text p =
     let e = d .end in
     let f : every digit (take (e - (at + 1)) (drop (at + 1) s)) ≡ true = rw (← q) (are .digits) in
     let v : valueOf 10 (take (e - (at + 1)) (drop (at + 1) s)) ≡ d .value = rw (← q) (sym (are .value-is)) in
     let m = run-is digit s (at + 1) e (omega (arith, are .on)) inside-text f (part-no-digit _ p) in
-    let w = at-found s at e (Negative (d .value)) (omega (arith, are .on)) (omega arith) (minus-fits s at e (d .value) l c m (λ z. some-digit (z ∙ sym q)) v (omega (arith, are .small))) in
+    let w = at-found s at e (Negative (d .value)) (omega (arith, are .on)) (minus-kind s at e (d .value) (omega (arith, are .on)) l c) (minus-fits s at e (d .value) l c m (λ z. some-digit (z ∙ sym q)) v (omega (arith, are .small))) in
     (number (minus (d .value)), (refl, stepped-reads s at (record { kind = Negative (d .value); start = at; length = e - at }) e (solid-step s at _ l (high-solid _ (omega (arith, c))) w)))
 
 -- ---- marks
@@ -261,7 +262,7 @@ colon-plain = record { no-blank = refl; no-start = refl; no-digit = refl; no-min
 
 pub colon-reads : (s : List ℕ) (at : ℕ) → at < length s → getD s at 0 ≡ 58 → Reads s at colon (at + 1)
 unfolding mark markToken
-colon-reads s at l b = stepped-reads s at _ (at + 1) (mark-step s at Colon colon l (rw b colon-plain) (rw b) (rw b) refl)
+colon-reads s at l b = stepped-reads s at _ (at + 1) (mark-step s at Colon colon l (rw b colon-plain) (rw b) (rw b) (λ u. refl) (λ u. refl))
 
 pub no-mark : (m : ℕ) → m ≡ 0 → IsMark m → ⊥
 no-mark m z (inl e) = omega arith
@@ -273,13 +274,13 @@ pub mark-reads : (s : List ℕ) (from at m : ℕ) → from ≤ length s → at �
 unfolding mark markToken markByte
 mark-reads s from at m fl q l e (inl i) =
     let b : getD s at 0 ≡ 44 = e ∙ i in
-    (comma, (sym i, stepped-reads s from _ (at + 1) (blank-step s from at _ fl q l (mark-step s at Comma comma l (mark-plain _ (inl b)) (rw b) (rw b) refl))))
+    (comma, (sym i, stepped-reads s from _ (at + 1) (blank-step s from at _ fl q l (mark-step s at Comma comma l (mark-plain _ (inl b)) (rw b) (rw b) (λ u. refl) (λ u. refl)))))
 mark-reads s from at m fl q l e (inr (inl i)) =
     let b : getD s at 0 ≡ 40 = e ∙ i in
-    (opening, (sym i, stepped-reads s from _ (at + 1) (blank-step s from at _ fl q l (mark-step s at LParen opening l (mark-plain _ (inr (inl b))) (rw b) (rw b) refl))))
+    (opening, (sym i, stepped-reads s from _ (at + 1) (blank-step s from at _ fl q l (mark-step s at LParen opening l (mark-plain _ (inr (inl b))) (rw b) (rw b) (λ u. refl) (λ u. refl)))))
 mark-reads s from at m fl q l e (inr (inr i)) =
     let b : getD s at 0 ≡ 41 = e ∙ i in
-    (closing, (sym i, stepped-reads s from _ (at + 1) (blank-step s from at _ fl q l (mark-step s at RParen closing l (mark-plain _ (inr (inr b))) (rw b) (rw b) refl))))
+    (closing, (sym i, stepped-reads s from _ (at + 1) (blank-step s from at _ fl q l (mark-step s at RParen closing l (mark-plain _ (inr (inr b))) (rw b) (rw b) (λ u. refl) (λ u. refl)))))
 
 -- ---- the line's end
 

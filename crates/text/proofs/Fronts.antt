@@ -20,13 +20,16 @@ use Rattle.spelling.specs.declared.name.RegisterName.{RegisterName}
 use Rattle.spelling.specs.declared.name.RegisterName.the-variants.{Is, NoSuch, Other}
 use Rattle.spelling.proofs.Tests.{split, by-test}
 use Rattle.spelling.proofs.Strings.{take-run, run-le}
+use Rattle.spelling.proofs.Registers.{register-index}
 use Rattle.text.specs.Tokens.{isIdentifier, isRegister, Class, Number, Hex, Binary, Directive, Mark, longest, Token, identifier, register, number, hex, binary, directive, within, numberToken, patternToken, registerToken, markToken, tokenOf, sized, matched, front}
-use Rattle.text.specs.Contracts.{kindMeant, At}
+use Rattle.text.specs.Contracts.{kindMeant, kindFor, tokenAt}
 use Rattle.text.specs.declared.lexer.Kind.{Kind}
-use Rattle.text.specs.declared.lexer.Kind.the-variants.{Identifier as IdentifierKind, Register as RegisterKind, NoRegister}
-use Rattle.text.specs.declared.lexer.Scan.the-variants.{Found}
+use Rattle.text.specs.declared.lexer.Kind.the-variants.{Identifier as IdentifierKind, Register as RegisterKind, NoRegister, Number as NumberKind, Negative}
+use Rattle.text.specs.declared.lexer.Scan.the-variants.{Found, Bad}
 use Rattle.text.proofs.Scanning.{matching, wordClass, atLeastOne, radixOr, digitScan, dotScan, scan, longest-scan, digit-from, digit-not-start}
 use Rattle.text.proofs.Tokens.{front-scan}
+use Rattle.text.proofs.Left.{front-at}
+use Rattle.text.proofs.Meanings.{abs-minus}
 
 -- ---- places
 
@@ -42,15 +45,22 @@ part-cons s at e h l =
 
 -- ---- the answers
 
-pub at-found : (s : List ℕ) (at e : ℕ) (k : Kind) → at ≤ e → e ≤ length s
-    → front present (drop at s) ≡ sized (e - at) (some (kindMeant k (take (e - at) (drop at s))))
-    → At s at (Found (record { kind = k; start = at; length = e - at }) e)
-unfolding sized
-at-found s at e k h l q = (q, refl, omega arith, l)
-
 pub names-ok : each (λ n. isIdentifier (n .spelling)) present ≡ true
 unfolding each present numbered conventional name bytes isIdentifier every nameStart namePart letter digit between
 names-ok = refl
+
+-- A token up to a place, whose kind is that of its meaning and its spelling.
+pub at-found : (s : List ℕ) (at e : ℕ) (k : Kind) → at ≤ e → kindFor (kindMeant k (take (e - at) (drop at s))) (take (e - at) (drop at s)) ≡ k
+    → front present (drop at s) ≡ sized (e - at) (some (kindMeant k (take (e - at) (drop at s))))
+    → Found (record { kind = k; start = at; length = e - at }) e ≡ tokenAt s at
+unfolding tokenAt sized
+at-found s at e k h f q =
+    let n : at + (e - at) ≡ e = omega arith in
+    rw (front-at present names-ok s at, q, f, n)
+
+pub at-none : (s : List ℕ) (at : ℕ) → front present (drop at s) ≡ none → Bad ≡ tokenAt s at
+unfolding tokenAt
+at-none s at q = rw (front-at present names-ok s at, q)
 
 -- What the text begins with is what the scan finds.
 pub front-found : (s : List ℕ) (n : ℕ) (c : Class) → scan present s ≡ some (matching n c) → front present s ≡ sized n (tokenOf present c (take n s))
@@ -111,18 +121,32 @@ kind-word (Is r) u = refl
 kind-word NoSuch u = refl
 kind-word Other u = refl
 
+-- It is the kind of that meaning.
+name-kind : (n : RegisterName) (u : List ℕ) → kindFor (kindMeant (nameKind n) u) u ≡ nameKind n
+name-kind (Is r) u = ap RegisterKind (register-index r)
+name-kind NoSuch u = refl
+name-kind Other u = refl
+
 pub word-at : (s : List ℕ) (at e : ℕ) (n : RegisterName) → at < length s → nameStart (getD s at 0) ≡ true → e ≡ at + 1 + run namePart (drop (at + 1) s)
-    → nameMeant n ≡ nameNumber (named present (take (e - at) (drop at s))) → At s at (Found (record { kind = nameKind n; start = at; length = e - at }) e)
+    → nameMeant n ≡ nameNumber (named present (take (e - at) (drop at s))) → Found (record { kind = nameKind n; start = at; length = e - at }) e ≡ tokenAt s at
 word-at s at e n l h q m =
     let u = take (e - at) (drop at s) in
-    let r = run-in namePart s (at + 1) (omega (arith, add-one at)) in
-    at-found s at e (nameKind n) (omega arith) (omega arith)
+    at-found s at e (nameKind n) (omega arith) (name-kind n u)
     (word-front s at e l h q ∙ ap (sized (e - at)) (word-token u ∙ ap (λ (o : Option (Option ℕ)). some (wordMeant o u)) (sym m) ∙ ap some (kind-word n u)))
 
 -- ---- a number
 
 digit-no-minus : (b : ℕ) → digit b ≡ true → eqb b 45 ≡ false
 digit-no-minus b h = let l = digit-from b h in ne-eqb b 45 (λ e. omega arith)
+
+-- A number's kind, by the first byte of its spelling.
+pub number-kind : (s : List ℕ) (at e n : ℕ) → at < e → at < length s → digit (getD s at 0) ≡ true
+    → kindFor (number (pos n)) (take (e - at) (drop at s)) ≡ NumberKind n
+number-kind s at e n h l d = rw (part-cons s at e h l, digit-no-minus (getD s at 0) d)
+
+pub minus-kind : (s : List ℕ) (at e n : ℕ) → at < e → at < length s → getD s at 0 ≡ 45
+    → kindFor (number (minus n)) (take (e - at) (drop at s)) ≡ Negative n
+minus-kind s at e n h l d = rw (part-cons s at e h l, d, abs-minus n)
 
 pub decimal-fits : (s : List ℕ) (at e v : ℕ) → at < e → e ≤ length s → digit (getD s at 0) ≡ true
     → scan present (drop at s) ≡ some (matching (e - at) Number) → valueOf 10 (take (e - at) (drop at s)) ≡ v → v < 2 ^ 63

@@ -411,6 +411,27 @@ blanks-at names s from =
     ap (tokens names) (left-is s from) ∙ left-blanks names (drop from s)
     ∙ ap (λ (x : List ℕ). tokens names (left x)) (drop-drop (run blank (drop from s)) from s) ∙ ap (tokens names) (sym (left-is s (from + run blank (drop from s))))
 
+-- What is left begins as the text does from there on.
+pub front-at : (names : List Name) → each (λ n. isIdentifier (n .spelling)) names ≡ true → (s : List ℕ) (at : ℕ) → front names (leftAt s at) ≡ front names (drop at s)
+front-at names ok s at = ap (front names) (left-is s at) ∙ left-front names ok (drop at s)
+
+-- If anything is left, the byte at the place is.
+pub left-byte : (s : List ℕ) (at b : ℕ) (l : List ℕ) → leftAt s at ≡ b ∷ l → (at < length s) × (b ≡ getD s at 0)
+unfolding Begins
+left-byte s at b l e =
+    split at (length s)
+    (λ h. let q : left (getD s at 0 ∷ drop (suc at) s) ≡ b ∷ l = ap left (sym (drop-cons s at 0 h)) ∙ sym (left-is s at) ∙ e in
+    (h, rw q at (left-begins (getD s at 0) (drop (suc at) s))))
+    (λ h. let q : _≡_ {A = List ℕ} [] (b ∷ l) = sym left-empty ∙ ap left (sym (drop-of-length-le s h)) ∙ sym (left-is s at) ∙ e in
+    let z : _≡_ {A = ℕ} 0 1 = cc in absurd (omega arith))
+
+-- A solid byte is left.
+pub solid-left : (s : List ℕ) (at : ℕ) → at < length s → solid (getD s at 0) ≡ true → leftAt s at ≡ [] → ⊥
+solid-left s at l h e =
+    let q : _≡_ {A = List ℕ} (getD s at 0 ∷ left (drop (suc at) s)) [] = sym (left-solid (getD s at 0) (drop (suc at) s) h) ∙ ap left (sym (drop-cons s at 0 l)) ∙ sym (left-is s at) ∙ e in
+    let z : _≡_ {A = ℕ} 0 1 = cc in
+    absurd (omega arith)
+
 -- A token found is in front of what is read behind it.
 pub found-at : (names : List Name) → each (λ n. isIdentifier (n .spelling)) names ≡ true → (s : List ℕ) (at : ℕ) (m : Token) (n : ℕ)
     → front names (drop at s) ≡ some (record { token = m; size = n }) → tokens names (leftAt s at) ≡ infront m (tokens names (leftAt s (at + n)))
@@ -431,13 +452,6 @@ found-solid names ok s m n h =
 -- The margin in front, and what stands behind it.
 margin-split : (t : List ℕ) → before margin t ++ drop (run margin t) t ≡ t
 margin-split t = ap (λ (x : List ℕ). x ++ drop (run margin t) t) (sym (take-run margin t)) ∙ take-append-drop (run margin t) t
-
--- A solid byte that no token begins at.
-pub solid-bad : (names : List Name) → each (λ n. isIdentifier (n .spelling)) names ≡ true → (s : List ℕ) (at : ℕ) → at < length s → solid (getD s at 0) ≡ true
-    → front names (drop at s) ≡ none → tokens names (leftAt s at) ≡ none
-solid-bad names ok s at l h f =
-    let e = drop-cons s at 0 l in
-    ap (tokens names) (left-is s at) ∙ rw e (left-bad names ok (getD s at 0) (drop (suc at) s) (left (drop (suc at) s)) (left-solid (getD s at 0) (drop (suc at) s) h) (solid-plain (getD s at 0) h) (rw e at f))
 
 -- Margin up to the text's end, the line's end or a comment: nothing is left.
 pub nothing-left : (s : List ℕ) (at : ℕ) → at ≤ length s
@@ -463,6 +477,17 @@ bad-left names s at h e =
     let k : _≡_ {A = Option (List Token)} none (some []) = sym h ∙ none-read names s at e in
     let z : _≡_ {A = ℕ} 0 1 = cc in
     absurd (omega arith)
+
+-- No token in front of what is left.
+pub left-read-bad : (names : List Name) → each (λ n. isIdentifier (n .spelling)) names ≡ true → (s : List ℕ) (at : ℕ) → (leftAt s at ≡ [] → ⊥)
+    → blank (getD s at 0) ≡ false → front names (drop at s) ≡ none → tokens names (leftAt s at) ≡ none
+left-read-bad names ok s at some-left hb f = go (leftAt s at) refl
+  where
+    go : (l : List ℕ) → leftAt s at ≡ l → tokens names (leftAt s at) ≡ none
+    go [] e = absurd (some-left e)
+    go (b ∷ l) e =
+        let (h, q) = left-byte s at b l e in
+        ap (tokens names) e ∙ tokens-bad names b l (ap blank q ∙ hb) (ap (front names) (sym e) ∙ front-at names ok s at ∙ f)
 
 -- A byte that is no margin, and neither ends the line nor begins a comment.
 other-solid : (b : ℕ) → margin b ≡ false → (b ≡ 10 → ⊥) → (b ≡ 35 → ⊥) → solid b ≡ true

@@ -1,15 +1,12 @@
--- The record of a line: the loop that keeps the first nine tokens and counts all.
+-- The record of a line: what the tokens mean that are found one after the other, and the loop that keeps the first nine and counts all.
 use mathlib.Core.Path.{_≡_, refl, sym, ap, _∙_}
 use Prim.Native.Nat.{ℕ, zero, suc, _+_, _-_, _≤_, _<_}
-use native.Mathlib.Nat.{add-zero, zero-add}
 use native.Mathlib.Omega.{arith}
-use native.Mathlib.Numerals.{add-one}
-use native.Mathlib.Decide.{ℕ-discrete}
-use mathlib.Core.Bool.{false, true≢false}
-use mathlib.Core.List.{List, [], _∷_, _++_, map, map-append, append-assoc, append-nil}
+use mathlib.Core.Bool.{Bool, true, false, true≢false}
+use mathlib.Core.List.{List, [], _∷_, _++_, map, append-assoc, append-nil}
 use mathlib.Core.Option.{Option, none, some}
-use lib.ListN.{length, take, drop, getD, set, replicate, length-drop, length-set, length-take, length-map, drop-of-length-le}
-use lib.Seq.{take-all, take-append-le, take-suc-set, drop-set-lt, getD-set-same, getD-set-other, drop-drop, getD-drop}
+use lib.ListN.{length, take, drop, getD, set, replicate, length-append, length-drop, length-take, length-map, length-replicate, List·getD-append}
+use lib.Seq.{take-all, take-append-le, take-append-seam, set-at, getD-append-add, getD-drop, getD-take}
 use Rattle.spelling.specs.Bytes.{blank, run, inside, margin}
 use Rattle.spelling.specs.Names.{present}
 use Rattle.spelling.proofs.Tests.{split, not-true, no-both}
@@ -19,228 +16,304 @@ use Rattle.text.specs.Tokens.{Token as Meant}
 use Rattle.text.specs.Lines.{indent, kept, lineOf, recordOf, readLine}
 use Rattle.text.specs.Lines.{Line as Record}
 use Rattle.text.specs.Places.{restAt, leftAt, endAt}
-use Rattle.text.specs.Contracts.{meant, Stepped, firsts, filler, placeOf, IsNext, spoiled, LineRead}
+use Rattle.text.specs.Contracts.{meant, past, scanAt, infrontOf, followed, tokensFrom, allFrom, filler, firstNine, spoiled, lineWith, recordAt, firsts}
 use Rattle.text.specs.declared.lexer.Token.{Token}
+use Rattle.text.specs.declared.lexer.Scan.{Scan}
 use Rattle.text.specs.declared.lexer.Scan.the-variants.{Found, Bad, End}
-use Rattle.text.proofs.Left.{blank-margin, content-at, indent-at}
-use Rattle.text.proofs.Stepping.{margin-on}
+use Rattle.text.specs.declared.parser.Line.{Line}
+use Rattle.text.proofs.Left.{blank-margin, left-byte, none-read, content-at, indent-at}
+use Rattle.text.proofs.Stepping.{margin-on, Leads, Stepped, stepped}
 
--- ---- what is kept
+-- ---- the tokens of a line
 
--- What is kept of n tokens that are read, of which the first ones are given, and of those to come.
-keptAfter : List Meant → ℕ → Option (List Meant) → Option Record
-keptAfter ds n none = none
-keptAfter ds n (some ts) = some (record { count = n + length ts; first = take kept (ds ++ ts) })
+-- What tokens of a text mean.
+meantAll : List ℕ → Option (List Token) → Option (List Meant)
+meantAll s none = none
+meantAll s (some ts) = some (map (meant s) ts)
 
-kept-begin : (o : Option (List Meant)) → recordOf o ≡ keptAfter [] 0 o
-unfolding recordOf keptAfter lineOf
-kept-begin none = refl
-kept-begin (some ts) = rw (zero-add (length ts))
+meant-infront : (s : List ℕ) (t : Token) (o : Option (List Token)) → infront (meant s t) (meantAll s o) ≡ meantAll s (infrontOf t o)
+unfolding infront meantAll
+meant-infront s t none = refl
+meant-infront s t (some ts) = refl
 
-kept-end : (ds : List Meant) (n : ℕ) → length ds ≤ 9 → keptAfter ds n (some []) ≡ some (record { count = n; first = ds })
-unfolding keptAfter kept
-kept-end ds n h = rw (add-zero n, append-nil ds, take-all 9 ds h)
+-- Past the text's end nothing is left.
+past-end : (s : List ℕ) (at : ℕ) → length s < at → leftAt s at ≡ []
+past-end s at h = go (leftAt s at) refl
+  where
+    go : (l : List ℕ) → leftAt s at ≡ l → l ≡ []
+    go [] e = refl
+    go (b ∷ l) e = absurd (omega (arith, left-byte s at b l e .0))
 
-kept-more : (ds : List Meant) (n : ℕ) (m : Meant) (o : Option (List Meant)) → keptAfter ds n (infront m o) ≡ keptAfter (ds ++ (m ∷ [])) (n + 1) o
-unfolding keptAfter infront
-kept-more ds n m none = refl
-kept-more ds n m (some ts) =
-    let e : n + suc (length ts) ≡ n + 1 + length ts = omega arith in
-    rw (e, append-assoc ds (m ∷ []) ts)
+-- They are the tokens that are read of the line.
+tokens-from : (n : ℕ) (s : List ℕ) (at : ℕ) → length s < n + at → tokens present (leftAt s at) ≡ meantAll s (tokensFrom n s at)
+unfolding tokensFrom meantAll
+tokens-from zero s at h = none-read present s at (past-end s at (omega arith))
+tokens-from (suc n) s at h = go (scanAt s at) (stepped s at (scanAt s at) refl) (λ next l. tokens-from n s next (omega arith))
+  where
+    go : (r : Scan) → Stepped s at r → ((next : ℕ) → at < next → tokens present (leftAt s next) ≡ meantAll s (tokensFrom n s next))
+        → tokens present (leftAt s at) ≡ meantAll s (followed r (tokensFrom n s))
+    go (Found t next) p f = p .means ∙ ap (infront (meant s t)) (f next (p .leads .3)) ∙ meant-infront s t (tokensFrom n s next)
+    go Bad p f = p .means
+    go (End stop) p f = p .means
 
-kept-full : (ds : List Meant) (n : ℕ) (m : Meant) (o : Option (List Meant)) → 9 ≤ length ds → keptAfter ds n (infront m o) ≡ keptAfter ds (n + 1) o
-unfolding keptAfter infront kept
-kept-full ds n m none h = refl
-kept-full ds n m (some ts) h =
-    let e : n + suc (length ts) ≡ n + 1 + length ts = omega arith in
-    rw (e, take-append-le 9 ds (m ∷ ts) h, take-append-le 9 ds ts h)
+-- Each takes a byte at least, and is a part of the text.
+Parts : List ℕ → List Token → Type 0
+Parts s [] = Unit {0}
+Parts s (t ∷ ts) = (0 < t .length) × (t .start + t .length ≤ length s) × Parts s ts
 
--- ---- the array of nine
+AllParts : List ℕ → Option (List Token) → Type 0
+AllParts s none = Unit {0}
+AllParts s (some ts) = Parts s ts
 
-length-firsts : (s : List ℕ) (ts : List Token) (n : ℕ) → length (firsts s ts n) ≤ length ts
-length-firsts s ts n = rw (length-map (take n ts) (meant s), length-take n ts) (omega arith)
+tokens-parts : (n : ℕ) (s : List ℕ) (at : ℕ) → AllParts s (tokensFrom n s at)
+unfolding tokensFrom AllParts Parts
+tokens-parts zero s at = tt
+tokens-parts (suc n) s at = go (scanAt s at) (stepped s at (scanAt s at) refl .leads) (tokens-parts n s)
+  where
+    infront-parts : (t : Token) (o : Option (List Token)) → 0 < t .length → t .start + t .length ≤ length s → AllParts s o → AllParts s (infrontOf t o)
+    infront-parts t none p l h = tt
+    infront-parts t (some ts) p l h = (p, l, h)
 
-firsts-all : (s : List ℕ) (ts : List Token) (n : ℕ) → length ts ≤ n → firsts s ts n ≡ map (meant s) ts
-firsts-all s ts n h = rw (take-all n ts h)
+    go : (r : Scan) → Leads s at r → ((next : ℕ) → AllParts s (tokensFrom n s next)) → AllParts s (followed r (tokensFrom n s))
+    go (Found t next) l f = infront-parts t (tokensFrom n s next) (l .2) (omega (arith, l .1, l .4)) (f next)
+    go Bad l f = tt
+    go (End stop) l f = tt
 
--- Each token is a part of the text.
-Inside : List ℕ → List Token → Type 0
-Inside s ts = (i : ℕ) → getD ts i filler .start + getD ts i filler .length ≤ length s
+part-at : (s : List ℕ) (ts : List Token) (i : ℕ) → Parts s ts → i < length ts → (0 < getD ts i filler .length) × (getD ts i filler .start + getD ts i filler .length ≤ length s)
+unfolding Parts
+part-at s [] i h l = absurd (omega arith)
+part-at s (t ∷ ts) zero (p, q, h) l = (p, q)
+part-at s (t ∷ ts) (suc i) (p, q, h) l = part-at s ts i h (omega arith)
 
-fillers : (n i : ℕ) (s : List ℕ) → getD (replicate n filler) i filler .start + getD (replicate n filler) i filler .length ≤ length s
-fillers zero i s = omega arith
-fillers (suc n) zero s = omega arith
-fillers (suc n) (suc i) s = fillers n i s
+-- The first begins past the blanks.
+FirstAt : ℕ → Option (List Token) → Type 0
+FirstAt at none = Unit {0}
+FirstAt at (some []) = Unit {0}
+FirstAt at (some (t ∷ ts)) = t .start ≡ at
 
-inside-set : (s : List ℕ) (ts : List Token) (n : ℕ) (t : Token) → n < length ts → t .start + t .length ≤ length s → Inside s ts → Inside s (set ts n t)
-unfolding Inside
-inside-set s ts n t h l f i = elim (ℕ-discrete i n) [
-  | yes e ↦ rw (e, getD-set-same ts n t filler h) l
-  | no e ↦ rw (getD-set-other ts n i t filler e) (f i)
-]
+first-at : (n : ℕ) (s : List ℕ) (at : ℕ) → FirstAt (past s at) (tokensFrom n s at)
+unfolding tokensFrom FirstAt
+first-at zero s at = tt
+first-at (suc n) s at = go (scanAt s at) (stepped s at (scanAt s at) refl .leads)
+  where
+    infront-first : (t : Token) (o : Option (List Token)) → t .start ≡ past s at → FirstAt (past s at) (infrontOf t o)
+    infront-first t none e = tt
+    infront-first t (some ts) e = e
 
-drop-next : (ts : List Token) (n : ℕ) → n < 9 → drop n ts ≡ replicate (9 - n) filler → drop (n + 1) ts ≡ replicate (9 - (n + 1)) filler
-drop-next ts n h e =
-    let q : 9 - n ≡ suc (9 - (n + 1)) = omega arith in
-    sym (drop-drop 1 n ts) ∙ ap (drop 1) e ∙ rw q
+    go : (r : Scan) → Leads s at r → FirstAt (past s at) (followed r (tokensFrom n s))
+    go (Found t next) l = infront-first t (tokensFrom n s next) (l .0)
+    go Bad l = tt
+    go (End stop) l = tt
 
--- ---- each token kept is the next one
+-- ---- the nine places
 
-AllNext : List ℕ → ℕ → List Token → ℕ → Type 0
-AllNext s begin ts n = (i : ℕ) → i < 9 → i < n → IsNext s begin ts i
+length-nine : (ts : List Token) → length (firstNine ts) ≡ 9
+unfolding firstNine
+length-nine ts = omega (arith, length-append (take 9 ts) (replicate (9 - length ts) filler), length-take 9 ts, length-replicate (9 - length ts) filler)
 
--- A token stored behind them changes no place before it.
-place-set : (ts : List Token) (n : ℕ) (t : Token) (begin i : ℕ) → i ≤ n → placeOf (set ts n t) begin i ≡ placeOf ts begin i
-place-set ts n t begin zero h = refl
-place-set ts n t begin (suc i) h = rw (getD-set-other ts n i t filler (λ k. omega arith))
+fillers : (n i : ℕ) → getD (replicate n filler) i filler ≡ filler
+fillers zero i = refl
+fillers (suc n) zero = refl
+fillers (suc n) (suc i) = fillers n i
 
-next-stored : (s : List ℕ) (begin : ℕ) (ts : List Token) (n at next : ℕ) (t : Token) → n < length ts → at ≡ placeOf ts begin n → t .start + t .length ≡ next
-    → Stepped s at (Found t next) → IsNext s begin (set ts n t) n
-next-stored s begin ts n at next t h q e p =
-    let a : placeOf (set ts n t) begin n ≡ at = place-set ts n t begin n (omega arith) ∙ sym q in
-    rw (a, getD-set-same ts n t filler h, e) (p .finds)
+nine-kept : (ts : List Token) (i : ℕ) → i < 9 → i < length ts → getD (firstNine ts) i filler ≡ getD ts i filler
+unfolding firstNine
+nine-kept ts i h l = List·getD-append (take 9 ts) (replicate (9 - length ts) filler) filler i (omega (arith, length-take 9 ts)) ∙ getD-take 9 ts i filler h
 
-next-set : (s : List ℕ) (begin : ℕ) (ts : List Token) (n at next : ℕ) (t : Token) → n < length ts → at ≡ placeOf ts begin n → t .start + t .length ≡ next
-    → Stepped s at (Found t next) → AllNext s begin ts n → AllNext s begin (set ts n t) (n + 1)
-unfolding AllNext
-next-set s begin ts n at next t h q e p f i l m = elim (ℕ-discrete i n) [
-  | yes k ↦ rw k (next-stored s begin ts n at next t h q e p)
-  | no k ↦ rw (place-set ts n t begin i (omega arith), getD-set-other ts n i t filler k) (f i l (omega arith))
-]
+nine-filled : (ts : List Token) (i : ℕ) → length (take 9 ts) ≤ i → getD (firstNine ts) i filler ≡ filler
+unfolding firstNine
+nine-filled ts i h =
+    let e : i ≡ length (take 9 ts) + (i - length (take 9 ts)) = omega arith in
+    ap (λ (x : ℕ). getD (take 9 ts ++ replicate (9 - length ts) filler) x filler) e
+    ∙ getD-append-add (take 9 ts) (replicate (9 - length ts) filler) (i - length (take 9 ts)) filler ∙ fillers (9 - length ts) (i - length (take 9 ts))
 
--- ---- the loop
+-- A token more, where there is a place for it, and where there is none.
+nine-stored : (ts : List Token) (n : ℕ) (t : Token) → n ≡ length ts → n < 9 → set (firstNine ts) n t ≡ firstNine (ts ++ (t ∷ []))
+unfolding firstNine
+nine-stored ts n t e h =
+    let m : 9 - length ts ≡ suc (8 - length ts) = omega arith in
+    let k : length (ts ++ (t ∷ [])) ≡ suc (length ts) = omega (arith, length-append ts (t ∷ [])) in
+    let j : 9 - suc (length ts) ≡ 8 - length ts = omega arith in
+    rw (m, k, j, take-all 9 ts (omega arith), take-all 9 (ts ++ (t ∷ [])) (omega arith), append-assoc ts (t ∷ []) (replicate (8 - length ts) filler))
+    (set-at ts filler (replicate (8 - length ts) filler) t n (sym e))
 
--- Where the first token begins: known once it is read, and before that where the reading stands.
-Begins : List ℕ → ℕ → List Token → ℕ → ℕ → Type 0
-Begins s from ts zero at = at ≡ from + run margin (drop from s)
-Begins s from ts (suc n) at = getD ts 0 filler .start ≡ from + run margin (drop from s)
+nine-full : (ts : List Token) (t : Token) → 9 ≤ length ts → firstNine ts ≡ firstNine (ts ++ (t ∷ []))
+unfolding firstNine
+nine-full ts t h =
+    let m : 9 - length ts ≡ 0 = omega arith in
+    let k : 9 - length (ts ++ (t ∷ [])) ≡ 0 = omega (arith, length-append ts (t ∷ [])) in
+    rw (m, k, take-append-le 9 ts (t ∷ []) h)
 
--- The state of the loop, after `count` tokens, at the place `at`.
-pub record Reading (s : List ℕ) (from : ℕ) (ts : List Token) (count at : ℕ) : Type 0 where
-  pub place : at ≤ length s
-  pub few : count ≤ at
-  nine : length ts ≡ 9
-  same : readLine present (restAt s from) ≡ keptAfter (firsts s ts count) count (tokens present (leftAt s at))
-  ends : endAt s at ≡ endAt s from
-  begins : Begins s from ts count at
-  is-next : AllNext s (from + run margin (drop from s)) ts count
-  stands : count ≤ 9 → at ≡ placeOf ts (from + run margin (drop from s)) count
-  rest : drop count ts ≡ replicate (9 - count) filler
-  within : Inside s ts
+-- ---- what a record says of its line
 
-pub reading-begin : (s : List ℕ) (from at : ℕ) → from ≤ length s → at ≡ from + run margin (drop from s) → Reading s from (replicate 9 filler) 0 at
-unfolding readLine Begins Inside AllNext
-reading-begin s from at h q =
-    let (a, b, c) = margin-on s from at h q in
-    record {
-      place = b;
-      few = omega arith;
-      nine = refl;
-      same = ap (λ (x : List ℕ). recordOf (tokens present x)) (content-at s from ∙ ap (leftAt s) (sym q)) ∙ kept-begin (tokens present (leftAt s at));
-      ends = c;
-      begins = q;
-      is-next = λ i l m. absurd (omega arith);
-      stands = λ h. q;
-      rest = refl;
-      within = λ i. fillers 9 i s;
-    }
+abbrev pub unlessBad : Bool → Record → Option Record
+unlessBad true l = none
+unlessBad false l = some l
 
--- Behind the margin no blank stands.
-no-blank : (s : List ℕ) (from at : ℕ) → from ≤ length s → at ≡ from + run margin (drop from s) → run blank (drop at s) ≡ 0
-no-blank s from at h q =
+-- The record that a line's record means; none: a bad token.
+abbrev pub lineMeant : List ℕ → Line → Option Record
+lineMeant s r = unlessBad (r .bad) (record { count = r .count; first = firsts s (r .tokens) (r .count) })
+
+map-take : (s : List ℕ) (n : ℕ) (ts : List Token) → map (meant s) (take n ts) ≡ take n (map (meant s) ts)
+map-take s zero ts = refl
+map-take s (suc n) [] = refl
+map-take s (suc n) (t ∷ ts) = ap (λ (x : List Meant). meant s t ∷ x) (map-take s n ts)
+
+firsts-nine : (s : List ℕ) (ts : List Token) → firsts s (firstNine ts) (length ts) ≡ take 9 (map (meant s) ts)
+unfolding firstNine
+firsts-nine s ts =
+    split (length ts) 9
+    (λ h. let a = take-all 9 ts (omega arith) in
+    rw (a, take-append-seam ts (replicate (9 - length ts) filler), take-all 9 (map (meant s) ts) (rw (length-map ts (meant s)) (omega arith))))
+    (λ h. let m : 9 - length ts ≡ 0 = omega arith in
+    rw (m, append-nil (take 9 ts), take-all (length ts) (take 9 ts) (omega (arith, length-take 9 ts))) (map-take s 9 ts))
+
+record-means : (s : List ℕ) (from : ℕ) (o : Option (List Token)) → recordOf (meantAll s o) ≡ lineMeant s (lineWith s from o)
+unfolding recordOf meantAll lineOf kept
+record-means s from none = refl
+record-means s from (some ts) = rw (length-map ts (meant s), firsts-nine s ts)
+
+-- After the margin no blank stands.
+no-blank : (s : List ℕ) (from at : ℕ) → at ≡ from + run margin (drop from s) → run blank (drop at s) ≡ 0
+no-blank s from at q =
     split at (length s)
     (λ l. let g : getD (drop from s) (run margin (drop from s)) 0 ≡ getD s at 0 = getD-drop from s (run margin (drop from s)) 0 ∙ ap (λ (x : ℕ). getD s x 0) (sym q) in
     let m : margin (getD s at 0) ≡ false = rw (← g) (run-stop margin (drop from s) (rw (length-drop from s) (omega arith))) in
     run-no blank s at l (not-true (blank (getD s at 0)) (λ e. no-both (blank-margin (getD s at 0) e) m)))
     (λ l. run-end blank s at l)
 
--- The first token begins where the content does.
-first-begins : (s : List ℕ) (from : ℕ) (ts : List Token) (n at next : ℕ) (t : Token) → from ≤ length s → n < length ts → Begins s from ts n at
-    → t .start ≡ at + run blank (drop at s) → Begins s from (set ts n t) (n + 1) next
-unfolding Begins
-first-begins s from ts zero at next t h l b e =
-    let z = no-blank s from at h b in
-    rw (getD-set-same ts 0 t filler l) (omega arith)
-first-begins s from ts (suc n) at next t h l b e = rw (add-one (suc n), getD-set-other ts (suc n) 0 t filler (λ k. omega arith)) b
+-- What the record of a line has to say.
+pub record LineRead (s : List ℕ) (from : ℕ) (r : Line) : Type 0 where
+  pub means : readLine present (restAt s from) ≡ lineMeant s r
+  -- where the line ends, unless a token is bad
+  pub ends : r .bad ≡ false → r .end ≡ endAt s from
+  pub bad-ends : r .bad ≡ true → r .end ≡ from
+  -- the first token begins where the line's content does
+  pub begins : 0 < r .count → getD (r .tokens) 0 filler .start ≡ from + indent (restAt s from)
+  pub nine : length (r .tokens) ≡ 9
+  -- each token is a part of the text, and each that is kept takes a byte at least
+  pub inside-text : (i : ℕ) → getD (r .tokens) i filler .start + getD (r .tokens) i filler .length ≤ length s
+  pub solid : (i : ℕ) → i < 9 → i < r .count → 0 < getD (r .tokens) i filler .length
 
--- It stays where it is.
-later-begins : (s : List ℕ) (from : ℕ) (ts : List Token) (n at next : ℕ) → 0 < n → Begins s from ts n at → Begins s from ts (n + 1) next
-unfolding Begins
-later-begins s from ts zero at next h b = absurd (omega arith)
-later-begins s from ts (suc n) at next h b = rw (add-one (suc n)) b
+-- Where the tokens begin: after the line's margin.
+abbrev begin : List ℕ → ℕ → ℕ
+begin s from = from + run margin (drop from s)
 
-pub reading-store : (s : List ℕ) (from : ℕ) (ts : List Token) (n at : ℕ) (t : Token) (next : ℕ) → from ≤ length s
-    → Reading s from ts n at → n < 9 → Stepped s at (Found t next) → Reading s from (set ts n t) (n + 1) next
-reading-store s from ts n at t next fl r h p =
-    let i : n < length ts = omega (arith, r .nine) in
-    let (st, sz, f, l, e) = p .leads in
-    let g : firsts s (set ts n t) (n + 1) ≡ firsts s ts n ++ (meant s t ∷ [])
-    = rw (add-one n, take-suc-set ts n t i) (map-append (meant s) (take n ts) (t ∷ [])) in
+line-with : (s : List ℕ) (from : ℕ) (o : Option (List Token)) → AllParts s o → FirstAt (begin s from) o
+    → readLine present (restAt s from) ≡ recordOf (meantAll s o) → LineRead s from (lineWith s from o)
+unfolding AllParts FirstAt
+line-with s from none p f e =
     record {
-      place = l;
-      few = omega (arith, r .few);
-      nine = length-set ts n t ∙ r .nine;
-      same = r .same ∙ ap (keptAfter (firsts s ts n) n) (p .means) ∙ kept-more (firsts s ts n) n (meant s t) (tokens present (leftAt s next)) ∙ rw g;
-      ends = e ∙ r .ends;
-      begins = first-begins s from ts n at next t fl i (r .begins) st;
-      is-next = next-set s (from + run margin (drop from s)) ts n at next t i (r .stands (omega arith)) sz p (r .is-next);
-      stands = λ k. rw (add-one n, getD-set-same ts n t filler i) (sym sz);
-      rest = drop-set-lt (n + 1) ts n t (omega arith) ∙ drop-next ts n h (r .rest);
-      within = inside-set s ts n t i (omega arith) (r .within);
-    }
-
-pub reading-full : (s : List ℕ) (from : ℕ) (ts : List Token) (n at : ℕ) (t : Token) (next : ℕ)
-    → Reading s from ts n at → 9 ≤ n → Stepped s at (Found t next) → Reading s from ts (n + 1) next
-unfolding AllNext
-reading-full s from ts n at t next r h p =
-    let (st, sz, f, l, e) = p .leads in
-    let g : firsts s ts n ≡ firsts s ts (n + 1) = firsts-all s ts n (omega (arith, r .nine)) ∙ sym (firsts-all s ts (n + 1) (omega (arith, r .nine))) in
-    let k : length (firsts s ts n) ≡ 9 = ap length (firsts-all s ts n (omega (arith, r .nine))) ∙ length-map ts (meant s) ∙ r .nine in
-    record {
-      place = l;
-      few = omega (arith, r .few);
-      nine = r .nine;
-      same = r .same ∙ ap (keptAfter (firsts s ts n) n) (p .means) ∙ kept-full (firsts s ts n) n (meant s t) (tokens present (leftAt s next)) (omega arith) ∙ rw g;
-      ends = e ∙ r .ends;
-      begins = later-begins s from ts n at next (omega arith) (r .begins);
-      is-next = λ i l m. r .is-next i l (omega arith);
-      stands = λ k. absurd (omega arith);
-      rest = let z : 9 - (n + 1) ≡ 0 = omega arith in rw z (drop-of-length-le ts {i = n + 1} (omega (arith, r .nine)));
-      within = r .within;
-    }
-
--- ---- the line's record
-
-begins-is : (s : List ℕ) (from : ℕ) (ts : List Token) (n at : ℕ) → Begins s from ts n at → 0 < n → getD ts 0 filler .start ≡ from + indent (restAt s from)
-unfolding Begins
-begins-is s from ts zero at b h = absurd (omega arith)
-begins-is s from ts (suc n) at b h = b ∙ ap (λ (x : ℕ). from + x) (sym (indent-at s from))
-
-pub reading-end : (s : List ℕ) (from : ℕ) (ts : List Token) (n at stop end : ℕ) → Reading s from ts n at → Stepped s at (End stop)
-    → end ≡ stop + run inside (drop stop s) → LineRead s from (record { tokens = ts; count = n; bad = false; end = end })
-unfolding endAt restAt run Inside AllNext
-reading-end s from ts n at stop end r p q =
-    record {
-      means = r .same ∙ ap (keptAfter (firsts s ts n) n) (p .means) ∙ kept-end (firsts s ts n) n (omega (arith, length-firsts s ts n, r .nine));
-      is-spoiled = λ h. absurd (true≢false (sym h));
-      is-next = r .is-next;
-      ends = λ h. q ∙ p .leads .2 ∙ r .ends;
-      begins = begins-is s from ts n at (r .begins);
-      nine = r .nine;
-      inside-text = r .within;
-      rest = r .rest;
-    }
-
-pub reading-bad : (s : List ℕ) (from : ℕ) (ts : List Token) (n at : ℕ) → Reading s from ts n at → Stepped s at Bad → LineRead s from (spoiled from)
-unfolding keptAfter Inside
-reading-bad s from ts n at r p =
-    record {
-      means = r .same ∙ ap (keptAfter (firsts s ts n) n) (p .means);
-      is-spoiled = λ h. refl;
-      is-next = λ i l m. absurd (omega arith);
+      means = e ∙ record-means s from none;
       ends = λ h. absurd (true≢false h);
+      bad-ends = λ h. refl;
       begins = λ h. absurd (omega arith);
       nine = refl;
-      inside-text = λ i. fillers 9 i s;
-      rest = refl;
+      inside-text = λ i. rw (fillers 9 i) (omega arith);
+      solid = λ i h k. absurd (omega arith);
     }
+line-with s from (some ts) p f e =
+    record {
+      means = e ∙ record-means s from (some ts);
+      ends = λ h. refl;
+      bad-ends = λ h. absurd (true≢false (sym h));
+      begins = λ h. ap (λ (t : Token). t .start) (nine-kept ts 0 (omega arith) h) ∙ first ts f h ∙ ap (λ (x : ℕ). from + x) (sym (indent-at s from));
+      nine = length-nine ts;
+      inside-text = λ i. split i (length (take 9 ts))
+          (λ l. let n = length-take 9 ts in rw (nine-kept ts i (omega arith) (omega arith)) (part-at s ts i p (omega arith) .1))
+          (λ l. rw (nine-filled ts i l) (omega arith));
+      solid = λ i h k. rw (nine-kept ts i h k) (part-at s ts i p k .0);
+    }
+  where
+    first : (us : List Token) → FirstAt (begin s from) (some us) → 0 < length us → getD us 0 filler .start ≡ begin s from
+    first [] g h = absurd (omega arith)
+    first (t ∷ us) g h = g
+
+-- The record of the line from a place on says all of it.
+pub line-read : (s : List ℕ) (from : ℕ) (r : Line) → r ≡ recordAt s from → LineRead s from r
+unfolding readLine recordAt
+line-read s from r e =
+    let at = begin s from in
+    let p : past s at ≡ at = omega (arith, no-blank s from at refl) in
+    rw e (line-with s from (allFrom s at) (tokens-parts (suc (length s)) s at) (rw p at (first-at (suc (length s)) s at))
+    (ap recordOf (ap (tokens present) (content-at s from) ∙ tokens-from (suc (length s)) s at (omega arith))))
+
+-- ---- the loop
+
+-- Tokens that are read, and those to come.
+joined : List Token → Option (List Token) → Option (List Token)
+joined ds none = none
+joined ds (some ts) = some (ds ++ ts)
+
+joined-none : (o : Option (List Token)) → o ≡ joined [] o
+unfolding joined
+joined-none none = refl
+joined-none (some ts) = refl
+
+joined-more : (ds : List Token) (t : Token) (o : Option (List Token)) → joined ds (infrontOf t o) ≡ joined (ds ++ (t ∷ [])) o
+unfolding joined
+joined-more ds t none = refl
+joined-more ds t (some ts) = rw (append-assoc ds (t ∷ []) ts)
+
+-- The state of the loop, after `count` tokens, at the place `at`.
+pub record Reading (s : List ℕ) (from : ℕ) (ts : List Token) (count at : ℕ) : Type 0 where
+  pub place : at ≤ length s
+  pub few : count ≤ at
+  read : List Token
+  keeps : ts ≡ firstNine read
+  counts : count ≡ length read
+  all : allFrom s (begin s from) ≡ joined read (tokensFrom (suc (length s) - count) s at)
+  ends : endAt s at ≡ endAt s from
+
+pub reading-begin : (s : List ℕ) (from at : ℕ) → from ≤ length s → at ≡ from + run margin (drop from s) → Reading s from (replicate 9 filler) 0 at
+unfolding firstNine
+reading-begin s from at h q =
+    let (a, b, c) = margin-on s from at h q in
+    let n : suc (length s) - 0 ≡ suc (length s) = omega arith in
+    record {
+      place = b;
+      few = omega arith;
+      read = [];
+      keeps = refl;
+      counts = refl;
+      all = rw (n, q) (joined-none (allFrom s (begin s from)));
+      ends = c;
+    }
+
+module _ (s : List ℕ) (from : ℕ) (ts : List Token) (n at : ℕ) (r : Reading s from ts n at) where
+  -- what is found next, and what is then left
+  goes-on : (x : Scan) → x ≡ scanAt s at → allFrom s (begin s from) ≡ joined (r .read) (followed x (tokensFrom (suc (length s) - (n + 1)) s))
+  unfolding tokensFrom
+  goes-on x e =
+      let m : suc (length s) - n ≡ suc (suc (length s) - (n + 1)) = omega (arith, r .few, r .place) in
+      rw e (rw m at (r .all))
+
+  more : (us : List Token) (t : Token) (next : ℕ) → us ≡ firstNine (r .read ++ (t ∷ [])) → Found t next ≡ scanAt s at → Reading s from us (n + 1) next
+  more us t next k e =
+      let (st, sz, p, f, l, end) = stepped s at _ e .leads in
+      record {
+        place = l;
+        few = omega (arith, r .few);
+        read = r .read ++ (t ∷ []);
+        keeps = k;
+        counts = omega (arith, r .counts, length-append (r .read) (t ∷ []));
+        all = goes-on _ e ∙ joined-more (r .read) t (tokensFrom (suc (length s) - (n + 1)) s next);
+        ends = end ∙ r .ends;
+      }
+
+  pub reading-store : (t : Token) (next : ℕ) → n < 9 → Found t next ≡ scanAt s at → Reading s from (set ts n t) (n + 1) next
+  reading-store t next h e = more (set ts n t) t next (ap (λ (x : List Token). set x n t) (r .keeps) ∙ nine-stored (r .read) n t (r .counts) h) e
+
+  pub reading-full : (t : Token) (next : ℕ) → 9 ≤ n → Found t next ≡ scanAt s at → Reading s from ts (n + 1) next
+  reading-full t next h e = more ts t next (r .keeps ∙ nine-full (r .read) t (omega (arith, r .counts))) e
+
+  pub reading-end : (stop end : ℕ) → End stop ≡ scanAt s at → end ≡ stop + run inside (drop stop s)
+      → record { tokens = ts; count = n; bad = false; end = end } ≡ recordAt s from
+  unfolding endAt restAt run recordAt joined
+  reading-end stop end e q =
+      let z : end ≡ endAt s from = q ∙ stepped s at _ e .leads (r .place) .2 ∙ r .ends in
+      rw (r .keeps, r .counts, z, goes-on _ e, append-nil (r .read))
+
+  pub reading-bad : Bad ≡ scanAt s at → spoiled from ≡ recordAt s from
+  unfolding recordAt joined
+  reading-bad e = rw (goes-on _ e)

@@ -5,44 +5,47 @@ use native.Mathlib.Omega.{arith}
 use mathlib.Core.Bool.{true, false}
 use mathlib.Core.Logic.{_⊎_}
 use mathlib.Core.List.{List, [], _∷_}
-use mathlib.Core.Option.{none, some}
+use mathlib.Core.Option.{Option, none, some}
 use lib.ListN.{length, take, drop, getD, length-drop}
-use lib.Seq.{getD-drop}
+use lib.Seq.{getD-take, getD-drop}
 use Rattle.spelling.specs.Bytes.{blank, mark, before, run, every, inside, margin}
 use Rattle.spelling.specs.Names.{present}
 use Rattle.spelling.proofs.Strings.{run-le, run-no, run-end, run-stop, take-run, every-run, every-mono}
-use Rattle.text.specs.Tokens.{Token, markToken, front, infront, tokens, sized}
+use Rattle.text.specs.Tokens.{Token as Meant, markToken, Sized, front, infront, tokens}
 use Rattle.text.specs.Places.{leftAt, endAt}
-use Rattle.text.specs.Contracts.{kindMeant, meant, NoWord, At, Leads, past, Finds, Stepped}
+use Rattle.text.specs.Contracts.{kindMeant, kindFor, meant, foundAt, tokenAt, standsAt, past, scanAt, NoWord}
 use Rattle.text.specs.declared.lexer.Kind.{Kind}
+use Rattle.text.specs.declared.lexer.Kind.the-variants.{Number, Negative}
+use Rattle.text.specs.declared.lexer.Token.{Token}
 use Rattle.text.specs.declared.lexer.Scan.{Scan}
 use Rattle.text.specs.declared.lexer.Scan.the-variants.{Found, Bad, End}
-use Rattle.text.proofs.Left.{solid, mark-solid, solid-plain, margin-inside, blank-inside, blanks-at, found-at, found-solid, solid-bad, nothing-left, none-read, bad-left, bad-at, end-on}
-use Rattle.text.proofs.Fronts.{names-ok, mark-front, mark-none}
+use Rattle.text.proofs.Left.{solid, mark-solid, solid-plain, margin-inside, blank-inside, blanks-at, front-at, left-byte, solid-left, found-at, found-solid, nothing-left, none-read, left-read-bad, bad-left, bad-at, end-on}
+use Rattle.text.proofs.Meanings.{front-means, kind-sign}
+use Rattle.text.proofs.Fronts.{names-ok, at-found, at-none, mark-front, mark-none}
 
--- No blank stands at the place.
-no-blank : (s : List ℕ) (at : ℕ) → at < length s → blank (getD s at 0) ≡ false → run blank (drop at s) ≡ 0
-no-blank s at l h = run-no blank s at l h
+-- ---- what stands at a place
 
-finds-here : (s : List ℕ) (at : ℕ) (r : Scan) → run blank (drop at s) ≡ 0 → Finds s at r → Finds s (past s at) r
-finds-here s at r z f = let e : past s at ≡ at = omega arith in rw e f
+stands-end : (s : List ℕ) (at : ℕ) → leftAt s at ≡ [] → End (at + run margin (drop at s)) ≡ standsAt s at
+unfolding standsAt
+stands-end s at e = rw (standsAt, e)
+
+stands-token : (s : List ℕ) (at : ℕ) → (leftAt s at ≡ [] → ⊥) → tokenAt s at ≡ standsAt s at
+unfolding standsAt
+stands-token s at f = go (leftAt s at) refl
+  where
+    go : (l : List ℕ) → leftAt s at ≡ l → tokenAt s at ≡ elim l [ [] ↦ End (at + run margin (drop at s)) | b ∷ m ↦ tokenAt s at ]
+    go [] e = absurd (f e)
+    go (b ∷ m) e = refl
+
+-- Where no blank stands, that is what is found.
+scan-here : (s : List ℕ) (at : ℕ) → at < length s → blank (getD s at 0) ≡ false → standsAt s at ≡ scanAt s at
+unfolding scanAt
+scan-here s at l h = let e : past s at ≡ at = omega (arith, run-no blank s at l h) in rw e
 
 -- ---- a token, or none, at a solid byte
 
-pub solid-step : (s : List ℕ) (at : ℕ) (r : Scan) → at < length s → solid (getD s at 0) ≡ true → At s at r → Stepped s at r
-solid-step s at (Found t next) l h (e, st, q, m) =
-    let (p, n, i) = found-solid present names-ok (drop at s) (meant s t) (t .length) e in
-    let z = no-blank s at l (solid-plain (getD s at 0) h) in
-    let go = end-on s at (t .length) (omega (arith, length-drop at s)) i in
-    record {
-      finds = finds-here s at (Found t next) z (e, st, q);
-      means = found-at present names-ok s at (meant s t) (t .length) e ∙ ap (λ (x : ℕ). infront (meant s t) (tokens present (leftAt s x))) (sym q);
-      leads = (omega arith, omega arith, omega arith, m, ap (endAt s) q ∙ go);
-    }
-solid-step s at Bad l h e =
-    let m = solid-bad present names-ok s at l h e in
-    record { finds = finds-here s at Bad (no-blank s at l (solid-plain (getD s at 0) h)) (e, bad-left present s at m); means = m; leads = tt }
-solid-step s at (End x) l h e = absurd e
+pub solid-step : (s : List ℕ) (at : ℕ) (r : Scan) → at < length s → solid (getD s at 0) ≡ true → r ≡ tokenAt s at → r ≡ scanAt s at
+solid-step s at r l h e = e ∙ stands-token s at (solid-left s at l h) ∙ scan-here s at l (solid-plain (getD s at 0) h)
 
 -- ---- no token: the line's end, or something bad
 
@@ -56,32 +59,32 @@ margin-on s at stop l q =
     (omega arith, omega arith, ap (endAt s) q ∙ end-on s at (run margin (drop at s)) (omega arith) i)
 
 pub end-step : (s : List ℕ) (at stop : ℕ) → at < length s → blank (getD s at 0) ≡ false → stop ≡ at + run margin (drop at s)
-    → (stop < length s → (getD s stop 0 ≡ 10) ⊎ (getD s stop 0 ≡ 35)) → Stepped s at (End stop)
+    → (stop < length s → (getD s stop 0 ≡ 10) ⊎ (getD s stop 0 ≡ 35)) → End stop ≡ scanAt s at
 end-step s at stop l b q f =
-    let n = nothing-left s at (omega arith) (λ m. rw q at (f (rw q m))) in
-    record { finds = finds-here s at (End stop) (no-blank s at l b) (n, q); means = none-read present s at n; leads = margin-on s at stop (omega arith) q }
+    ap End q ∙ stands-end s at (nothing-left s at (omega arith) (λ m. rw q at (f (rw q m)))) ∙ scan-here s at l b
 
 -- Neither a word nor a number nor a directive nor a mark.
 none-front : (s : List ℕ) (at : ℕ) → at < length s → NoWord (getD s at 0) → mark (getD s at 0) ≡ false → front present (drop at s) ≡ none
 none-front s at l w k = mark-none s at l (w .no-start) (w .no-digit) (w .no-minus) (w .no-dot) k
 
 pub bad-step : (s : List ℕ) (at stop : ℕ) → at < length s → NoWord (getD s at 0) → mark (getD s at 0) ≡ false → stop ≡ at + run margin (drop at s) → stop < length s
-    → (getD s stop 0 ≡ 10 → ⊥) → (getD s stop 0 ≡ 35 → ⊥) → Stepped s at Bad
+    → (getD s stop 0 ≡ 10 → ⊥) → (getD s stop 0 ≡ 35 → ⊥) → Bad ≡ scanAt s at
 bad-step s at stop l w k q m n o =
     let f = none-front s at l w k in
     let b = bad-at present names-ok s at l (w .no-blank) f (omega arith) (λ e. n (rw q e)) (λ e. o (rw q e)) in
-    record { finds = finds-here s at Bad (no-blank s at l (w .no-blank)) (f, bad-left present s at b); means = b; leads = tt }
+    at-none s at f ∙ stands-token s at (bad-left present s at b) ∙ scan-here s at l (w .no-blank)
 
 -- ---- a mark
 
-pub mark-step : (s : List ℕ) (at : ℕ) (k : Kind) (t : Token) → at < length s → NoWord (getD s at 0) → mark (getD s at 0) ≡ true
-    → markToken (getD s at 0 ∷ []) ≡ some t → kindMeant k (take (at + 1 - at) (drop at s)) ≡ t
-    → Stepped s at (Found (record { kind = k; start = at; length = at + 1 - at }) (at + 1))
-unfolding sized
-mark-step s at k t l w h e m =
+pub mark-step : (s : List ℕ) (at : ℕ) (k : Kind) (t : Meant) → at < length s → NoWord (getD s at 0) → mark (getD s at 0) ≡ true
+    → markToken (getD s at 0 ∷ []) ≡ some t → ((u : List ℕ) → kindMeant k u ≡ t) → ((u : List ℕ) → kindFor t u ≡ k)
+    → Found (record { kind = k; start = at; length = at + 1 - at }) (at + 1) ≡ scanAt s at
+mark-step s at k t l w h e m g =
     let one : at + 1 - at ≡ 1 = omega arith in
+    let u = take (at + 1 - at) (drop at s) in
     solid-step s at _ l (mark-solid (getD s at 0) h)
-    (mark-front s at t l (w .no-start) (w .no-digit) (w .no-minus) (w .no-dot) h e ∙ rw (one) (ap (λ (x : Token). some (record { token = x; size = 1 })) (sym (rw one at m))), refl, omega arith, omega arith)
+    (at-found s at (at + 1) k (omega arith) (ap (λ (x : Meant). kindFor x u) (m u) ∙ g u)
+    (mark-front s at t l (w .no-start) (w .no-digit) (w .no-minus) (w .no-dot) h e ∙ rw (one, m (take 1 (drop at s)))))
 
 -- ---- past blanks
 
@@ -97,29 +100,112 @@ from-blank s from at l q =
 pub past-blank : (s : List ℕ) (from at : ℕ) → from ≤ length s → at ≡ from + run blank (drop from s) → at < length s → blank (getD s at 0) ≡ false
 past-blank s from at l q m = rw (q, ← getD-drop from s (run blank (drop from s)) 0) (run-stop blank (drop from s) (rw (length-drop from s) (omega arith)))
 
-pub blank-step : (s : List ℕ) (from at : ℕ) (r : Scan) → from ≤ length s → at ≡ from + run blank (drop from s) → at < length s → Stepped s at r → Stepped s from r
-blank-step s from at r l q m p =
-    let e : past s at ≡ past s from = omega (arith, no-blank s at m (past-blank s from at l q m)) in
-    record {
-      finds = rw (← e) (p .finds);
-      means = blanks-at present s from ∙ ap (λ (x : ℕ). tokens present (leftAt s x)) (sym q) ∙ p .means;
-      leads = go r (p .leads);
-    }
-  where
-    go : (r : Scan) → Leads s at r → Leads s from r
-    go (Found t next) (st, e, f, g, h) =
-        let z = no-blank s at m (past-blank s from at l q m) in
-        (omega arith, e, omega arith, g, h ∙ from-blank s from at l q)
-    go Bad u = tt
-    go (End e) (f, g, h) = (omega arith, g, h ∙ from-blank s from at l q)
+pub blank-step : (s : List ℕ) (from at : ℕ) (r : Scan) → from ≤ length s → at ≡ from + run blank (drop from s) → at < length s → r ≡ scanAt s at → r ≡ scanAt s from
+unfolding scanAt
+blank-step s from at r l q m e = e ∙ sym (scan-here s at m (past-blank s from at l q m)) ∙ ap (standsAt s) q
 
-pub blank-end : (s : List ℕ) (from at : ℕ) → from ≤ length s → at ≡ from + run blank (drop from s) → length s ≤ at → Stepped s from (End at)
+pub blank-end : (s : List ℕ) (from at : ℕ) → from ≤ length s → at ≡ from + run blank (drop from s) → length s ≤ at → End at ≡ scanAt s from
+unfolding scanAt
 blank-end s from at l q m =
     let n = run-le blank (drop from s) in
     let k = length-drop from s in
-    let i = nothing-left s at (omega arith) (λ h. absurd (omega arith)) in
-    record {
-      finds = (rw q at i, omega (arith, run-end margin s (past s from) (omega arith)));
-      means = blanks-at present s from ∙ ap (λ (x : ℕ). tokens present (leftAt s x)) (sym q) ∙ none-read present s at i;
-      leads = (omega arith, omega arith, from-blank s from at l q);
-    }
+    let e : at ≡ past s from + run margin (drop (past s from) s) = omega (arith, run-end margin s (past s from) (omega arith)) in
+    ap End e ∙ stands-end s (past s from) (rw q at (nothing-left s at (omega arith) (λ h. absurd (omega arith))))
+
+-- ---- what is found next, and how the line goes on from there
+
+-- What is found is the token that the text begins with past the blanks, or none, or the line's end.
+data Finds (s : List ℕ) (from : ℕ) : Scan → Type 0 where
+  a-token : (t : Sized) → front present (drop (past s from) s) ≡ some t → Finds s from (foundAt s (past s from) (some t))
+  no-token : front present (drop (past s from) s) ≡ none → (leftAt s (past s from) ≡ [] → ⊥) → Finds s from Bad
+  the-end : leftAt s (past s from) ≡ [] → Finds s from (End (past s from + run margin (drop (past s from) s)))
+
+finds : (s : List ℕ) (from : ℕ) → Finds s from (scanAt s from)
+unfolding scanAt standsAt tokenAt
+finds s from = go (leftAt s (past s from)) refl
+  where
+    at : ℕ
+    at = past s from
+
+    token : (o : Option Sized) → front present (leftAt s at) ≡ o → (leftAt s at ≡ [] → ⊥) → Finds s from (foundAt s at o)
+    token none e n = no-token (sym (front-at present names-ok s at) ∙ e) n
+    token (some t) e n = a-token t (sym (front-at present names-ok s at) ∙ e)
+
+    go : (l : List ℕ) → leftAt s at ≡ l
+        → Finds s from (elim l [ [] ↦ End (at + run margin (drop at s)) | b ∷ m ↦ foundAt s at (front present (leftAt s at)) ])
+    go [] e = the-end e
+    go (b ∷ l) e = token (front present (leftAt s at)) refl (λ z. let k : _≡_ {A = List ℕ} (b ∷ l) [] = sym e ∙ z in let y : _≡_ {A = ℕ} 0 1 = cc in absurd (omega arith))
+
+-- What is read of the line from a place on, by what is found next.
+abbrev pub after : List ℕ → Scan → Option (List Meant)
+after s (Found t next) = infront (meant s t) (tokens present (leftAt s next))
+after s Bad = none
+after s (End e) = some []
+
+-- Where it leads: on, within the same line.
+abbrev pub Leads : List ℕ → ℕ → Scan → Type 0
+Leads s from (Found t next) = (t .start ≡ past s from) × (t .start + t .length ≡ next) × (0 < t .length) × (from < next) × (next ≤ length s) × (endAt s next ≡ endAt s from)
+Leads s from Bad = Unit {0}
+Leads s from (End e) = from ≤ length s → (from ≤ e) × (e ≤ length s) × (endAt s e ≡ endAt s from)
+
+-- The place past the blanks, if anything stands there.
+past-in : (s : List ℕ) (from : ℕ) → past s from < length s → (from ≤ length s) × (blank (getD s (past s from) 0) ≡ false)
+past-in s from l = (omega arith, past-blank s from (past s from) (omega arith) refl l)
+
+means : (s : List ℕ) (from : ℕ) (r : Scan) → Finds s from r → tokens present (leftAt s from) ≡ after s r
+means s from _ (a-token t e) =
+    blanks-at present s from ∙ found-at present names-ok s (past s from) (t .token) (t .size) e
+    ∙ ap (λ (m : Meant). infront m (tokens present (leftAt s (past s from + t .size)))) (sym (front-means (drop (past s from) s) t e))
+means s from _ (no-token e n) = blanks-at present s from ∙ go (leftAt s (past s from)) refl
+  where
+    go : (l : List ℕ) → leftAt s (past s from) ≡ l → tokens present (leftAt s (past s from)) ≡ none
+    go [] q = absurd (n q)
+    go (b ∷ l) q = left-read-bad present names-ok s (past s from) n (past-in s from (left-byte s (past s from) b l q .0) .1) e
+means s from _ (the-end e) = blanks-at present s from ∙ none-read present s (past s from) e
+
+leads : (s : List ℕ) (from : ℕ) (r : Scan) → Finds s from r → Leads s from r
+leads s from _ (a-token t e) =
+    let at = past s from in
+    let (p, n, i) = found-solid present names-ok (drop at s) (t .token) (t .size) e in
+    let d = length-drop at s in
+    let l = past-in s from (omega arith) .0 in
+    (refl, refl, p, omega arith, omega arith, end-on s at (t .size) (omega arith) i ∙ from-blank s from at l refl)
+leads s from _ (no-token e n) = tt
+leads s from _ (the-end e) = λ l.
+    let at = past s from in
+    let n = run-le blank (drop from s) in
+    let d = length-drop from s in
+    let (f, g, h) = margin-on s at _ (omega arith) refl in
+    (omega arith, g, h ∙ from-blank s from at l refl)
+
+-- What is found next: what is read of the line by it, and where it leads.
+pub record Stepped (s : List ℕ) (from : ℕ) (r : Scan) : Type 0 where
+  pub means : tokens present (leftAt s from) ≡ after s r
+  pub leads : Leads s from r
+
+pub stepped : (s : List ℕ) (from : ℕ) (r : Scan) → r ≡ scanAt s from → Stepped s from r
+stepped s from r e = rw e (record { means = means s from (scanAt s from) (finds s from); leads = leads s from (scanAt s from) (finds s from) })
+
+-- ---- the sign of a number
+
+Signs : List ℕ → Scan → Type 0
+Signs s (Found t next) = (n : ℕ) → (t .kind ≡ Negative n → getD s (t .start) 0 ≡ 45) × (t .kind ≡ Number n → getD s (t .start) 0 ≡ 45 → ⊥)
+Signs s Bad = Unit {0}
+Signs s (End e) = Unit {0}
+
+signs : (s : List ℕ) (from : ℕ) (r : Scan) → Finds s from r → Signs s r
+unfolding Signs
+signs s from _ (a-token t e) = λ n.
+    let at = past s from in
+    let (p, l, i) = found-solid present names-ok (drop at s) (t .token) (t .size) e in
+    let z : at + 0 ≡ at = omega arith in
+    let b : getD (take (t .size) (drop at s)) 0 0 ≡ getD s at 0 = getD-take (t .size) (drop at s) 0 0 p ∙ getD-drop at s 0 0 ∙ ap (λ (x : ℕ). getD s x 0) z in
+    rw b at (kind-sign (t .token) (take (t .size) (drop at s)) n)
+signs s from _ (no-token e n) = tt
+signs s from _ (the-end e) = tt
+
+-- A decimal number is Negative exactly if its first byte is `-`, whatever its value: `-0` is Negative and `0` is not.
+pub sign-settled : (s : List ℕ) (from : ℕ) (t : Token) (next n : ℕ) → Found t next ≡ scanAt s from
+    → (t .kind ≡ Negative n → getD s (t .start) 0 ≡ 45) × (t .kind ≡ Number n → getD s (t .start) 0 ≡ 45 → ⊥)
+unfolding Signs
+sign-settled s from t next n e = rw (← e) at (signs s from (scanAt s from) (finds s from)) n

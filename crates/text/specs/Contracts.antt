@@ -1,20 +1,19 @@
--- What the code's values mean in terms of the definitions, and what its functions promise.
+-- What the code's values mean in terms of the definitions, and what its functions answer.
 use Prim.Native.Nat.{ℕ, zero, suc, _+_, _-_, _≤_, _<_}
 use mathlib.Core.Path.{_≡_}
 use mathlib.Core.Bool.{Bool, true, false}
 use mathlib.Core.Option.{Option, none, some}
-use mathlib.Core.List.{List, [], map}
+use mathlib.Core.List.{List, [], _∷_, _++_, map}
 use lib.ListN.{length, take, drop, getD, replicate}
-use lib.IntN.{ℤ, pos}
+use lib.Dec.{eqb}
+use lib.IntN.{ℤ, pos, natAbs}
 use Rattle.spelling.specs.Bytes.{digit, nameStart, blank, margin, run}
 use Rattle.spelling.specs.Numbers.{minus}
 use Rattle.spelling.specs.Names.{present}
-use Rattle.spelling.specs.Contracts.{indexOf, wholeMeant}
-use Rattle.text.specs.Tokens.{identifier, register, number, hex, binary, directive, comma, colon, opening, closing, Number as NumberClass, longest, front, infront, tokens}
+use Rattle.spelling.specs.Contracts.{indexOf, registerAt, wholeMeant}
+use Rattle.text.specs.Tokens.{identifier, register, number, hex, binary, directive, comma, colon, opening, closing, Number as NumberClass, longest, Sized, front}
 use Rattle.text.specs.Tokens.{Token as Meant}
-use Rattle.text.specs.Lines.{indent, readLine}
-use Rattle.text.specs.Lines.{Line as Record}
-use Rattle.text.specs.Places.{restAt, leftAt, endAt}
+use Rattle.text.specs.Places.{leftAt, endAt}
 use Rattle.text.specs.declared.lexer.Kind.{Kind}
 use Rattle.text.specs.declared.lexer.Kind.the-variants.{Identifier, Register as RegisterKind, NoRegister, Number, Negative, Hex, Binary, Directive, Comma, Colon, LParen, RParen}
 use Rattle.text.specs.declared.lexer.Token.{Token}
@@ -27,24 +26,28 @@ use Rattle.text.specs.declared.reader.Reader.{Reader}
 
 -- ---- numbers
 
+-- The whole number of a kind, by its sign and its magnitude: only a kind with a sign is negative.
+abbrev pub extracted : Kind → Extracted
+extracted (Number n) = Extract (record { negative = false; magnitude = n })
+extracted (Negative n) = Extract (record { negative = true; magnitude = n })
+extracted (Hex n) = Extract (record { negative = false; magnitude = n })
+extracted (Binary n) = Extract (record { negative = false; magnitude = n })
+extracted Identifier = NoNumber
+extracted (RegisterKind r) = NoNumber
+extracted NoRegister = NoNumber
+extracted Directive = NoNumber
+extracted Comma = NoNumber
+extracted Colon = NoNumber
+extracted LParen = NoNumber
+extracted RParen = NoNumber
+
 abbrev pub extractMeant : Extracted → Option ℤ
 extractMeant (Extract w) = some (wholeMeant w)
 extractMeant NoNumber = none
 
 -- The number that a kind means.
 abbrev pub numberOf : Kind → Option ℤ
-numberOf (Number n) = some (pos n)
-numberOf (Negative n) = some (minus n)
-numberOf (Hex n) = some (pos n)
-numberOf (Binary n) = some (pos n)
-numberOf Identifier = none
-numberOf (RegisterKind r) = none
-numberOf NoRegister = none
-numberOf Directive = none
-numberOf Comma = none
-numberOf Colon = none
-numberOf LParen = none
-numberOf RParen = none
+numberOf k = extractMeant (extracted k)
 
 -- ---- tokens
 
@@ -70,6 +73,50 @@ spelling s t = take (t .length) (drop (t .start) s)
 abbrev pub meant : List ℕ → Token → Meant
 meant s t = kindMeant (t .kind) (spelling s t)
 
+abbrev pub registerKind : Option ℕ → Kind
+registerKind (some n) = RegisterKind (registerAt n)
+registerKind none = NoRegister
+
+abbrev pub signedKind : Bool → ℕ → Kind
+signedKind true n = Negative n
+signedKind false n = Number n
+
+-- The kind of a token, by its meaning and its spelling. A Number is negative exactly if its spelling begins with `-`: so is `-0`.
+abbrev pub kindFor : Meant → List ℕ → Kind
+kindFor (identifier v) u = Identifier
+kindFor (register r) u = registerKind r
+kindFor (number z) u = signedKind (eqb (getD u 0 0) 45) (natAbs z)
+kindFor (hex n) u = Hex n
+kindFor (binary n) u = Binary n
+kindFor (directive v) u = Directive
+kindFor comma u = Comma
+kindFor colon u = Colon
+kindFor opening u = LParen
+kindFor closing u = RParen
+
+-- ---- the next token of a line
+
+-- A token of so many bytes at a place, and the place after it; or none.
+abbrev pub foundAt : List ℕ → ℕ → Option Sized → Scan
+foundAt s at none = Bad
+foundAt s at (some t) = Found (record { kind = kindFor (t .token) (take (t .size) (drop at s)); start = at; length = t .size }) (at + t .size)
+
+-- The token that what is left of the line begins with.
+unfoldable pub tokenAt : List ℕ → ℕ → Scan
+tokenAt s at = foundAt s at (front present (leftAt s at))
+
+-- What stands at a place: a token, or something that is none; where nothing is left, the end, with the place after the margin.
+unfoldable pub standsAt : List ℕ → ℕ → Scan
+standsAt s at = elim (leftAt s at) [ [] ↦ End (at + run margin (drop at s)) | b ∷ l ↦ tokenAt s at ]
+
+-- The place past the blanks from a place on.
+abbrev pub past : List ℕ → ℕ → ℕ
+past s from = from + run blank (drop from s)
+
+-- What is found next from a place on.
+unfoldable pub scanAt : List ℕ → ℕ → Scan
+scanAt s from = standsAt s (past s from)
+
 -- Decimal digits, from a place to another, which no longer match begins.
 pub record IsDecimal (s : List ℕ) (at end : ℕ) : Type 0 where
   pub some-digits : at < end
@@ -85,45 +132,9 @@ pub record NoWord (b : ℕ) : Type 0 where
   pub no-minus : b ≡ 45 → ⊥
   pub no-dot : b ≡ 46 → ⊥
 
--- A token at a place: the text from there on begins with it. It takes a byte at least, and ends within the text.
-abbrev pub At : List ℕ → ℕ → Scan → Type 0
-At s at (Found t next) = (front present (drop at s) ≡ some (record { token = meant s t; size = t .length })) × (t .start ≡ at) × (next ≡ at + t .length) × (next ≤ length s)
-At s at Bad = front present (drop at s) ≡ none
-At s at (End e) = ⊥
-
--- ---- the next token of a line
-
--- What is read of the line from a place on, by what is found next.
-abbrev pub after : List ℕ → Scan → Option (List Meant)
-after s (Found t next) = infront (meant s t) (tokens present (leftAt s next))
-after s Bad = none
-after s (End e) = some []
-
--- Where it leads: on, within the same line.
-abbrev pub Leads : List ℕ → ℕ → Scan → Type 0
-Leads s from (Found t next) = (t .start ≡ from + run blank (drop from s)) × (t .start + t .length ≡ next) × (from < next) × (next ≤ length s) × (endAt s next ≡ endAt s from)
-Leads s from Bad = Unit {0}
-Leads s from (End e) = (from ≤ e) × (e ≤ length s) × (endAt s e ≡ endAt s from)
-
--- The place past the blanks from a place on.
-abbrev pub past : List ℕ → ℕ → ℕ
-past s from = from + run blank (drop from s)
-
--- What stands there: a token; something that is none, though something is left; or nothing that is left, where the answer is the
--- place behind the margin. Just one of them holds, of one answer.
-abbrev pub Finds : List ℕ → ℕ → Scan → Type 0
-Finds s at (Found t next) = (front present (drop at s) ≡ some (record { token = meant s t; size = t .length })) × (t .start ≡ at) × (next ≡ at + t .length)
-Finds s at Bad = (front present (drop at s) ≡ none) × (leftAt s at ≡ [] → ⊥)
-Finds s at (End e) = (leftAt s at ≡ []) × (e ≡ at + run margin (drop at s))
-
-pub record Stepped (s : List ℕ) (from : ℕ) (r : Scan) : Type 0 where
-  pub finds : Finds s (past s from) r
-  pub means : tokens present (leftAt s from) ≡ after s r
-  pub leads : Leads s from r
-
 -- ---- the reader
 
--- Where it reads on: behind a token, and else where it was.
+-- Where it reads on: after a token, and else where it was.
 abbrev pub placeAfter : Scan → ℕ → ℕ
 placeAfter (Found t next) from = next
 placeAfter Bad from = from
@@ -131,49 +142,50 @@ placeAfter (End e) from = from
 
 -- What it holds once it has answered.
 abbrev pub moved : Reader → Scan → Reader
-moved d r = record { line = d .line; position = placeAfter r (d .position) }
+moved d r = record { text = d .text; position = placeAfter r (d .position) }
 
 -- ---- the record of a line
 
--- The tokens that are kept: of nine places the first `count`, so all nine where there are more.
-abbrev pub firsts : List ℕ → List Token → ℕ → List Meant
-firsts s ts count = map (meant s) (take count ts)
+abbrev pub infrontOf : Token → Option (List Token) → Option (List Token)
+infrontOf t none = none
+infrontOf t (some ts) = some (t ∷ ts)
 
-abbrev pub unlessBad : Bool → Record → Option Record
-unlessBad true l = none
-unlessBad false l = some l
+-- What is found next, and the tokens from the place after it on.
+abbrev pub followed : Scan → (ℕ → Option (List Token)) → Option (List Token)
+followed (Found t next) rest = infrontOf t (rest next)
+followed Bad rest = none
+followed (End e) rest = some []
 
--- The record that a line's record means; none: a bad token.
-abbrev pub lineMeant : List ℕ → Line → Option Record
-lineMeant s r = unlessBad (r .bad) (record { count = r .count; first = firsts s (r .tokens) (r .count) })
+-- The tokens of a line from a place on, one after the other, up to the n-th; none: a bad token.
+unfoldable pub tokensFrom : ℕ → List ℕ → ℕ → Option (List Token)
+tokensFrom zero s at = some []
+tokensFrom (suc n) s at = followed (scanAt s at) (tokensFrom n s)
 
--- What fills the places past the count.
+-- All of them: each takes a byte at least, so that there are no more than bytes.
+abbrev pub allFrom : List ℕ → ℕ → Option (List Token)
+allFrom s at = tokensFrom (suc (length s)) s at
+
+-- What fills the places that no token takes.
 abbrev pub filler : Token
 filler = record { kind = Comma; start = 0; length = 0 }
 
--- Where the reading goes on behind so many tokens: at first where it begins.
-abbrev pub placeOf : List Token → ℕ → ℕ → ℕ
-placeOf ts begin zero = begin
-placeOf ts begin (suc i) = getD ts i filler .start + getD ts i filler .length
-
--- A token of them is the next one behind those before it.
-abbrev pub IsNext : List ℕ → ℕ → List Token → ℕ → Type 0
-IsNext s begin ts i = Finds s (past s (placeOf ts begin i)) (Found (getD ts i filler) (placeOf ts begin (suc i)))
+-- The nine places of a record: the line's first nine tokens, and what fills the places after them.
+unfoldable pub firstNine : List Token → List Token
+firstNine ts = take 9 ts ++ replicate (9 - length ts) filler
 
 -- The record of a line with a bad token.
 abbrev pub spoiled : ℕ → Line
 spoiled from = record { tokens = replicate 9 filler; count = 0; bad = true; end = from }
 
-pub record LineRead (s : List ℕ) (from : ℕ) (r : Line) : Type 0 where
-  pub means : readLine present (restAt s from) ≡ lineMeant s r
-  pub is-spoiled : r .bad ≡ true → r ≡ spoiled from
-  -- each token that is kept is the next one behind those before it, and the first the next behind the line's margin
-  pub is-next : (i : ℕ) → i < 9 → i < r .count → IsNext s (from + run margin (drop from s)) (r .tokens) i
-  -- where the line ends, unless a token is bad
-  pub ends : r .bad ≡ false → r .end ≡ endAt s from
-  -- the first token begins where the line's content does
-  pub begins : 0 < r .count → getD (r .tokens) 0 filler .start ≡ from + indent (restAt s from)
-  pub nine : length (r .tokens) ≡ 9
-  -- each token is a part of the text
-  pub inside-text : (i : ℕ) → getD (r .tokens) i filler .start + getD (r .tokens) i filler .length ≤ length s
-  pub rest : drop (r .count) (r .tokens) ≡ replicate (9 - r .count) filler
+-- The record of the line from a place on that has these tokens.
+abbrev pub lineWith : List ℕ → ℕ → Option (List Token) → Line
+lineWith s from none = spoiled from
+lineWith s from (some ts) = record { tokens = firstNine ts; count = length ts; bad = false; end = endAt s from }
+
+-- The record of the line from a place on, whose tokens begin after its margin.
+unfoldable pub recordAt : List ℕ → ℕ → Line
+recordAt s from = lineWith s from (allFrom s (from + run margin (drop from s)))
+
+-- The tokens that a record keeps: of nine places the first `count`, so all nine where there are more.
+abbrev pub firsts : List ℕ → List Token → ℕ → List Meant
+firsts s ts count = map (meant s) (take count ts)

@@ -4,13 +4,15 @@ ghost use mathlib.Core.Bool.{true, false};
 ghost use Prim.Native.Nat.{_+_, _-_, _≤_, _<_};
 ghost use lib.ListN.{length, getD};
 ghost use Rattle.spelling.specs.Bytes.{nameStart, digit, mark, blank};
-ghost use Rattle.text.specs.Contracts.{At, Stepped, IsDecimal, NoWord};
+ghost use Rattle.text.specs.Contracts.{tokenAt, scanAt, IsDecimal, NoWord};
 use spelling::bytes::Class;
 use spelling::name::RegisterName;
+use spelling::number::Radix;
 use spelling::number::Value;
 use spelling::register::Register;
 
-// A number's kinds keep its magnitude; the spelling of a name is the token's part of the text.
+// A number's kinds keep its magnitude, and `Negative` is one that is spelled with `-`, -0 too. The spelling of a name is the token's part of
+// the text.
 pub enum Kind {
     Identifier,
     Register(Register),
@@ -33,7 +35,7 @@ pub struct Token {
     pub length: usize,
 }
 
-// What stands at a place: a token and the place behind it, no token, or the end of what is to be read of the line.
+// What stands at a place: a token and the place after it, no token, or the end of what is to be read of the line.
 pub enum Scan {
     Found { token: Token, next: usize },
     Bad,
@@ -57,7 +59,7 @@ fn found(kind: Kind, at: usize, end: usize) -> Scan
 // A word: a Register or an Identifier.
 fn word(text: &[u8], at: usize) -> Scan
     requires { ⌜ at < length (now text) ⌝ ∗ ⌜ nameStart (getD (now text) at 0) ≡ true ⌝ }
-    ensures { λ r. ⌜ At (now (text .entry)) at r ⌝ }
+    ensures { λ r. ⌜ r ≡ tokenAt (now (text .entry)) at ⌝ }
 {
     let end = spelling::bytes::run_end(text, at + 1, Class::NamePart);
     match spelling::name::parse_register(&text[at..end]) {
@@ -70,9 +72,9 @@ fn word(text: &[u8], at: usize) -> Scan
 // Decimal digits from `at` to `end`.
 fn decimal(text: &[u8], at: usize, end: usize) -> Scan
     requires { ⌜ IsDecimal (now text) at end ⌝ }
-    ensures { λ r. ⌜ At (now (text .entry)) at r ⌝ }
+    ensures { λ r. ⌜ r ≡ tokenAt (now (text .entry)) at ⌝ }
 {
-    match spelling::number::value_of(&text[at..end], 10, 1844674407370955161) {
+    match spelling::number::value_of(&text[at..end], Radix::Decimal) {
         Value::TooLarge => Scan::Bad,
         Value::Fits(value) => {
             if value < 9223372036854775808 {
@@ -87,14 +89,14 @@ fn decimal(text: &[u8], at: usize, end: usize) -> Scan
 // `-` at `at`.
 fn minus(text: &[u8], at: usize) -> Scan
     requires { ⌜ at < length (now text) ⌝ ∗ ⌜ getD (now text) at 0 ≡ 45 ⌝ }
-    ensures { λ r. ⌜ At (now (text .entry)) at r ⌝ }
+    ensures { λ r. ⌜ r ≡ tokenAt (now (text .entry)) at ⌝ }
 {
     let begin = at + 1;
     let end = spelling::bytes::run_end(text, begin, Class::Digit);
     if end == begin {
         return Scan::Bad;
     }
-    match spelling::number::value_of(&text[begin..end], 10, 1844674407370955161) {
+    match spelling::number::value_of(&text[begin..end], Radix::Decimal) {
         Value::TooLarge => Scan::Bad,
         Value::Fits(value) => {
             if value <= 9223372036854775808 {
@@ -109,14 +111,14 @@ fn minus(text: &[u8], at: usize) -> Scan
 // `0x` at `at`.
 fn hex(text: &[u8], at: usize) -> Scan
     requires { ⌜ at + 1 < length (now text) ⌝ ∗ ⌜ getD (now text) at 0 ≡ 48 ⌝ ∗ ⌜ getD (now text) (at + 1) 0 ≡ 120 ⌝ }
-    ensures { λ r. ⌜ At (now (text .entry)) at r ⌝ }
+    ensures { λ r. ⌜ r ≡ tokenAt (now (text .entry)) at ⌝ }
 {
     let begin = at + 2;
     let end = spelling::bytes::run_end(text, begin, Class::HexDigit);
     if end == begin {
         return decimal(text, at, at + 1);
     }
-    match spelling::number::value_of(&text[begin..end], 16, 1152921504606846975) {
+    match spelling::number::value_of(&text[begin..end], Radix::Hex) {
         Value::TooLarge => Scan::Bad,
         Value::Fits(value) => found(Kind::Hex(value), at, end),
     }
@@ -125,14 +127,14 @@ fn hex(text: &[u8], at: usize) -> Scan
 // `0b` at `at`.
 fn binary(text: &[u8], at: usize) -> Scan
     requires { ⌜ at + 1 < length (now text) ⌝ ∗ ⌜ getD (now text) at 0 ≡ 48 ⌝ ∗ ⌜ getD (now text) (at + 1) 0 ≡ 98 ⌝ }
-    ensures { λ r. ⌜ At (now (text .entry)) at r ⌝ }
+    ensures { λ r. ⌜ r ≡ tokenAt (now (text .entry)) at ⌝ }
 {
     let begin = at + 2;
     let end = spelling::bytes::run_end(text, begin, Class::BinaryDigit);
     if end == begin {
         return decimal(text, at, at + 1);
     }
-    match spelling::number::value_of(&text[begin..end], 2, 9223372036854775807) {
+    match spelling::number::value_of(&text[begin..end], Radix::Binary) {
         Value::TooLarge => Scan::Bad,
         Value::Fits(value) => found(Kind::Binary(value), at, end),
     }
@@ -141,7 +143,7 @@ fn binary(text: &[u8], at: usize) -> Scan
 // A digit at `at`.
 fn digits(text: &[u8], at: usize) -> Scan
     requires { ⌜ at < length (now text) ⌝ ∗ ⌜ digit (getD (now text) at 0) ≡ true ⌝ }
-    ensures { λ r. ⌜ At (now (text .entry)) at r ⌝ }
+    ensures { λ r. ⌜ r ≡ tokenAt (now (text .entry)) at ⌝ }
 {
     let second = at + 1;
     if text[at] == b'0' && second < text.len() {
@@ -159,7 +161,7 @@ fn digits(text: &[u8], at: usize) -> Scan
 // `.` at `at`.
 fn directive(text: &[u8], at: usize) -> Scan
     requires { ⌜ at < length (now text) ⌝ ∗ ⌜ getD (now text) at 0 ≡ 46 ⌝ }
-    ensures { λ r. ⌜ At (now (text .entry)) at r ⌝ }
+    ensures { λ r. ⌜ r ≡ tokenAt (now (text .entry)) at ⌝ }
 {
     let second = at + 1;
     if text.len() <= second {
@@ -175,7 +177,7 @@ fn directive(text: &[u8], at: usize) -> Scan
 // A byte that begins no token: the line's end, a comment, or margin before one of them; anything else is bad.
 fn ending(text: &[u8], at: usize) -> Scan
     requires { ⌜ at < length (now text) ⌝ ∗ ⌜ NoWord (getD (now text) at 0) ⌝ ∗ ⌜ mark (getD (now text) at 0) ≡ false ⌝ }
-    ensures { λ r. ⌜ Stepped (now (text .entry)) at r ⌝ }
+    ensures { λ r. ⌜ r ≡ scanAt (now (text .entry)) at ⌝ }
 {
     let stop = spelling::bytes::run_end(text, at, Class::Margin);
     if text.len() <= stop {
@@ -190,7 +192,7 @@ fn ending(text: &[u8], at: usize) -> Scan
 // A mark at `at`, or no token.
 fn mark_or_ending(text: &[u8], at: usize) -> Scan
     requires { ⌜ at < length (now text) ⌝ ∗ ⌜ NoWord (getD (now text) at 0) ⌝ }
-    ensures { λ r. ⌜ Stepped (now (text .entry)) at r ⌝ }
+    ensures { λ r. ⌜ r ≡ scanAt (now (text .entry)) at ⌝ }
 {
     let end = at + 1;
     match text[at] {
@@ -205,7 +207,7 @@ fn mark_or_ending(text: &[u8], at: usize) -> Scan
 // What stands at `at`.
 fn front(text: &[u8], at: usize) -> Scan
     requires { ⌜ at < length (now text) ⌝ ∗ ⌜ blank (getD (now text) at 0) ≡ false ⌝ }
-    ensures { λ r. ⌜ Stepped (now (text .entry)) at r ⌝ }
+    ensures { λ r. ⌜ r ≡ scanAt (now (text .entry)) at ⌝ }
 {
     let b = text[at];
     if spelling::bytes::is_name_start(b) {
@@ -226,7 +228,7 @@ fn front(text: &[u8], at: usize) -> Scan
 // The next token of the line from `from` on.
 pub(crate) fn next_token(text: &[u8], from: usize) -> Scan
     requires { ⌜ from ≤ length (now text) ⌝ }
-    ensures { λ r. ⌜ Stepped (now (text .entry)) from r ⌝ }
+    ensures { λ r. ⌜ r ≡ scanAt (now (text .entry)) from ⌝ }
 {
     let at = spelling::bytes::run_end(text, from, Class::Blank);
     if at < text.len() {

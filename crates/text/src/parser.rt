@@ -2,7 +2,7 @@
 ghost use mathlib.Core.Path.{_≡_};
 ghost use Prim.Native.Nat.{_≤_};
 ghost use lib.ListN.{length};
-ghost use Rattle.text.specs.Contracts.{LineRead, extractMeant, numberOf};
+ghost use Rattle.text.specs.Contracts.{extracted, recordAt};
 ghost use Rattle.text.specs.Contracts.{spoiled as spoiledLine};
 use crate::lexer::Kind;
 use crate::lexer::Scan;
@@ -15,9 +15,9 @@ pub enum Extracted {
     NoNumber,
 }
 
-// The whole number that a token means.
+// The whole number that a token means, with the sign of its spelling.
 pub fn extract_number(kind: Kind) -> Extracted
-    ensures { λ r. ⌜ extractMeant r ≡ numberOf kind ⌝ }
+    ensures { λ r. ⌜ r ≡ extracted kind ⌝ }
 {
     match kind {
         Kind::Number(magnitude) | Kind::Hex(magnitude) | Kind::Binary(magnitude) =>
@@ -63,7 +63,7 @@ fn spoiled(from: usize) -> Line
 // The record of the line that begins at `from`.
 pub fn tokenize(text: &[u8], from: usize) -> Line
     requires { ⌜ from ≤ length (now text) ⌝ }
-    ensures { λ r. ⌜ LineRead (now (text .entry)) from r ⌝ }
+    ensures { λ r. ⌜ r ≡ recordAt (now (text .entry)) from ⌝ }
 {
     let mut tokens = FILLER;
     let mut count: usize = 0;

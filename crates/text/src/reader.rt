@@ -1,18 +1,18 @@
-// The reader: it keeps a line and its next position. A function over such a struct is proved by hand (docs/WALKED.md), so there are few, and
-// each leaves the work to one over the slice and the number. `token_at` is the one for others to call.
+// The reader: it keeps the text in which a line stands and its next position there. A function over such a struct is proved by hand
+// (docs/WALKED.md), so there are few, and each leaves the work to one over the slice and the number. `token_at` is the one for others to call.
 ghost use mathlib.Core.Path.{_≡_};
 ghost use Prim.Native.Nat.{_≤_};
 ghost use lib.ListN.{length};
-ghost use Rattle.text.specs.Contracts.{Stepped, placeAfter, moved};
+ghost use Rattle.text.specs.Contracts.{scanAt, placeAfter, moved};
 use crate::lexer::Scan;
 
-pub struct Reader<'a> {
-    // the text in which the line stands: where the line ends is found by reading
-    pub line: &'a [u8],
-    pub position: usize,
+struct Reader<'a> {
+    // the whole text: where the line ends is found by reading, so no slice of the line is cut
+    text: &'a [u8],
+    position: usize,
 }
 
-// Where to read on: behind a token, and else where it was.
+// Where to read on: after a token, and else where it was.
 fn place_after(scan: Scan, position: usize) -> usize
     ensures { λ r. ⌜ r ≡ placeAfter scan position ⌝ }
 {
@@ -24,20 +24,20 @@ fn place_after(scan: Scan, position: usize) -> usize
 }
 
 impl<'a> Reader<'a> {
-    pub fn new(line: &'a [u8], position: usize) -> Reader<'a>
-        ensures { λ r. ⌜ r ≡ record { line = line .entry; position = position } ⌝ }
+    fn new(text: &'a [u8], position: usize) -> Reader<'a>
+        ensures { λ r. ⌜ r ≡ record { text = text .entry; position = position } ⌝ }
     {
-        Reader { line, position }
+        Reader { text, position }
     }
 
-    // The next token, behind which the reader then stands; at a bad token and at the end it stays.
-    pub fn next(&mut self) -> Scan
-        requires { ⌜ now self .position ≤ length (now (now self .line)) ⌝ }
-        ensures { λ r. ⌜ Stepped (now (now (self .entry) .line)) (now (self .entry) .position) r
+    // The next token, after which the reader then stands; at a bad token and at the end it stays.
+    fn next(&mut self) -> Scan
+        requires { ⌜ now self .position ≤ length (now (now self .text)) ⌝ }
+        ensures { λ r. ⌜ (r ≡ scanAt (now (now (self .entry) .text)) (now (self .entry) .position))
             × (now (self .exit) ≡ moved (now (self .entry)) r) ⌝ }
     {
         let from = self.position;
-        let scan = crate::lexer::next_token(self.line, from);
+        let scan = crate::lexer::next_token(self.text, from);
         self.position = place_after(scan, from);
         scan
     }
@@ -46,7 +46,7 @@ impl<'a> Reader<'a> {
 // The next token of the line from `from` on, read by a reader.
 pub fn token_at(text: &[u8], from: usize) -> Scan
     requires { ⌜ from ≤ length (now text) ⌝ }
-    ensures { λ r. ⌜ Stepped (now (text .entry)) from r ⌝ }
+    ensures { λ r. ⌜ r ≡ scanAt (now (text .entry)) from ⌝ }
 {
     let mut reader = Reader::new(text, from);
     reader.next()

@@ -1,13 +1,13 @@
 -- `image::config::parse_config` meets its contract.
 use Prim.Native.Nat.{ℕ, _+_, _-_, _≤_}
-use mathlib.Core.Path.{_≡_, refl, sym, ap₂, _∙_}
+use mathlib.Core.Path.{_≡_, refl, sym, ap, ap₂, _∙_}
 use native.Mathlib.Omega.{arith}
 use lib.ListN.{length, take, drop, getD}
 use borrow.Author.Needs.{needs}
 use Rattle.spelling.specs.Numbers.{residue}
 use Rattle.spelling.specs.Contracts.{wholeMeant}
 use Rattle.spelling.proofs.Numbers.{residue-lt}
-use Rattle.text.specs.Contracts.{filler}
+use Rattle.text.specs.Contracts.{extractMeant, filler}
 use Rattle.text.specs.declared.lexer.Kind.the-variants.{Identifier}
 use Rattle.text.specs.declared.lexer.Token.{Token}
 use Rattle.reading.proofs.Line.{getD-any}
@@ -90,7 +90,7 @@ returns-3 c =
     let e = k .before .before .before in
     let s = e .before .before .before .before in
     sym (config-number (settingsMeant (s .args .config)) (s .args .source .now) (s .args .line) past (s .pre .nine) (e .if1 .left) (k .enum-told .given .1)
-    (sym (rw (c .enum-told2 .given .1) at (x .extract-number .ensures))))
+    (sym (ap extractMeant (rw (c .enum-told2 .given .1) at (x .extract-number .ensures)))))
 
 returns-4 : tie.Need-returns-4
 returns-4 c =
@@ -106,7 +106,7 @@ returns-4 c =
     c .set-field .ensures
     ∙ ap₂ (λ (n v : ℕ). checked (setField (settingsMeant (a .config)) (take n (drop (t .start) (a .source .now))) v)) n (left r)
     ∙ sym (config-sets (settingsMeant (a .config)) (a .source .now) (a .line) past (s .pre .nine) (e .if1 .left) (k .enum-told .given .1)
-    (wholeMeant (w .whole .given .0 .0)) (sym (rw (w .whole .given .1) at (x .extract-number .ensures))))
+    (wholeMeant (w .whole .given .0 .0)) (sym (ap extractMeant (rw (w .whole .given .1) at (x .extract-number .ensures)))))
 
 pub parse-config-spec : {M : Type 1} → statement M
 parse-config-spec =

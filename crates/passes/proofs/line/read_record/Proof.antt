@@ -31,7 +31,7 @@ returns c =
     rw (c .unlabelled .ensures) (line-bad (a .source .now) (a .at) (t .tokenize .result) (t .tokenize .ensures) (contextFor (a .config)) (c .before .if1 .taken))
 
 line-kind-requires : tie.Need-line-kind-requires
-line-kind-requires c κs = told (c .before .tokenize .ensures)
+line-kind-requires c κs = told _ _ _ (c .before .tokenize .ensures)
 
 unlabelled-requires-2 : tie.Need-unlabelled-requires-2
 unlabelled-requires-2 c κs = search needs
@@ -40,7 +40,7 @@ enum-told : tie.Need-enum-told
 enum-told c = search needs
 
 read-config-requires : tie.Need-read-config-requires
-read-config-requires c κs = told (c .before .before .before .before .tokenize .ensures)
+read-config-requires c κs = told _ _ _ (c .before .before .before .before .tokenize .ensures)
 
 unlabelled-requires-3 : tie.Need-unlabelled-requires-3
 unlabelled-requires-3 c κs = search needs
@@ -52,7 +52,7 @@ read-label-requires : tie.Need-read-label-requires
 read-label-requires c κs =
     let k = c .before .before in
     let t = k .before .before in
-    (told (t .tokenize .ensures), (sym (rw (c .enum-told2 .given .1) at (k .line-kind .ensures)), t .before .before .pre .1))
+    (told _ _ _ (t .tokenize .ensures), (sym (rw (c .enum-told2 .given .1) at (k .line-kind .ensures)), t .before .before .pre .1))
 
 enum-told-3 : tie.Need-enum-told-3
 enum-told-3 c = search needs
@@ -60,7 +60,7 @@ enum-told-3 c = search needs
 read-instruction-requires : tie.Need-read-instruction-requires
 read-instruction-requires c κs =
     let t = c .before .before .before .before in
-    (told (t .tokenize .ensures), (omega arith, t .before .before .pre .1))
+    (told _ _ _ (t .tokenize .ensures), (omega arith, t .before .before .pre .1))
 
 unlabelled-requires-4 : tie.Need-unlabelled-requires-4
 unlabelled-requires-4 c κs = search needs

@@ -6,16 +6,32 @@ use native.Mathlib.Numerals.{add-one}
 use lib.ListN.{length, drop, getD}
 use borrow.Author.Needs.{needs}
 use Rattle.spelling.specs.Numbers.{digitValue, valueFrom, valueOf}
+use Rattle.spelling.specs.Contracts.{baseOf, Capped}
 use Rattle.spelling.proofs.Values.{value-step, value-done, over, over-mul, fits-mul, fitting-some, fitting-none}
 use Rattle.spelling.proofs.number.value_of.Statement.{statement}
 use Rattle.spelling.proofs.number.value_of.Tie as tie
 
 abbrev Inv-loop : tie.InvT-loop
-Inv-loop digits radix cap value₀ i₀ value i =
-    (i ≤ length digits) × (value < 2 ^ 64) × (valueFrom radix value (drop i digits) ≡ valueOf radix digits)
+Inv-loop digits base cap value₀ i₀ value i =
+    (i ≤ length digits) × (value < 2 ^ 64) × (valueFrom base value (drop i digits) ≡ valueOf base digits)
 
 abbrev μ-loop : tie.MeasureT-loop
-μ-loop digits radix cap value₀ i₀ value i = length digits - i
+μ-loop digits base cap value₀ i₀ value i = length digits - i
+
+-- the cap is the base's
+capped : (c : tie.After-cap Inv-loop μ-loop) → Capped (c .before .base .result) (c .cap .result)
+capped c = rw (c .before .base .ensures) (c .cap .ensures)
+
+-- the value that all digits have, by the base
+value-is : (c : tie.After-cap Inv-loop μ-loop) → let a = c .before .before .before .args in
+    valueOf (c .before .base .result) (a .digits .now) ≡ valueOf (baseOf (a .radix)) (a .digits .now)
+value-is c = rw (c .before .base .ensures)
+
+base-requires : tie.Need-base-requires Inv-loop μ-loop
+base-requires c κs = search needs
+
+cap-requires : tie.Need-cap-requires Inv-loop μ-loop
+cap-requires c κs = search needs
 
 loop-holds : tie.Need-loop-holds Inv-loop μ-loop
 unfolding valueOf
@@ -24,13 +40,14 @@ loop-holds c = (omega arith, omega arith, refl)
 returns : tie.Need-returns Inv-loop μ-loop
 returns c =
     let k = c .before .before .loop in
-    let a = c .before .before .before .before .args in
-    let p = c .before .before .before .before .pre in
+    let h = c .before .before .before in
+    let a = h .before .before .before .args in
+    let p = capped h in
     let v = over p (k .value) (a .digits .now) (k .i) (c .before .loop-test .taken) (omega (arith, over-mul p (c .if1 .taken))) in
-    sym (fitting-none (valueOf (a .radix) (a .digits .now)) (rw (← k .inv .2) v))
+    sym (fitting-none (valueOf (baseOf (a .radix)) (a .digits .now)) (rw (← value-is h, ← k .inv .2) v))
 
 mul-shifted : tie.Need-mul-shifted Inv-loop μ-loop
-mul-shifted c = record { fits = fits-mul (c .before .before .before .before .pre) (c .if1 .left) }
+mul-shifted c = record { fits = fits-mul (capped (c .before .before .before)) (c .if1 .left) }
 
 shared-slice-read-digit-value : tie.Need-shared-slice-read-digit-value Inv-loop μ-loop
 shared-slice-read-digit-value c = omega arith
@@ -42,20 +59,20 @@ wide-requires : tie.Need-wide-requires Inv-loop μ-loop
 wide-requires c κs = search needs
 
 sub-if2 : tie.Need-sub-if2 Inv-loop μ-loop
-sub-if2 c = omega (arith, fits-mul (c .before .before .before .before .before .before .before .pre) (c .before .before .before .if1 .left))
+sub-if2 c = omega (arith, fits-mul (capped (c .before .before .before .before .before .before)) (c .before .before .before .if1 .left))
 
 returns-2 : tie.Need-returns-2 Inv-loop μ-loop
 returns-2 c =
     let b = c .before .before .before .before .before in
     let k = b .before .loop in
-    let a = b .before .before .before .args in
-    let p = b .before .before .before .pre in
+    let h = b .before .before in
+    let a = h .before .before .before .args in
     let d : c .before .wide .result ≡ digitValue (getD (a .digits .now) (k .i) 0) = c .before .wide .ensures ∙ c .before .before .digit-value .ensures in
-    let v = over p (k .value) (a .digits .now) (k .i) (b .loop-test .taken) (omega (arith, d, c .if2 .taken)) in
-    sym (fitting-none (valueOf (a .radix) (a .digits .now)) (rw (← k .inv .2) v))
+    let v = over (capped h) (k .value) (a .digits .now) (k .i) (b .loop-test .taken) (omega (arith, d, c .if2 .taken)) in
+    sym (fitting-none (valueOf (baseOf (a .radix)) (a .digits .now)) (rw (← value-is h, ← k .inv .2) v))
 
 add-value : tie.Need-add-value Inv-loop μ-loop
-add-value c = omega (arith, c .if2 .left, fits-mul (c .before .before .before .before .before .before .before .before .pre) (c .before .before .before .before .if1 .left))
+add-value c = omega (arith, c .if2 .left, fits-mul (capped (c .before .before .before .before .before .before .before)) (c .before .before .before .before .if1 .left))
 
 add-i : tie.Need-add-i Inv-loop μ-loop
 add-i c = omega arith
@@ -67,18 +84,21 @@ loop-again : tie.Need-loop-again Inv-loop μ-loop
 loop-again c =
     let b = c .before .before .before .before .before in
     let k = b .before .loop in
-    let a = b .before .before .before .args in
+    let h = b .before .before in
+    let a = h .before .before .before .args in
     let d : c .before .wide .result ≡ digitValue (getD (a .digits .now) (k .i) 0) = c .before .wide .ensures ∙ c .before .before .digit-value .ensures in (
       omega arith,
-      omega (arith, c .if2 .left, fits-mul (b .before .before .before .pre) (c .before .before .before .before .if1 .left)),
-      rw (add-one (k .i), d) (sym (value-step (a .radix) (k .value) (a .digits .now) (k .i) (b .loop-test .taken)) ∙ k .inv .2),
+      omega (arith, c .if2 .left, fits-mul (capped h) (c .before .before .before .before .if1 .left)),
+      rw (add-one (k .i), d) (sym (value-step (h .before .base .result) (k .value) (a .digits .now) (k .i) (b .loop-test .taken)) ∙ k .inv .2),
     )
 
 returns-3 : tie.Need-returns-3 Inv-loop μ-loop
 returns-3 c =
     let k = c .before .loop in
-    let a = c .before .before .before .args in
-    let e : valueOf (a .radix) (a .digits .now) ≡ k .value = sym (k .inv .2) ∙ value-done (a .radix) (k .value) (a .digits .now) (k .i) (c .loop-test .left) in
+    let h = c .before .before in
+    let a = h .before .before .before .args in
+    let n = h .before .base .result in
+    let e : valueOf (baseOf (a .radix)) (a .digits .now) ≡ k .value = sym (value-is h) ∙ sym (k .inv .2) ∙ value-done n (k .value) (a .digits .now) (k .i) (c .loop-test .left) in
     rw e (sym (fitting-some (k .value) (k .inv .1)))
 
 pub value-of-spec : {M : Type 1} → statement M
@@ -87,6 +107,8 @@ value-of-spec =
     (tie.spec
     Inv-loop
     μ-loop
+    base-requires
+    cap-requires
     loop-holds
     returns
     mul-shifted

@@ -1,7 +1,7 @@
 -- `straight::operand::any_number` meets its contract.
-use Rattle.text.specs.Contracts.{Stepped, meant}
+use Rattle.text.specs.Contracts.{scanAt, meant}
 use Rattle.text.specs.declared.lexer.Scan.the-variants.{Found}
-use mathlib.Core.Path.{refl}
+use mathlib.Core.Path.{_≡_}
 use Rattle.instruction.specs.Operands.{readNumber}
 use Rattle.straight.proofs.Places.{stepped-reads}
 use borrow.Author.Needs.{needs}
@@ -28,7 +28,7 @@ enum-known-kind-4 c = search needs
 
 -- the token found
 step : (c : tie.After-token) → let b = c .before .before in
-    Stepped (b .before .before .args .text .now) (b .before .before .args .at) (Found (c .token .given .0 .0) (c .token .given .0 .1 .0))
+    Found (c .token .given .0 .0) (c .token .given .0 .1 .0) ≡ scanAt (b .before .before .args .text .now) (b .before .before .args .at)
 step c = rw (c .token .given .1) at (c .before .before .token-at .ensures)
 
 returns : tie.Need-returns

@@ -1,14 +1,13 @@
 -- `text::lexer::decimal` meets its contract.
-use mathlib.Core.Path.{sym, ap, _∙_}
+use mathlib.Core.Path.{sym, _∙_}
 use Prim.Native.Nat.{_-_}
 use native.Mathlib.Omega.{arith}
 use lib.ListN.{take, drop}
 use Rattle.spelling.specs.Numbers.{valueOf}
-use Rattle.spelling.specs.Contracts.{valueMeant}
 use Rattle.spelling.proofs.Values.{fits-is, large-is}
 use Rattle.text.specs.Tokens.{Number}
 use Rattle.text.specs.declared.lexer.Kind.the-variants.{Number as NumberKind}
-use Rattle.text.proofs.Fronts.{at-found, found-longest, decimal-fits, decimal-large}
+use Rattle.text.proofs.Fronts.{number-kind, at-found, at-none, found-longest, decimal-fits, decimal-large}
 use borrow.Author.Needs.{needs}
 use Rattle.text.proofs.lexer.decimal.Statement.{statement}
 use Rattle.text.proofs.lexer.decimal.Tie as tie
@@ -39,8 +38,9 @@ returns c =
     let v = c .before .before in
     let a = v .before .before .before .args in
     let q = v .before .before .before .pre in
-    decimal-large (a .text .now) (a .at) (a .end) (q .some-digits) (q .in-text) (q .is-digit) (found-longest (drop (a .at) (a .text .now)) (a .end - a .at) Number (q .is-number))
-    (omega (arith, large-is (valueOf 10 (take (a .end - a .at) (drop (a .at) (a .text .now)))) (sym (ap valueMeant (c .enum-told .given .1)) ∙ v .value-of .ensures)))
+    at-none (a .text .now) (a .at)
+    (decimal-large (a .text .now) (a .at) (a .end) (q .some-digits) (q .in-text) (q .is-digit) (found-longest (drop (a .at) (a .text .now)) (a .end - a .at) Number (q .is-number))
+    (omega (arith, large-is (valueOf 10 (take (a .end - a .at) (drop (a .at) (a .text .now)))) (sym (c .enum-told .given .1) ∙ v .value-of .ensures))))
 
 returns-2 : tie.Need-returns-2
 returns-2 c =
@@ -48,9 +48,10 @@ returns-2 c =
     let a = v .before .before .before .args in
     let q = v .before .before .before .pre in
     let n = c .before .before .before .value .given .0 .0 in
-    let f = fits-is (valueOf 10 (take (a .end - a .at) (drop (a .at) (a .text .now)))) n (sym (ap valueMeant (c .before .before .before .value .given .1)) ∙ v .value-of .ensures) in
+    let f = fits-is (valueOf 10 (take (a .end - a .at) (drop (a .at) (a .text .now)))) n (sym (c .before .before .before .value .given .1) ∙ v .value-of .ensures) in
     rw (c .found .ensures)
-    (at-found (a .text .now) (a .at) (a .end) (NumberKind n) (omega (arith, q .some-digits)) (q .in-text)
+    (at-found (a .text .now) (a .at) (a .end) (NumberKind n) (omega (arith, q .some-digits))
+    (number-kind (a .text .now) (a .at) (a .end) n (q .some-digits) (omega (arith, q .some-digits, q .in-text)) (q .is-digit))
     (decimal-fits (a .text .now) (a .at) (a .end) n (q .some-digits) (q .in-text) (q .is-digit) (found-longest (drop (a .at) (a .text .now)) (a .end - a .at) Number (q .is-number)) (f .0) (c .before .if1 .taken)))
 
 returns-3 : tie.Need-returns-3
@@ -59,8 +60,9 @@ returns-3 c =
     let a = v .before .before .before .args in
     let q = v .before .before .before .pre in
     let n = c .before .before .value .given .0 .0 in
-    let f = fits-is (valueOf 10 (take (a .end - a .at) (drop (a .at) (a .text .now)))) n (sym (ap valueMeant (c .before .before .value .given .1)) ∙ v .value-of .ensures) in
-    decimal-large (a .text .now) (a .at) (a .end) (q .some-digits) (q .in-text) (q .is-digit) (found-longest (drop (a .at) (a .text .now)) (a .end - a .at) Number (q .is-number)) (omega (arith, f .0, c .if1 .left))
+    let f = fits-is (valueOf 10 (take (a .end - a .at) (drop (a .at) (a .text .now)))) n (sym (c .before .before .value .given .1) ∙ v .value-of .ensures) in
+    at-none (a .text .now) (a .at)
+    (decimal-large (a .text .now) (a .at) (a .end) (q .some-digits) (q .in-text) (q .is-digit) (found-longest (drop (a .at) (a .text .now)) (a .end - a .at) Number (q .is-number)) (omega (arith, f .0, c .if1 .left)))
 
 pub decimal-spec : {M : Type 1} → statement M
 decimal-spec =

@@ -1,15 +1,14 @@
 -- `text::lexer::hex` meets its contract.
-use mathlib.Core.Path.{sym, ap, _∙_}
+use mathlib.Core.Path.{refl, sym, _∙_}
 use Prim.Native.Nat.{_+_, _-_, _≤_}
 use native.Mathlib.Omega.{arith}
 use lib.ListN.{length, take, drop}
 use Rattle.spelling.specs.Bytes.{hexDigit}
 use Rattle.spelling.specs.Numbers.{valueOf}
-use Rattle.spelling.specs.Contracts.{valueMeant}
 use Rattle.spelling.proofs.Values.{fits-is, large-is}
 use Rattle.text.specs.Tokens.{Hex, Number, hex}
 use Rattle.text.specs.declared.lexer.Kind.the-variants.{Hex as HexKind}
-use Rattle.text.proofs.Fronts.{run-in, at-found, longest-found, hex-scan, hex-means, radix-none, radix-some, radix-fits, radix-large, zero-is-digit}
+use Rattle.text.proofs.Fronts.{run-in, at-found, at-none, longest-found, hex-scan, hex-means, radix-none, radix-some, radix-fits, radix-large, zero-is-digit}
 use borrow.Author.Needs.{needs}
 use Rattle.text.proofs.lexer.hex.Statement.{statement}
 use Rattle.text.proofs.lexer.hex.Tie as tie
@@ -75,9 +74,10 @@ returns-2 c =
     let a = r .before .before .args in
     let q = r .before .before .pre in
     let e = r .run-end .result in
-    radix-large Hex hex 16 hex-means (a .text .now) (a .at) e (ends r .0) (ends r .1)
+    at-none (a .text .now) (a .at)
+    (radix-large Hex hex 16 hex-means (a .text .now) (a .at) e (ends r .0) (ends r .1)
     (radix-some 120 hexDigit Hex hex-scan (a .text .now) (a .at) e (q .0) (q .1 .0) (q .1 .1) (r .run-end .ensures) (k .if1 .left))
-    (large-is (valueOf 16 (take (e - (a .at + 2)) (drop (a .at + 2) (a .text .now)))) (sym (ap valueMeant (c .enum-told .given .1)) ∙ v .value-of .ensures))
+    (large-is (valueOf 16 (take (e - (a .at + 2)) (drop (a .at + 2) (a .text .now)))) (sym (c .enum-told .given .1) ∙ v .value-of .ensures)))
 
 returns-3 : tie.Need-returns-3
 returns-3 c =
@@ -88,9 +88,9 @@ returns-3 c =
     let q = r .before .before .pre in
     let e = r .run-end .result in
     let n = c .before .before .value .given .0 .0 in
-    let f = fits-is (valueOf 16 (take (e - (a .at + 2)) (drop (a .at + 2) (a .text .now)))) n (sym (ap valueMeant (c .before .before .value .given .1)) ∙ v .value-of .ensures) in
+    let f = fits-is (valueOf 16 (take (e - (a .at + 2)) (drop (a .at + 2) (a .text .now)))) n (sym (c .before .before .value .given .1) ∙ v .value-of .ensures) in
     rw (c .found .ensures)
-    (at-found (a .text .now) (a .at) e (HexKind n) (omega (arith, ends r .0)) (ends r .1)
+    (at-found (a .text .now) (a .at) e (HexKind n) (omega (arith, ends r .0)) refl
     (radix-fits Hex hex 16 hex-means (a .text .now) (a .at) e n (ends r .0) (ends r .1)
     (radix-some 120 hexDigit Hex hex-scan (a .text .now) (a .at) e (q .0) (q .1 .0) (q .1 .1) (r .run-end .ensures) (k .if1 .left)) (f .0) (omega (arith, f .0, f .1))))
 

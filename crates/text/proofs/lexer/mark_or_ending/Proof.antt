@@ -43,7 +43,7 @@ returns c =
     let a = r .args in
     let k = m .match .keys1 in
     let b = getD (a .text .now) (a .at) 0 in
-    rw (c .found .ensures) (mark-step (a .text .now) (a .at) Comma comma (r .pre .0) (r .pre .1) (mark-yes b (inl k)) (mark-token b 44 comma k refl) refl)
+    rw (c .found .ensures) (mark-step (a .text .now) (a .at) Comma comma (r .pre .0) (r .pre .1) (mark-yes b (inl k)) (mark-token b 44 comma k refl) (λ u. refl) (λ u. refl))
 
 returns-2 : tie.Need-returns-2
 unfolding markToken
@@ -53,7 +53,7 @@ returns-2 c =
     let a = r .args in
     let k = m .match .keys2 in
     let b = getD (a .text .now) (a .at) 0 in
-    rw (c .found2 .ensures) (mark-step (a .text .now) (a .at) Colon colon (r .pre .0) (r .pre .1) (mark-yes b (inr (inl k))) (mark-token b 58 colon k refl) refl)
+    rw (c .found2 .ensures) (mark-step (a .text .now) (a .at) Colon colon (r .pre .0) (r .pre .1) (mark-yes b (inr (inl k))) (mark-token b 58 colon k refl) (λ u. refl) (λ u. refl))
 
 returns-3 : tie.Need-returns-3
 unfolding markToken
@@ -63,7 +63,7 @@ returns-3 c =
     let a = r .args in
     let k = m .match .keys3 in
     let b = getD (a .text .now) (a .at) 0 in
-    rw (c .found3 .ensures) (mark-step (a .text .now) (a .at) LParen opening (r .pre .0) (r .pre .1) (mark-yes b (inr (inr (inl k)))) (mark-token b 40 opening k refl) refl)
+    rw (c .found3 .ensures) (mark-step (a .text .now) (a .at) LParen opening (r .pre .0) (r .pre .1) (mark-yes b (inr (inr (inl k)))) (mark-token b 40 opening k refl) (λ u. refl) (λ u. refl))
 
 returns-4 : tie.Need-returns-4
 unfolding markToken
@@ -73,7 +73,7 @@ returns-4 c =
     let a = r .args in
     let k = m .match .keys4 in
     let b = getD (a .text .now) (a .at) 0 in
-    rw (c .found4 .ensures) (mark-step (a .text .now) (a .at) RParen closing (r .pre .0) (r .pre .1) (mark-yes b (inr (inr (inr k)))) (mark-token b 41 closing k refl) refl)
+    rw (c .found4 .ensures) (mark-step (a .text .now) (a .at) RParen closing (r .pre .0) (r .pre .1) (mark-yes b (inr (inr (inr k)))) (mark-token b 41 closing k refl) (λ u. refl) (λ u. refl))
 
 returns-5 : tie.Need-returns-5
 returns-5 c = search needs

@@ -1,14 +1,13 @@
 -- `text::lexer::minus` meets its contract.
-use mathlib.Core.Path.{sym, ap, _∙_}
+use mathlib.Core.Path.{sym, _∙_}
 use Prim.Native.Nat.{_+_, _-_, _≤_}
 use native.Mathlib.Omega.{arith}
 use lib.ListN.{length, take, drop}
 use Rattle.spelling.specs.Bytes.{digit}
 use Rattle.spelling.specs.Numbers.{valueOf}
-use Rattle.spelling.specs.Contracts.{valueMeant}
 use Rattle.spelling.proofs.Values.{fits-is, large-is}
 use Rattle.text.specs.declared.lexer.Kind.the-variants.{Negative}
-use Rattle.text.proofs.Fronts.{run-in, at-found, minus-none, minus-fits, minus-large}
+use Rattle.text.proofs.Fronts.{run-in, at-found, at-none, minus-kind, minus-none, minus-fits, minus-large}
 use borrow.Author.Needs.{needs}
 use Rattle.text.proofs.lexer.minus.Statement.{statement}
 use Rattle.text.proofs.lexer.minus.Tie as tie
@@ -30,7 +29,8 @@ returns : tie.Need-returns
 returns c =
     let r = c .before in
     let a = r .before .before .args in
-    minus-none (a .text .now) (a .at) (r .run-end .result) (r .before .before .pre .0) (r .before .before .pre .1) (r .run-end .ensures) (c .if1 .taken)
+    at-none (a .text .now) (a .at)
+    (minus-none (a .text .now) (a .at) (r .run-end .result) (r .before .before .pre .0) (r .before .before .pre .1) (r .run-end .ensures) (c .if1 .taken))
 
 sub-value-of : tie.Need-sub-value-of
 sub-value-of c = search needs
@@ -59,8 +59,9 @@ returns-2 c =
     let k = v .before .before in
     let r = k .before in
     let a = r .before .before .args in
-    minus-large (a .text .now) (a .at) (r .run-end .result) (r .before .before .pre .0) (r .before .before .pre .1) (r .run-end .ensures) (k .if1 .left)
-    (omega (arith, large-is (valueOf 10 (take (r .run-end .result - (a .at + 1)) (drop (a .at + 1) (a .text .now)))) (sym (ap valueMeant (c .enum-told .given .1)) ∙ v .value-of .ensures)))
+    at-none (a .text .now) (a .at)
+    (minus-large (a .text .now) (a .at) (r .run-end .result) (r .before .before .pre .0) (r .before .before .pre .1) (r .run-end .ensures) (k .if1 .left)
+    (omega (arith, large-is (valueOf 10 (take (r .run-end .result - (a .at + 1)) (drop (a .at + 1) (a .text .now)))) (sym (c .enum-told .given .1) ∙ v .value-of .ensures))))
 
 returns-3 : tie.Need-returns-3
 returns-3 c =
@@ -69,9 +70,10 @@ returns-3 c =
     let r = k .before in
     let a = r .before .before .args in
     let n = c .before .before .before .value .given .0 .0 in
-    let f = fits-is (valueOf 10 (take (r .run-end .result - (a .at + 1)) (drop (a .at + 1) (a .text .now)))) n (sym (ap valueMeant (c .before .before .before .value .given .1)) ∙ v .value-of .ensures) in
+    let f = fits-is (valueOf 10 (take (r .run-end .result - (a .at + 1)) (drop (a .at + 1) (a .text .now)))) n (sym (c .before .before .before .value .given .1) ∙ v .value-of .ensures) in
     rw (c .found .ensures)
-    (at-found (a .text .now) (a .at) (r .run-end .result) (Negative n) (omega (arith, ends r .0)) (ends r .1)
+    (at-found (a .text .now) (a .at) (r .run-end .result) (Negative n) (omega (arith, ends r .0))
+    (minus-kind (a .text .now) (a .at) (r .run-end .result) n (omega (arith, ends r .0)) (r .before .before .pre .0) (r .before .before .pre .1))
     (minus-fits (a .text .now) (a .at) (r .run-end .result) n (r .before .before .pre .0) (r .before .before .pre .1) (r .run-end .ensures) (k .if1 .left) (f .0) (c .before .if2 .taken)))
 
 returns-4 : tie.Need-returns-4
@@ -81,8 +83,9 @@ returns-4 c =
     let r = k .before in
     let a = r .before .before .args in
     let n = c .before .before .value .given .0 .0 in
-    let f = fits-is (valueOf 10 (take (r .run-end .result - (a .at + 1)) (drop (a .at + 1) (a .text .now)))) n (sym (ap valueMeant (c .before .before .value .given .1)) ∙ v .value-of .ensures) in
-    minus-large (a .text .now) (a .at) (r .run-end .result) (r .before .before .pre .0) (r .before .before .pre .1) (r .run-end .ensures) (k .if1 .left) (omega (arith, f .0, c .if2 .left))
+    let f = fits-is (valueOf 10 (take (r .run-end .result - (a .at + 1)) (drop (a .at + 1) (a .text .now)))) n (sym (c .before .before .value .given .1) ∙ v .value-of .ensures) in
+    at-none (a .text .now) (a .at)
+    (minus-large (a .text .now) (a .at) (r .run-end .result) (r .before .before .pre .0) (r .before .before .pre .1) (r .run-end .ensures) (k .if1 .left) (omega (arith, f .0, c .if2 .left)))
 
 pub minus-spec : {M : Type 1} → statement M
 minus-spec =

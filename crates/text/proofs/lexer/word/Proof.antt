@@ -6,7 +6,7 @@ use lib.ListN.{length}
 use Rattle.spelling.specs.Bytes.{namePart}
 use Rattle.spelling.specs.Contracts.{nameMeant}
 use Rattle.spelling.specs.declared.name.RegisterName.{RegisterName}
-use Rattle.text.specs.Contracts.{At}
+use Rattle.text.specs.Contracts.{tokenAt}
 use Rattle.text.specs.declared.lexer.Scan.the-variants.{Found}
 use Rattle.text.proofs.Fronts.{run-in, nameKind, word-at}
 use borrow.Author.Needs.{needs}
@@ -16,7 +16,7 @@ use Rattle.text.proofs.lexer.word.Tie as tie
 -- what stands at the place, by what the spelling names
 word-is : (c : tie.After-parse-register) (n : RegisterName) → c .parse-register .result ≡ n
     → let r = c .before .before in let a = r .before .before .args in
-    At (a .text .now) (a .at) (Found (record { kind = nameKind n; start = a .at; length = r .run-end .result - a .at }) (r .run-end .result))
+    Found (record { kind = nameKind n; start = a .at; length = r .run-end .result - a .at }) (r .run-end .result) ≡ tokenAt (a .text .now) (a .at)
 word-is c n e =
     let r = c .before .before in
     let a = r .before .before .args in

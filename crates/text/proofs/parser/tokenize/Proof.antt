@@ -1,12 +1,14 @@
--- `text::parser::tokenize` meets its contract. The loop's invariant: what is kept of the line is what is kept of the tokens read so far
--- with those that are left to read.
-use Prim.Native.Nat.{_-_}
+-- `text::parser::tokenize` meets its contract. The loop's invariant: the tokens read so far, with those that are found from here on, are the
+-- line's.
+use Prim.Native.Nat.{_-_, _≤_, _<_}
+use mathlib.Core.Path.{_≡_}
 use native.Mathlib.Omega.{arith}
 use mathlib.Core.Logic.{⊎-elim}
 use lib.ListN.{length}
 use borrow.Author.Needs.{needs}
-use Rattle.text.specs.Contracts.{Stepped}
+use Rattle.text.specs.Contracts.{scanAt}
 use Rattle.text.specs.declared.lexer.Scan.the-variants.{Found, End}
+use Rattle.text.proofs.Stepping.{stepped}
 use Rattle.text.proofs.Recording.{Reading, reading-begin, reading-store, reading-full, reading-end, reading-bad}
 use Rattle.text.proofs.parser.tokenize.Statement.{statement}
 use Rattle.text.proofs.parser.tokenize.Tie as tie
@@ -33,18 +35,20 @@ enum-known-stop c = search needs
 
 -- the end of what is to be read
 stopped : (c : tie.After-stop Inv-loop μ-loop) → let b = c .before .before .before in
-    Stepped (b .before .before .before .args .text .now) (b .loop .at) (End (c .stop .given .0 .0))
+    End (c .stop .given .0 .0) ≡ scanAt (b .before .before .before .args .text .now) (b .loop .at)
 stopped c = rw (c .stop .given .1) at (c .before .before .token-at .ensures)
 
 line-end-requires : tie.Need-line-end-requires Inv-loop μ-loop
-line-end-requires c κs = stopped (c .before) .leads .1
+line-end-requires c κs =
+    let b = c .before .before .before .before in
+    stepped (b .before .before .before .args .text .now) (b .loop .at) _ (stopped (c .before)) .leads (b .loop .inv .place) .1
 
 returns : tie.Need-returns Inv-loop μ-loop
 returns c =
     let k = c .before .before in
     let b = k .before .before .before in
     let a = b .before .before .before .args in
-    reading-end (a .text .now) (a .from) (b .loop .tokens) (b .loop .count) (b .loop .at) (k .stop .given .0 .0) (c .line-end .result) (b .loop .inv) (stopped k) (c .line-end .ensures)
+    reading-end (a .text .now) (a .from) (b .loop .tokens) (b .loop .count) (b .loop .at) (b .loop .inv) (k .stop .given .0 .0) (c .line-end .result) (stopped k) (c .line-end .ensures)
 
 enum-told : tie.Need-enum-told Inv-loop μ-loop
 enum-told c = search needs
@@ -63,25 +67,32 @@ returns-2 c =
 enum-known-token : tie.Need-enum-known-token Inv-loop μ-loop
 enum-known-token c = search needs
 
--- the token found, and the place behind it
+-- the token found, and the place after it
 step : (c : tie.After-token Inv-loop μ-loop) → let b = c .before .before .before in
-    Stepped (b .before .before .before .args .text .now) (b .loop .at) (Found (c .token .given .0 .0) (c .token .given .0 .1 .0))
+    Found (c .token .given .0 .0) (c .token .given .0 .1 .0) ≡ scanAt (b .before .before .before .args .text .now) (b .loop .at)
 step c = rw (c .token .given .1) at (c .before .before .token-at .ensures)
+
+-- that place is further on in the text
+further : (c : tie.After-token Inv-loop μ-loop) → let b = c .before .before .before in
+    (b .loop .at < c .token .given .0 .1 .0) × (c .token .given .0 .1 .0 ≤ length (b .before .before .before .args .text .now))
+further c =
+    let b = c .before .before .before in
+    let l = stepped (b .before .before .before .args .text .now) (b .loop .at) _ (step c) .leads in
+    (l .3, l .4)
 
 mul-tokens : tie.Need-mul-tokens Inv-loop μ-loop
 mul-tokens c = search needs
 
 array-set-from-tokens : tie.Need-array-set-from-tokens Inv-loop μ-loop
-array-set-from-tokens c = c .if1 .taken
+array-set-from-tokens c = omega (arith, c .if1 .taken)
 
 add-count : tie.Need-add-count Inv-loop μ-loop
 add-count c =
     let b = c .before .before .before .before .before in
-    let l = step (c .before .before) .leads in
-    omega (arith, l .2, l .3, b .loop .inv .few)
+    omega (arith, further (c .before .before), b .loop .inv .few)
 
 loop-less : tie.Need-loop-less Inv-loop μ-loop
-loop-less c = let l = step (c .before .before) .leads in omega (arith, l .2, l .3)
+loop-less c = omega (arith, further (c .before .before))
 
 loop-again : tie.Need-loop-again Inv-loop μ-loop
 loop-again c =
@@ -91,8 +102,8 @@ loop-again c =
     let t = k .token .given .0 .0 in
     let next = k .token .given .0 .1 .0 in
     ⊎-elim
-    (λ w. rw (w .1) (reading-store (r .args .text .now) (r .args .from) (b .loop .tokens) (b .loop .count) (b .loop .at) t next (r .pre) (b .loop .inv) (w .0 .taken) (step k)))
-    (λ w. rw (w .1) (reading-full (r .args .text .now) (r .args .from) (b .loop .tokens) (b .loop .count) (b .loop .at) t next (b .loop .inv) (w .0 .left) (step k)))
+    (λ w. rw (w .1) (reading-store (r .args .text .now) (r .args .from) (b .loop .tokens) (b .loop .count) (b .loop .at) (b .loop .inv) t next (w .0 .taken) (step k)))
+    (λ w. rw (w .1) (reading-full (r .args .text .now) (r .args .from) (b .loop .tokens) (b .loop .count) (b .loop .at) (b .loop .inv) t next (w .0 .left) (step k)))
     (c .if1 .came)
 
 pub tokenize-spec : {M : Type 1} → statement M

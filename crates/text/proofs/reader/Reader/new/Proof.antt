@@ -1,4 +1,4 @@
--- `text::reader::Reader::new` meets its contract, by a walk of its MIR: a reader of the line and the place passed.
+-- `text::reader::Reader::new` meets its contract, by a walk of its MIR: a reader of the text and the place passed.
 -- What a `&[u8]` owns is had twice: for the parameter at exit, and within the reader.
 use mathlib.Core.Path.{refl}
 use Prim.Native.Nat.{ℕ, _<_, _^_}
@@ -44,19 +44,19 @@ use Rattle.text.proofs.reader.Reader.new.Code as code
 abbrev stayed : Stays (new.ended .signature .params) (new.ended .kept)
 stayed = (stay-none-slice (0 ∷ []) tt (plain (λ _. u8)) yes, (stay-none (λ _. usize) yes, tt))
 
-module _ {M : Type 1} (𝓤 : URA M) (H : Heap 𝓤) (A : Atoms 𝓤) (W : Given 𝓤 H A) (mem : Memory → SProp 𝓤) (run : Routine → Fun 𝓤) (κ : Lft) (q : Share) (line : RefT (List ℕ)) (n : ℕ) (n-fits : n < 2 ^ 64) where
+module _ {M : Type 1} (𝓤 : URA M) (H : Heap 𝓤) (A : Atoms 𝓤) (W : Given 𝓤 H A) (mem : Memory → SProp 𝓤) (run : Routine → Fun 𝓤) (κ : Lft) (q : Share) (text : RefT (List ℕ)) (n : ℕ) (n-fits : n < 2 ^ 64) where
   abbrev α : NamedLft
   α = namedLft 1 0 tt (κ, tt)
 
-  -- the machine value of the line
+  -- the machine value of the text
   abbrev v : Val
-  v = sliceVal (line .ptr) (length (line .now))
+  v = sliceVal (text .ptr) (length (text .now))
 
   abbrev made : Reader
-  made = record { line = line; position = n }
+  made = record { text = text; position = n }
 
   abbrev args : RefT (List ℕ) × (ℕ × Unit {0})
-  args = (line, (n, tt))
+  args = (text, (n, tt))
 
   abbrev vals : List Val × (List Val × Unit {0})
   vals = (v ∷ [], (vint w64 n ∷ [], tt))
@@ -65,20 +65,20 @@ module _ {M : Type 1} (𝓤 : URA M) (H : Heap 𝓤) (A : Atoms 𝓤) (W : Given
   Post = walkOf 𝓤 H A new.ended stayed (new.clauses 𝓤 H A mem run) .post (((κ, tt), (q, tt), tt, args, vals), tt)
 
   abbrev Own : Fml
-  Own = ShrSlice (named 0) κ u8 .own line (v ∷ [])
+  Own = ShrSlice (named 0) κ u8 .own text (v ∷ [])
 
   exits : ent 𝓤 (onEntry 𝓤 H A new.signature (κ, tt) (q, tt) args vals) (Post (T′.lowered made))
   exits =
       qed W ((‵ (flft κ q) ⊛ ‵ ftrue) ∷ ‵ (owns (ShrSlice (named 0) κ u8 ∷ usize ∷ []) args vals) ∷ []) ∵
       suffices ! _ (ends-at 𝓤 H A new.ended stayed (new.clauses 𝓤 H A mem run) W (((κ, tt), (q, tt), tt, args, vals), tt) (T′.lowered made) made (tt, (tt, tt)) (tt, (tt, tt))) $ says ! refl $ frame ! $
-      fsplit ! $ use1 W (‵ Own ⊛ ‵ Own) (shr-slice-copy 𝓤 H A W (named 0) κ u8 .twice line (v ∷ [])) $ split ! $ move ! (0 ∷ 2 ∷ []) $ fjoin ! $ frame ! $
-      nothing ! $ owned ! usize (Is usize) (uint-makes 𝓤 H A W w64) n _ (refl, n-fits) $ fjoin ! $ move ! (1 ∷ 0 ∷ []) $ fjoin ! $ by ! (own-shut 𝓤 H A W (T.the-type α) (T′.the-laws α) (line, (n, tt)))
+      fsplit ! $ use1 W (‵ Own ⊛ ‵ Own) (shr-slice-copy 𝓤 H A W (named 0) κ u8 .twice text (v ∷ [])) $ split ! $ move ! (0 ∷ 2 ∷ []) $ fjoin ! $ frame ! $
+      nothing ! $ owned ! usize (Is usize) (uint-makes 𝓤 H A W w64) n _ (refl, n-fits) $ fjoin ! $ move ! (1 ∷ 0 ∷ []) $ fjoin ! $ by ! (own-shut 𝓤 H A W (T.the-type α) (T′.the-laws α) (text, (n, tt)))
 
   module _ (C : Calls 𝓤 H) (Λ : Loops 𝓤 H) where
-    -- the locals: _0 the reader, _1 the line, _2 the place
-    walk : Is (ShrSlice (named 0) κ u8) line (v ∷ []) → ent 𝓤 (onEntry 𝓤 H A new.signature (κ, tt) (q, tt) args vals) (WpFn 𝓤 H C Λ code.function (v ∷ vint w64 n ∷ []) Post)
+    -- the locals: _0 the reader, _1 the text, _2 the place
+    walk : Is (ShrSlice (named 0) κ u8) text (v ∷ []) → ent 𝓤 (onEntry 𝓤 H A new.signature (κ, tt) (q, tt) args vals) (WpFn 𝓤 H C Λ code.function (v ∷ vint w64 n ∷ []) Post)
     walk is =
-        let typed = shr-slice-lawful 𝓤 H A W (named 0) κ u8 .typed line (v ∷ []) is .0 in
+        let typed = shr-slice-lawful 𝓤 H A W (named 0) κ u8 .typed text (v ∷ []) is .0 in
         qed W (raw (onEntry 𝓤 H A new.signature (κ, tt) (q, tt) args vals) ∷ []) ∵ enter ! C Λ code.function (v ∷ vint w64 n ∷ []) _ $
         alloc1 ! (λ l₀. alloc1 ! (λ l₁. alloc1 ! (λ l₂. alloc0 ! $ params1 ! $ pass1 ! (init ! 2 refl typed) $ pass1 ! (init ! 0 refl (tt, record { fits = n-fits })) $ pass0 ! $
         assigns ! (agg ! (and-then ! (load ! (from ! (stop !)) (look ! 2 refl)) (and-then ! (load ! (from ! (stop !)) (look ! 0 refl)) (no-more !)))) (from ! (stop !)) (init ! 4 refl (tt, (typed .1, (record { fits = n-fits }, tt)))) $

@@ -45,7 +45,7 @@ use denote.Triple.Entry.{onEntry}
 use denote.Triple.Spec.{Meets, tripleOf}
 use denote.Triple.Table.{entered, cited}
 use denote.Triple.Walked.{says, needs, Stays, stay-ref, walkOf, goes-ref, Walks, ends-at, walked, walk-meets}
-use Rattle.text.specs.Contracts.{Stepped, placeAfter}
+use Rattle.text.specs.Contracts.{scanAt, placeAfter}
 use Rattle.text.specs.declared.lexer.Scan.{Scan}
 use Rattle.text.specs.declared.reader.Reader.{Reader}
 use Rattle.text.proofs.lexer.Scan as S
@@ -93,12 +93,12 @@ module _ {M : Type 1} (𝓤 : URA M) (H : Heap 𝓤) (A : Atoms 𝓤) (W : Given
   abbrev B : RattleType
   B = T.the-row α
 
-  -- the reader with its place at n, and the machine values of its line and of itself
+  -- the reader with its place at n, and the machine values of its text and of itself
   abbrev at : ℕ → Reader
-  at n = record { line = d .line; position = n }
+  at n = record { text = d .text; position = n }
 
-  abbrev line : Val
-  line = sliceVal (d .line .ptr) (length (d .line .now))
+  abbrev v : Val
+  v = sliceVal (d .text .ptr) (length (d .text .now))
 
   abbrev mach : ℕ → Val
   mach n = T′.lowered (at n)
@@ -107,7 +107,7 @@ module _ {M : Type 1} (𝓤 : URA M) (H : Heap 𝓤) (A : Atoms 𝓤) (W : Given
   Own = B .own d (mach (d .position) ∷ [])
 
   abbrev fields : Values (D .parts)
-  fields = (d .line, (d .position, tt))
+  fields = (d .text, (d .position, tt))
 
   abbrev args : RefT Reader × Unit {0}
   args = (record { ptr = (b, o); name = γ; now = d }, tt)
@@ -119,28 +119,28 @@ module _ {M : Type 1} (𝓤 : URA M) (H : Heap 𝓤) (A : Atoms 𝓤) (W : Given
   place-fits : Is B d (mach (d .position) ∷ []) → d .position < 2 ^ 64
   place-fits is = LL.owed D L d _ is .1 .0 .1
 
-  line-room : Is B d (mach (d .position) ∷ []) → Room u8 (length (d .line .now))
-  line-room is = LL.owed D L d _ is .0 .0 .1
+  text-room : Is B d (mach (d .position) ∷ []) → Room u8 (length (d .text .now))
+  text-room is = LL.owed D L d _ is .0 .0 .1
 
-  -- the call of `next_token`: a copy of the reader's line, and its place
+  -- the call of `next_token`: a copy of the reader's text, and its place
   abbrev to-token : NextToken 𝓤 H A at-mem run .Ghost
-  to-token = (((κ′, tt), (q′, tt), tt, (d .line, (d .position, tt)), (line ∷ [], (vint w64 (d .position) ∷ [], tt))), tt)
+  to-token = (((κ′, tt), (q′, tt), tt, (d .text, (d .position, tt)), (v ∷ [], (vint w64 (d .position) ∷ [], tt))), tt)
 
-  apart : d .position < 2 ^ 64 → d .position ≤ length (now (d .line))
+  apart : d .position < 2 ^ 64 → d .position ≤ length (now (d .text))
       → ent 𝓤 (⋆ 𝓤 H A (‵ Own ∷ (‵ (flft κ′ q′) ⊛ ‵ ftrue) ∷ [])) (sep 𝓤 (NextToken 𝓤 H A at-mem run .pre to-token) (sem 𝓤 H A Own))
   apart fits within =
       qed W (‵ Own ∷ (‵ (flft κ′ q′) ⊛ ‵ ftrue) ∷ []) ∵ use1 W (‵ Own ⊛ ‵ Own) (LL.copy D (T′.the-copy α) 𝓤 H A W .twice d _) $ split ! $
       use1 W (given (mach (d .position) ∷ [] ≡ mach (d .position) ∷ []) (‵ (all-own (D .parts) L fields))) (own-open 𝓤 H A W D L fields (mach (d .position))) $ learn ! (λ _.
-      use1 W (‵ (ownAt (D .parts) L 0 (d .line)) ⊛ ‵ (rest (D .parts) L 0 fields)) (own-out 𝓤 H A W (D .parts) L 0 fields) $ split ! $
-      -- [what the line owns; what the place owns; what the reader owns; the token]
+      use1 W (‵ (ownAt (D .parts) L 0 (d .text)) ⊛ ‵ (rest (D .parts) L 0 fields)) (own-out 𝓤 H A W (D .parts) L 0 fields) $ split ! $
+      -- [what the text owns; what the place owns; what the reader owns; the token]
       move ! (1 ∷ []) $ drop ! $ nothing ! $ owned ! usize (Is usize) (uint-makes 𝓤 H A W w64) (d .position) _ (refl, fits) $ fjoin ! $ move ! (1 ∷ 0 ∷ []) $ fjoin ! $
       move ! (2 ∷ 0 ∷ []) $ use2 W (raw (NextToken 𝓤 H A at-mem run .pre to-token)) asked $ frame ! $ done !)
     where
-      asked : ent 𝓤 (onEntry 𝓤 H A token.signature (κ′, tt) (q′, tt) (d .line, (d .position, tt)) (line ∷ [], (vint w64 (d .position) ∷ [], tt))) (NextToken 𝓤 H A at-mem run .pre to-token)
-      asked = qed W ((‵ (flft κ′ q′) ⊛ ‵ ftrue) ∷ ‵ (owns (ShrSlice (named 0) κ′ u8 ∷ usize ∷ []) (d .line, (d .position, tt)) (line ∷ [], (vint w64 (d .position) ∷ [], tt))) ∷ []) ∵ says ! within $ join ! $ done !
+      asked : ent 𝓤 (onEntry 𝓤 H A token.signature (κ′, tt) (q′, tt) (d .text, (d .position, tt)) (v ∷ [], (vint w64 (d .position) ∷ [], tt))) (NextToken 𝓤 H A at-mem run .pre to-token)
+      asked = qed W ((‵ (flft κ′ q′) ⊛ ‵ ftrue) ∷ ‵ (owns (ShrSlice (named 0) κ′ u8 ∷ usize ∷ []) (d .text, (d .position, tt)) (v ∷ [], (vint w64 (d .position) ∷ [], tt))) ∷ []) ∵ says ! within $ join ! $ done !
 
-  token-said : (r : Scan) → ent 𝓤 (ensured 𝓤 H A token.ended (token.clauses 𝓤 H A at-mem run) (κ′, tt) (d .line, (d .position, tt)) tt r) (fact 𝓤 (Stepped (now (d .line)) (d .position) r))
-  token-said r = exE 𝓤 _ (λ ws. snd∗ 𝓤 (sem 𝓤 H A (lasts token.ended (κ′, tt) (d .line, (d .position, tt)) ws)) (fact 𝓤 (Stepped (now (d .line)) (d .position) r)))
+  token-said : (r : Scan) → ent 𝓤 (ensured 𝓤 H A token.ended (token.clauses 𝓤 H A at-mem run) (κ′, tt) (d .text, (d .position, tt)) tt r) (fact 𝓤 (r ≡ scanAt (now (d .text)) (d .position)))
+  token-said r = exE 𝓤 _ (λ ws. snd∗ 𝓤 (sem 𝓤 H A (lasts token.ended (κ′, tt) (d .text, (d .position, tt)) ws)) (fact 𝓤 (r ≡ scanAt (now (d .text)) (d .position))))
 
   -- the call of `place_after`, at the answer r with the machine value u
   abbrev to-place : Scan → Val → PlaceAfter 𝓤 H A at-mem run .Ghost
@@ -154,11 +154,11 @@ module _ {M : Type 1} (𝓤 : URA M) (H : Heap 𝓤) (A : Atoms 𝓤) (W : Given
   place-said : (r : Scan) (m : ℕ) → ent 𝓤 (ensured 𝓤 H A place.ended (place.clauses 𝓤 H A at-mem run) tt (r, (d .position, tt)) tt m) (fact 𝓤 (m ≡ placeAfter r (d .position)))
   place-said r m = exE 𝓤 _ (λ ws. snd∗ 𝓤 (sem 𝓤 H A (lasts place.ended tt (r, (d .position, tt)) ws)) (fact 𝓤 (m ≡ placeAfter r (d .position))))
 
-  -- what the line owns is kept, and the place is another
+  -- what the text owns is kept, and the place is another
   again : (m : ℕ) → m < 2 ^ 64 → ent 𝓤 (sem 𝓤 H A Own) (sem 𝓤 H A (B .own (at m) (mach m ∷ [])))
   again m fits = qed W (‵ Own ∷ []) ∵ owned ! usize (Is usize) (uint-makes 𝓤 H A W w64) m _ (refl, fits) $ move ! (1 ∷ 0 ∷ []) $ by ! (own-put 𝓤 H A W D L 1 fields m (mach (d .position)))
 
-  exits : (r : Scan) (u : Val) (m : ℕ) → Is S.the-row r (u ∷ []) → Stepped (now (d .line)) (d .position) r → m ≡ placeAfter r (d .position)
+  exits : (r : Scan) (u : Val) (m : ℕ) → Is S.the-row r (u ∷ []) → r ≡ scanAt (now (d .text)) (d .position) → m ≡ placeAfter r (d .position)
       → ent 𝓤 (⋆ 𝓤 H A (‵ (fobs γ (B .coded .code (at m))) ∷ ‵ (fbor κ (Body (mem B) b o γ)) ∷ ‵ (flft κ q) ∷ (‵ (flft κ′ q′) ⊛ ‵ ftrue) ∷ [])) (Post u)
   exits r u m is step e =
       qed W (‵ (fobs γ (B .coded .code (at m))) ∷ ‵ (fbor κ (Body (mem B) b o γ)) ∷ ‵ (flft κ q) ∷ (‵ (flft κ′ q′) ⊛ ‵ ftrue) ∷ []) ∵
@@ -167,8 +167,8 @@ module _ {M : Type 1} (𝓤 : URA M) (H : Heap 𝓤) (A : Atoms 𝓤) (W : Given
       owned ! S.the-row (Is S.the-row) (EL.makes S.the-type S′.the-plain 𝓤 H A) r _ is $ done !
 
   module _ (C : Calls 𝓤 H) (Λ : Loops 𝓤 H) (fm : FmC 𝓤 H (W .laws) C) (known-token : Triple 𝓤 (C #next-token) (NextToken 𝓤 H A at-mem run)) (known-place : Triple 𝓤 (C #place-after) (PlaceAfter 𝓤 H A at-mem run)) where
-    -- the locals: _0 the result, _1 self, _2 from, _3 scan, _4 the line, _5 the new place
-    walk : d .position ≤ length (now (d .line)) → ent 𝓤 (onEntry 𝓤 H A next.signature (κ, (κ′, tt)) (q, (q′, tt)) args (vptr b o ∷ [], tt)) (WpFn 𝓤 H C Λ code.function (vptr b o ∷ []) Post)
+    -- the locals: _0 the result, _1 self, _2 from, _3 scan, _4 the text, _5 the new place
+    walk : d .position ≤ length (now (d .text)) → ent 𝓤 (onEntry 𝓤 H A next.signature (κ, (κ′, tt)) (q, (q′, tt)) args (vptr b o ∷ [], tt)) (WpFn 𝓤 H C Λ code.function (vptr b o ∷ []) Post)
     walk within =
         qed W ((‵ (flft κ q) ⊛ ‵ (flft κ′ q′) ⊛ ‵ ftrue) ∷ ‵ (owns (MutRef (named 0) κ B ∷ []) args (vptr b o ∷ [], tt)) ∷ []) ∵ enter ! C Λ code.function (vptr b o ∷ []) _ $
         alloc1 ! (λ l₀. alloc1 ! (λ l₁. alloc1 ! (λ l₂. alloc1 ! (λ l₃. alloc1 ! (λ l₄. alloc1 ! (λ l₅. alloc0 ! $ params1 ! $ pass1 ! (init ! 8 refl (tt, tt)) $ pass0 ! $
@@ -179,12 +179,12 @@ module _ {M : Type 1} (𝓤 : URA M) (H : Heap 𝓤) (A : Atoms 𝓤) (W : Given
         move ! (1 ∷ []) $ peeks ! B (Is B) (shows 𝓤 H A B) d (mach (d .position) ∷ []) (λ is. move ! (1 ∷ 0 ∷ []) $
         -- [the reader's cell; what it owns; the open borrow; obs; auth; 'a's token; …; _5; …; _4; …; _3; …; _2; …; _1; …; room for _0; …]
         assigns ! (of-opd ! (load ! (from ! (hop ! (look ! 15 refl) (fld ! refl (stop !)))) (look-in ! 0 (sub ! 1 refl (whole !))))) (from ! (stop !)) (init ! 13 refl (tt, record { fits = place-fits is })) $
-        assigns ! (of-opd ! (load ! (from ! (hop ! (look ! 15 refl) (fld ! refl (stop !)))) (look-in ! 0 (sub ! 0 refl (whole !))))) (from ! (stop !)) (init ! 9 refl (tt, (tt, (record { fits = line-room is .0 }, tt)))) $
+        assigns ! (of-opd ! (load ! (from ! (hop ! (look ! 15 refl) (fld ! refl (stop !)))) (look-in ! 0 (sub ! 0 refl (whole !))))) (from ! (stop !)) (init ! 9 refl (tt, (tt, (record { fits = text-room is .0 }, tt)))) $
         -- `next_token`
         move ! (1 ∷ 5 ∷ []) $ use2 W (raw (NextToken 𝓤 H A at-mem run .pre to-token) ⊛ ‵ Own) (apart (place-fits is) within) $ split ! $
         calls-at ! fm (NextToken 𝓤 H A at-mem run) known-token to-token (and-then ! (load ! (from ! (stop !)) (look ! 9 refl)) (and-then ! (load ! (from ! (stop !)) (look ! 13 refl)) (no-more !))) (λ u.
-        use1 W (later (some (λ (r : Scan). ((‵ (flft κ′ q′) ⊛ ‵ ftrue) ⊛ ‵ (S.the-row .own r (u ∷ []))) ⊛ raw (ensured 𝓤 H A token.ended (token.clauses 𝓤 H A at-mem run) (κ′, tt) (d .line, (d .position, tt)) tt r)))) (id⊢ 𝓤 _) $ await ! tt $ pick ! (λ r.
-        split ! $ move ! (1 ∷ []) $ use1 W (raw (fact 𝓤 (Stepped (now (d .line)) (d .position) r))) (token-said r) $ heard ! (Stepped (now (d .line)) (d .position) r) (λ step. split ! $ move ! (1 ∷ []) $
+        use1 W (later (some (λ (r : Scan). ((‵ (flft κ′ q′) ⊛ ‵ ftrue) ⊛ ‵ (S.the-row .own r (u ∷ []))) ⊛ raw (ensured 𝓤 H A token.ended (token.clauses 𝓤 H A at-mem run) (κ′, tt) (d .text, (d .position, tt)) tt r)))) (id⊢ 𝓤 _) $ await ! tt $ pick ! (λ r.
+        split ! $ move ! (1 ∷ []) $ use1 W (raw (fact 𝓤 (r ≡ scanAt (now (d .text)) (d .position)))) (token-said r) $ heard ! (r ≡ scanAt (now (d .text)) (d .position)) (λ step. split ! $ move ! (1 ∷ []) $
         peeks ! S.the-row (Is S.the-row) (shows 𝓤 H A S.the-row) r (u ∷ []) (λ is-r. drop ! $
         -- ['a's token; what the reader owns; its cell; the open borrow; obs; auth; …; _5; …; _4; …; room for _3; …; _2; …; _1; …; room for _0; …]
         land ! (from ! (stop !)) (init ! 11 refl (EL.lawful S.the-type S′.the-laws 𝓤 H A W tt .typed r _ is-r .0)) $
