@@ -18,7 +18,7 @@ use Rattle.image.specs.Lent.{over}
 use Rattle.image.specs.Zkasm.{programOutput}
 use Rattle.image.proofs.Over.{length-over, take-over}
 use Rattle.zkasm.specs.Stdin.{input-room, most-tries, interruption, failureOf, answerOf, countOf, stepOf, Calls, start, next, Writing, printed, told, writingOf}
-use Rattle.zkasm.specs.Contracts.{ReadsPiece, Reads, Writes, Replies}
+use Rattle.zkasm.specs.Contracts.{Answers, ReadsPiece, Reads, Writes, Replies}
 use Rattle.zkasm.specs.declared.stdin.Answer.{Answer}
 use Rattle.zkasm.specs.declared.stdin.Answer.the-variants.{Piece, End, Interrupted, Failed}
 use Rattle.zkasm.specs.declared.stdin.Input.{Input}
@@ -40,14 +40,14 @@ failure-none (pos n) = go (eqb n interruption)
 failure-none (negsuc n) = refl
 
 -- No more bytes come than were asked for.
-pub answered-fits : (room : ℕ) (got error : ℤ) → Moved room got → countOf (answerOf got error) ≤ room
+answered-fits : (room : ℕ) (got error : ℤ) → Moved room got → countOf (answerOf got error) ≤ room
 unfolding answerOf countOf
 answered-fits room (pos zero) error h = omega arith
 answered-fits room (pos (suc n)) error h = h
 answered-fits room (negsuc n) error h = omega (arith, failure-none error)
 
 -- A piece is never empty.
-abbrev pub Advances : Answer → Type 0
+abbrev Advances : Answer → Type 0
 Advances (Piece n) = 0 < n
 Advances End = Unit {0}
 Advances Interrupted = Unit {0}
@@ -62,16 +62,23 @@ failure-advances (pos n) = go (eqb n interruption)
     go false = tt
 failure-advances (negsuc n) = tt
 
-pub answered-advances : (got error : ℤ) → Advances (answerOf got error)
+answered-advances : (got error : ℤ) → Advances (answerOf got error)
 unfolding answerOf
 answered-advances (pos zero) error = tt
 answered-advances (pos (suc n)) error = omega arith
 answered-advances (negsuc n) error = failure-advances error
 
+module _ {room : ℕ} {r : Answer} (a : Answers room r) where
+  pub answers-fit : countOf r ≤ room
+  answers-fit = rw (a .answer) (answered-fits room (a .got) (a .error) (a .moved))
+
+  answers-advance : Advances r
+  answers-advance = rw (a .answer) (answered-advances (a .got) (a .error))
+
 -- ---- how many bytes came
 
 -- By the step that calls come to.
-abbrev pub Counted : Step → List ℕ → Type 0
+abbrev Counted : Step → List ℕ → Type 0
 Counted (Again filled tries) came = (filled ≡ length came) × (filled < input-room)
 Counted (Done (Whole n)) came = (n ≡ length came) × (n < input-room)
 Counted (Done TooLong) came = length came ≡ input-room
@@ -90,7 +97,7 @@ step-counted filled zero came piece Interrupted e small count fits = omega (arit
 step-counted filled (suc tries) came piece Interrupted e small count fits = (omega (arith, length-append came piece), small)
 step-counted filled tries came piece Failed e small count fits = omega (arith, length-append came piece)
 
-pub counted : {step : Step} {came : List ℕ} → Calls step came → Counted step came
+counted : {step : Step} {came : List ℕ} → Calls step came → Counted step came
 counted start = (refl, omega arith)
 counted (next {filled} {tries} {came} answer piece calls count fits e) =
     let c = counted calls in
@@ -121,7 +128,7 @@ whole-ended {n} (next {filled} {tries} answer piece calls count fits e) = ap som
 -- ---- another call
 
 -- After it there is less room, or there are fewer tries.
-pub step-less : (filled tries more left : ℕ) (a : Answer) → Advances a → filled + countOf a ≤ input-room → Again more left ≡ stepOf filled tries a
+step-less : (filled tries more left : ℕ) (a : Answer) → Advances a → filled + countOf a ≤ input-room → Again more left ≡ stepOf filled tries a
     → input-room - more + left < input-room - filled + tries
 unfolding countOf stepOf
 step-less filled tries more left (Piece n) h fits e = go (ltb (filled + n) input-room) e
@@ -151,11 +158,11 @@ module _ {old new : List ℕ} {filled tries : ℕ} (r : Reads old new (Again fil
   module _ {piece new′ : List ℕ} {answer : Answer} (p : ReadsPiece filled new piece new′ answer) where
     pub next-fits : filled + countOf answer ≤ input-room
     next-fits =
-        omega (arith, answered-fits (length new - filled) (p .got) (p .error) (p .moved), ap countOf (p .answer), filled-small, still-room)
+        omega (arith, answers-fit (p .answered), filled-small, still-room)
 
     pub next-less : (more left : ℕ) → Again more left ≡ stepOf filled tries answer → input-room - more + left < input-room - filled + tries
     next-less more left e =
-        step-less filled tries more left answer (rw (p .answer) (answered-advances (p .got) (p .error))) next-fits e
+        step-less filled tries more left answer (answers-advance (p .answered)) next-fits e
 
     pub reads-next : length piece ≡ input-room → Reads old new′ (stepOf filled tries answer)
     reads-next size =

@@ -33,12 +33,17 @@ pub record Prints (text old new : List ℕ) (r : ℕ) : Type 0 where
   pub fits : r ≤ length new
   pub printed : take r new ≡ text
 
--- One read: its answer, and the bytes that it left at the front of a buffer of its own, put after those that were read before.
-pub record ReadsPiece (filled : ℕ) (old piece new : List ℕ) (r : Answer) : Type 0 where
+-- What a read answered that was lent a buffer of so many bytes.
+pub record Answers (room : ℕ) (r : Answer) : Type 0 where
   pub got : ℤ
   pub error : ℤ
-  pub moved : Moved (length old - filled) got
+  pub moved : Moved room got
   pub answer : r ≡ stdin.answerOf got error
+
+-- A read that was lent as much as there is room for. The bytes that it left at the front of a buffer of its own are put after those
+-- that were read before.
+pub record ReadsPiece (filled : ℕ) (old piece new : List ℕ) (r : Answer) : Type 0 where
+  pub answered : Answers (length old - filled) r
   pub holds : new ≡ put old filled (take (countOf r) piece)
 
 -- Calls that come to a step, with the bytes that came by them at the front of a buffer that keeps its other bytes.

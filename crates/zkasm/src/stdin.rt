@@ -1,10 +1,10 @@
 // Standard input, read to its end or to the byte that makes it too long.
 ghost use mathlib.Core.Path.{_≡_};
-ghost use Prim.Native.Nat.{_+_, _≤_};
+ghost use Prim.Native.Nat.{_+_, _≤_, _<_};
 ghost use lib.ListN.{length};
 ghost use Rattle.zkasm.specs.Stdin.{input-room, answerOf, countOf, stepOf};
 ghost use Rattle.zkasm.specs.declared.stdin.Step.the-variants.{Done};
-ghost use Rattle.zkasm.specs.Contracts.{ReadsPiece, Reads};
+ghost use Rattle.zkasm.specs.Contracts.{Answers, ReadsPiece, Reads};
 
 // One byte more than an input may have, so that a longer one is seen.
 const ROOM: usize = 16385;
@@ -84,14 +84,22 @@ pub fn blank() -> [u8; ROOM]
     [0; ROOM]
 }
 
-// One read, into a buffer of its own; what came is put after the bytes that were read before.
+// One read. It is lent room for a byte at least, since an answer of 0 means the end only then.
+fn read_some(piece: &mut [u8]) -> Answer
+    requires { ⌜ 0 < length (now piece) ⌝ }
+    ensures { λ r. ⌜ Answers (length (now (piece .entry))) r ⌝ }
+{
+    let got = libc::read(libc::STDIN_FILENO, piece);
+    answer_of(got, os::errno())
+}
+
+// One read into a buffer of its own, for as much as there is room for. What came is put after the bytes that were read before.
 fn read_piece(input: &mut [u8], filled: usize, piece: &mut [u8]) -> Answer
-    requires { ⌜ filled ≤ length (now input) ⌝ ∗ ⌜ length (now piece) ≡ length (now input) ⌝ }
+    requires { ⌜ filled < length (now input) ⌝ ∗ ⌜ length (now piece) ≡ length (now input) ⌝ }
     ensures { λ r. ⌜ ReadsPiece filled (now (input .entry)) (now (piece .exit)) (now (input .exit)) r ⌝ }
 {
     let left = input.len() - filled;
-    let got = libc::read(libc::STDIN_FILENO, &mut piece[..left]);
-    let answer = answer_of(got, os::errno());
+    let answer = read_some(&mut piece[..left]);
     if let Answer::Piece(n) = answer {
         image::program::write_bytes(input, filled, &piece[..n]);
     }

@@ -1,22 +1,20 @@
 -- `zkasm::stdin::read_piece` meets its contract.
-use mathlib.Core.Path.{_≡_, refl, sym, ap, _∙_}
-use Prim.Native.Nat.{ℕ, _+_, _-_, _≤_}
+use mathlib.Core.Path.{_≡_, refl, sym, ap}
+use Prim.Native.Nat.{ℕ, _-_, _≤_}
 use native.Mathlib.Omega.{arith}
 use mathlib.Core.List.{List, [], _∷_, _++_}
 use lib.ListN.{length, take, drop, length-append}
 use lib.Seq.{length-take-le}
-use mir.Syntax.{w32, w64}
-use mir.ValLaws.{toZ-ofZ}
 use borrow.Author.Needs.{needs}
 use denote.Enum.Declared.{tagOf}
 use types.Run.{OneOf, miss}
-use Rattle.libc.specs.Io.{Moved}
-use Rattle.zkasm.specs.Stdin.{answerOf, countOf}
 use Rattle.coding.proofs.Writing.{put-none}
+use Rattle.zkasm.specs.Stdin.{countOf}
+use Rattle.zkasm.specs.Contracts.{Answers}
 use Rattle.zkasm.specs.declared.stdin.Answer.{Answer}
 use Rattle.zkasm.specs.declared.stdin.Answer.the-variants.{Piece, End, Interrupted, Failed}
 use Rattle.zkasm.proofs.stdin.Answer as answer-type
-use Rattle.zkasm.proofs.Calls.{answered-fits}
+use Rattle.zkasm.proofs.Calls.{answers-fit}
 use Rattle.zkasm.proofs.stdin.read_piece.Statement.{statement}
 use Rattle.zkasm.proofs.stdin.read_piece.Tie as tie
 
@@ -24,42 +22,29 @@ use Rattle.zkasm.proofs.stdin.read_piece.Tie as tie
 left : (s : tie.Start) → let n = length (s .args .input .now) - s .args .filled in length (take n (s .args .piece .now)) ≡ n
 left s = length-take-le _ _ (omega (arith, s .pre .1))
 
-moved : (c : tie.After-read) → let a = c .before .before .before .before .args in Moved (length (a .input .now) - a .filled) (c .read .result)
-moved c = rw (left (c .before .before .before .before)) at (c .read .ensures)
+answered : (c : tie.After-read-some) → let s = c .before .before .before .before in Answers (length (s .args .input .now) - s .args .filled) (c .read-some .result)
+answered c = rw (left (c .before .before .before .before)) at (c .read-some .ensures)
 
-answer-is : (c : tie.After-answer-of) → c .answer-of .result ≡ answerOf (c .before .before .before .before .read .result) (c .before .errno .result)
-answer-is c =
-    let r = c .before .before .before .before in
-    c .answer-of .ensures ∙ rw (toZ-ofZ w64 (r .read .result) (record { sfits = r .read .ok }), toZ-ofZ w32 (c .before .errno .result) (record { sfits = c .before .errno .ok }))
-
--- a piece is no longer than the room
-few : (c : tie.After-answer) → let s = c .before .before .before .before .before .before .before .before .before .before in
+-- a piece is no longer than that
+few : (c : tie.After-answer) → let s = c .before .before .before .before .before .before .before .before in
     c .answer .given .0 .0 ≤ length (s .args .input .now) - s .args .filled
 unfolding countOf
-few c =
-    let o = c .before .before in
-    let r = o .before .before .before .before in
-    let s = r .before .before .before .before in
-    omega (
-      arith,
-      answered-fits (length (s .args .input .now) - s .args .filled) (r .read .result) (o .before .errno .result) (moved r),
-      ap countOf (sym (answer-is o) ∙ c .answer .given .1),
-    )
+few c = omega (arith, answers-fit (answered (c .before .before .before .before)), ap countOf (c .answer .given .1))
 
--- and the buffer that it is read into is as long as it was
-rest : (c : tie.After-answer) → let r = c .before .before .before .before .before .before in
+-- nor than the buffer that it was read into
+within : (c : tie.After-answer) → let r = c .before .before .before .before in
     let s = r .before .before .before .before in
-    c .answer .given .0 .0 ≤ length (r .read .last .1 .0 ++ drop (length (s .args .input .now) - s .args .filled) (s .args .piece .now))
-rest c =
-    let r = c .before .before .before .before .before .before in
+    c .answer .given .0 .0 ≤ length (r .read-some .last .0 ++ drop (length (s .args .input .now) - s .args .filled) (s .args .piece .now))
+within c =
+    let r = c .before .before .before .before in
     let s = r .before .before .before .before in
     let after = drop (length (s .args .input .now) - s .args .filled) (s .args .piece .now) in
-    omega (arith, few c, left s, r .read .kept .1 .0, length-append (r .read .last .1 .0) after)
+    omega (arith, few c, left s, r .read-some .kept .0, length-append (r .read-some .last .0) after)
 
-sized : (c : tie.After-answer) → let r = c .before .before .before .before .before .before in
+sized : (c : tie.After-answer) → let r = c .before .before .before .before in
     let s = r .before .before .before .before in
-    length (take (c .answer .given .0 .0) (r .read .last .1 .0 ++ drop (length (s .args .input .now) - s .args .filled) (s .args .piece .now))) ≡ c .answer .given .0 .0
-sized c = length-take-le _ _ (rest c)
+    length (take (c .answer .given .0 .0) (r .read-some .last .0 ++ drop (length (s .args .input .now) - s .args .filled) (s .args .piece .now))) ≡ c .answer .given .0 .0
+sized c = length-take-le _ _ (within c)
 
 -- nothing comes by another answer
 none-came : (a : Answer) → OneOf (1 ∷ 2 ∷ 3 ∷ []) (tagOf answer-type.the-type a) → countOf a ≡ 0
@@ -72,26 +57,20 @@ none-came Failed h = refl
 sub-left : tie.Need-sub-left
 sub-left c = search needs
 
-slice-relend-prefix-read : tie.Need-slice-relend-prefix-read
-slice-relend-prefix-read c = search needs
+slice-relend-prefix-read-some : tie.Need-slice-relend-prefix-read-some
+slice-relend-prefix-read-some c = search needs
 
-slice-aggregate-read : tie.Need-slice-aggregate-read
-slice-aggregate-read c = sym (left (c .before .before .before))
+slice-aggregate-read-some : tie.Need-slice-aggregate-read-some
+slice-aggregate-read-some c = sym (left (c .before .before .before))
 
-read-requires : tie.Need-read-requires
-read-requires c κs = search needs
-
-errno-requires : tie.Need-errno-requires
-errno-requires c κs = search needs
-
-answer-of-requires : tie.Need-answer-of-requires
-answer-of-requires c κs = search needs
+read-some-requires : tie.Need-read-some-requires
+read-some-requires c κs = omega (arith, left (c .before .before .before), c .before .before .before .pre .0)
 
 enum-known-answer : tie.Need-enum-known-answer
 enum-known-answer c = search needs
 
 slice-reshare-prefix-write-bytes : tie.Need-slice-reshare-prefix-write-bytes
-slice-reshare-prefix-write-bytes c = rest (c .before .before)
+slice-reshare-prefix-write-bytes c = within (c .before .before)
 
 slice-aggregate-write-bytes : tie.Need-slice-aggregate-write-bytes
 slice-aggregate-write-bytes c = sym (sized (c .before .before .before))
@@ -112,41 +91,24 @@ unfolding countOf
 returns c =
     let w = c .before .before in
     let a = w .before .before .before .before in
-    let o = a .before .before in
-    let r = o .before .before .before .before in
-    record {
-      got = r .read .result;
-      error = o .before .errno .result;
-      moved = moved r;
-      answer = sym (a .answer .given .1) ∙ answer-is o;
-      holds = w .write-bytes .ensures .holds;
-    }
+    record { answered = rw (a .answer .given .1) at (answered (a .before .before .before .before)); holds = w .write-bytes .ensures .holds }
 
 same-length-3 : tie.Need-same-length-3
 same-length-3 c = search needs
 
 returns-2 : tie.Need-returns-2
 returns-2 c =
-    let o = c .before in
-    let r = o .before .before .before .before in
-    record {
-      got = r .read .result;
-      error = o .before .errno .result;
-      moved = moved r;
-      answer = answer-is o;
-      holds = rw (none-came (o .answer-of .result) (c .match .keys2)) (sym (put-none _ _));
-    }
+    let r = c .before .before .before in
+    record { answered = answered r; holds = rw (none-came (r .read-some .result) (c .match .keys2)) (sym (put-none _ _)) }
 
 pub read-piece-spec : {M : Type 1} → statement M
 read-piece-spec =
     tie.close
     (tie.spec
     sub-left
-    slice-relend-prefix-read
-    slice-aggregate-read
-    read-requires
-    errno-requires
-    answer-of-requires
+    slice-relend-prefix-read-some
+    slice-aggregate-read-some
+    read-some-requires
     enum-known-answer
     slice-reshare-prefix-write-bytes
     slice-aggregate-write-bytes
