@@ -53,22 +53,17 @@ fn step_after(filled: usize, tries: usize, answer: Answer) -> Step
 {
     match answer {
         Answer::Piece(n) => {
-            if filled + n < ROOM {
-                Step::Again {
-                    filled: filled + n,
-                    tries,
-                }
-            } else {
-                Step::Done(Input::TooLong)
+            let filled = filled + n;
+            if filled < ROOM {
+                return Step::Again { filled, tries };
             }
+            Step::Done(Input::TooLong)
         }
         Answer::End => Step::Done(Input::Whole(filled)),
         Answer::Interrupted => {
             if 0 < tries {
-                Step::Again {
-                    filled,
-                    tries: tries - 1,
-                }
+                let tries = tries - 1;
+                Step::Again { filled, tries }
             } else {
                 Step::Done(Input::Incomplete)
             }

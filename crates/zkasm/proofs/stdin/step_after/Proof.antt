@@ -33,15 +33,18 @@ gives-up filled (suc tries) h = absurd (omega arith)
 enum-known-answer : tie.Need-enum-known-answer
 enum-known-answer c = search needs
 
-add-if1 : tie.Need-add-if1
+add-filled : tie.Need-add-filled
 unfolding countOf
-add-if1 c =
+add-filled c =
     let s = c .before .before .before in
     let h = rw (c .before .answer .given .1) at (s .pre) in
     record { fits = omega arith }
 
-add-t9 : tie.Need-add-t9
-add-t9 c = search needs
+returns : tie.Need-returns
+returns c =
+    let s = c .before .before .before .before in
+    let a = c .before .before .answer .given in
+    rw (a .1) (goes-on (s .args .filled) (s .args .tries) (a .0 .0) (c .if1 .taken))
 
 enum-told : tie.Need-enum-told
 enum-told c = search needs
@@ -49,17 +52,11 @@ enum-told c = search needs
 enum-told-2 : tie.Need-enum-told-2
 enum-told-2 c = search needs
 
-sub-t14 : tie.Need-sub-t14
-sub-t14 c = search needs
+sub-tries : tie.Need-sub-tries
+sub-tries c = search needs
 
 enum-told-3 : tie.Need-enum-told-3
 enum-told-3 c = search needs
-
-returns : tie.Need-returns
-returns c =
-    let s = c .before .before .before .before in
-    let a = c .before .before .answer .given in
-    rw (a .1) (goes-on (s .args .filled) (s .args .tries) (a .0 .0) (c .if1 .taken))
 
 returns-2 : tie.Need-returns-2
 returns-2 c =
@@ -90,13 +87,12 @@ step-after-spec =
     tie.close
     (tie.spec
     enum-known-answer
-    add-if1
-    add-t9
+    add-filled
+    returns
     enum-told
     enum-told-2
-    sub-t14
+    sub-tries
     enum-told-3
-    returns
     returns-2
     returns-3
     returns-4
