@@ -1,3 +1,3 @@
 pub mod Rooms
 pub mod Printing
-pub mod Calls
+pub mod Transcripts

@@ -1,5 +1,6 @@
--- Standard input: what an answer of `read` means (POSIX), what follows it, and what the calls come to. "A program reads standard
--- input (at most 16,384 bytes, otherwise 1 ..) and prints": quotations are document 01's.
+-- Standard input: what an answer of `read` means, when reading goes on, and what is written in the end. "A program reads standard
+-- input (at most 16,384 bytes, otherwise 1; ..) and prints the listing": the quotations are document 01's. The meaning of an answer
+-- is POSIX's. Which answers `read` gives, and which bytes, no definition here says.
 use Prim.Native.Nat.{ℕ, zero, suc, _+_, _≤_}
 use mathlib.Core.Path.{_≡_}
 use mathlib.Core.Bool.{true, false}
@@ -9,65 +10,66 @@ use lib.Dec.{eqb, ltb}
 use lib.IntN.{ℤ, pos, negsuc}
 use Rattle.spelling.specs.Bytes.{bytes}
 use Rattle.image.specs.Zkasm.{most-input, programOutput}
-use Rattle.zkasm.specs.declared.stdin.Answer.{Answer}
-use Rattle.zkasm.specs.declared.stdin.Answer.the-variants.{Piece, End, Interrupted, Failed}
+use Rattle.zkasm.specs.declared.stdin.Delivery.{Delivery}
+use Rattle.zkasm.specs.declared.stdin.Delivery.the-variants.{Piece, End, Interrupted, Failed}
 use Rattle.zkasm.specs.declared.stdin.Input.{Input}
 use Rattle.zkasm.specs.declared.stdin.Input.the-variants.{Whole, TooLong, Incomplete}
 use Rattle.zkasm.specs.declared.stdin.Step.{Step}
 use Rattle.zkasm.specs.declared.stdin.Step.the-variants.{Again, Done}
 
--- One byte more than "at most 16,384 bytes", so that a longer input is seen.
+-- "at most 16,384 bytes", and one byte more, so that a longer input is seen.
 abbrev pub input-room : ℕ
 input-room = most-input + 1
 
--- So many interruptions are borne.
+-- The number of times that an interrupted read is tried again.
 abbrev pub most-tries : ℕ
 most-tries = 100
 
--- The number of the error that a call was interrupted before a byte came (EINTR).
+-- The number of the error of a call that was interrupted before a byte came (EINTR).
 abbrev pub interruption : ℕ
 interruption = 4
 
--- ---- an answer
+-- ---- one read
 
 -- A call that failed, by the number of its error.
-unfoldable pub failureOf : ℤ → Answer
+unfoldable pub failureOf : ℤ → Delivery
 failureOf (pos error) = elim (eqb error interruption) [ true ↦ Interrupted | false ↦ Failed ]
 failureOf (negsuc n) = Failed
 
--- `read` answers how many bytes came; 0 at the end of the input; a negative number where it failed, and then there is an error.
-unfoldable pub answerOf : ℤ → ℤ → Answer
-answerOf (pos zero) error = End
-answerOf (pos (suc n)) error = Piece (suc n)
-answerOf (negsuc n) error = failureOf error
+-- `read` answers the number of bytes that came, 0 at the end of the input, and a negative number if it failed.
+unfoldable pub deliveryOf : ℤ → ℤ → Delivery
+deliveryOf (pos zero) error = End
+deliveryOf (pos (suc n)) error = Piece (suc n)
+deliveryOf (negsuc n) error = failureOf error
 
--- How many bytes came by it.
-unfoldable pub countOf : Answer → ℕ
+-- The number of bytes that came.
+unfoldable pub countOf : Delivery → ℕ
 countOf (Piece n) = n
 countOf End = 0
 countOf Interrupted = 0
 countOf Failed = 0
 
--- ---- what follows it
+-- ---- reading on
 
--- A piece is followed by another read, unless the input is too long already; an interruption too, a number of times. The input is
--- whole at the end alone.
-unfoldable pub stepOf : ℕ → ℕ → Answer → Step
+-- With so many bytes read and so many tries left: a piece is followed by another read unless the input is too long by now, and an
+-- interruption unless no try is left. Only the end makes an input whole.
+unfoldable pub stepOf : ℕ → ℕ → Delivery → Step
 stepOf filled tries (Piece n) = elim (ltb (filled + n) input-room) [ true ↦ Again (filled + n) tries | false ↦ Done TooLong ]
 stepOf filled tries End = Done (Whole filled)
 stepOf filled zero Interrupted = Done Incomplete
 stepOf filled (suc tries) Interrupted = Again filled tries
 stepOf filled tries Failed = Done Incomplete
 
--- What calls come to that follow each other, and the bytes that came by them, in their order. A call is lent the room that is left.
-pub data Calls : Step → List ℕ → Type 0 where
-  start : Calls (Again 0 most-tries) []
-  next : {filled tries : ℕ} {came : List ℕ} {step : Step} (answer : Answer) (piece : List ℕ) → Calls (Again filled tries) came → length piece ≡ countOf answer
-      → filled + length piece ≤ input-room → step ≡ stepOf filled tries answer → Calls step (came ++ piece)
+-- The calls of `read`, one after the other: the step that they lead to, and the bytes that came, in the order of the calls. A call is
+-- made only if those before it lead to `Again`, and brings no more than there is room for.
+pub data Transcript : Step → List ℕ → Type 0 where
+  start : Transcript (Again 0 most-tries) []
+  next : {filled tries : ℕ} {came : List ℕ} {step : Step} (delivery : Delivery) (piece : List ℕ) → Transcript (Again filled tries) came
+      → length piece ≡ countOf delivery → filled + length piece ≤ input-room → step ≡ stepOf filled tries delivery → Transcript step (came ++ piece)
 
 -- ---- what is written
 
--- To standard output, or to standard error.
+-- A text to standard output, or a line to standard error.
 pub data Writing : Type 0 where
   printed : List ℕ → Writing
   told : List ℕ → Writing
@@ -75,7 +77,8 @@ pub data Writing : Type 0 where
 unfoldable pub incomplete-line : List ℕ
 incomplete-line = bytes "zkasm: standard input could not be read to its end" ++ (10 ∷ [])
 
--- An input that was read whole, or too long, is answered; of another nothing is printed.
+-- "prints the listing, or `refused N line L`" for the bytes that came, if they are the whole input or too many. Otherwise nothing is
+-- printed.
 unfoldable pub writingOf : Input → List ℕ → Writing
 writingOf (Whole n) came = printed (programOutput came)
 writingOf TooLong came = printed (programOutput came)

@@ -1,5 +1,5 @@
-// Reads a source from standard input and prints the listing of its image, or `refused N line L`. Where the source could not be
-// read, or the text not be printed, one line on standard error says so.
+// Reads a source from standard input and prints the listing of its image, or `refused N line L`. If the source cannot be read to
+// its end, or the text cannot be printed, one line on standard error says so.
 mod reply;
 mod report;
 mod stdin;

@@ -7,7 +7,7 @@ use crate::report::report;
 use crate::stdin;
 use crate::stdin::Input;
 
-// A text for standard output, or a line for standard error: how long it is.
+// The length of a text for standard output, or of a line for standard error.
 pub enum Reply {
     Output(usize),
     Error(usize),

@@ -4,7 +4,7 @@ use Prim.Native.Nat.{_≤_}
 use lib.ListN.{length}
 use lib.Seq.{length-take-le}
 use borrow.Author.Needs.{needs}
-use Rattle.zkasm.proofs.Calls.{output-fits, error-fits}
+use Rattle.zkasm.proofs.Transcripts.{output-fits, error-fits}
 use Rattle.zkasm.proofs.main.Statement.{statement}
 use Rattle.zkasm.proofs.main.Tie as tie
 

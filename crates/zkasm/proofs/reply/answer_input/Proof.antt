@@ -6,16 +6,16 @@ use lib.Seq.{length-take-le}
 use borrow.Author.Needs.{needs}
 use Rattle.spelling.specs.Bytes.{bytes}
 use Rattle.zkasm.specs.Stdin.{input-room, incomplete-line, writingOf}
-use Rattle.zkasm.specs.Contracts.{Reads}
+use Rattle.zkasm.specs.Contracts.{Received}
 use Rattle.zkasm.specs.declared.stdin.Input.the-variants.{Whole, TooLong, Incomplete}
 use Rattle.zkasm.specs.declared.stdin.Step.the-variants.{Done}
-use Rattle.zkasm.proofs.Calls.{whole-fits, whole-front, too-long-fills}
+use Rattle.zkasm.proofs.Transcripts.{whole-fits, whole-front, too-long-fills}
 use Rattle.zkasm.proofs.Printing.{prints-written}
 use Rattle.zkasm.proofs.reply.answer_input.Statement.{statement}
 use Rattle.zkasm.proofs.reply.answer_input.Tie as tie
 
 -- an input that was read whole
-whole : (c : tie.After-n) → Reads (c .before .before .before .before .before .blank .result) (c .before .before .before .read-input .last .0) (Done (Whole (c .n .given .0 .0)))
+whole : (c : tie.After-n) → Received (c .before .before .before .before .before .blank .result) (c .before .before .before .read-input .last .0) (Done (Whole (c .n .given .0 .0)))
 whole c = rw (c .n .given .1) at (c .before .before .before .read-input .ensures)
 
 fits : (c : tie.After-n) → c .n .given .0 .0 ≤ length (c .before .before .before .read-input .last .0)

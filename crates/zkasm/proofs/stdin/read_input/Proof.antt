@@ -8,14 +8,14 @@ use lib.ListN.{length}
 use borrow.Author.Needs.{needs}
 use Rattle.image.specs.Lent.{over}
 use Rattle.zkasm.specs.Stdin.{input-room, countOf, stepOf, start}
-use Rattle.zkasm.specs.Contracts.{Reads}
+use Rattle.zkasm.specs.Contracts.{Received}
 use Rattle.zkasm.specs.declared.stdin.Step.the-variants.{Again, Done}
-use Rattle.zkasm.proofs.Calls.{filled-small, still-room, next-fits, next-less, reads-next}
+use Rattle.zkasm.proofs.Transcripts.{filled-small, still-room, next-fits, next-less, reads-next}
 use Rattle.zkasm.proofs.stdin.read_input.Statement.{statement}
 use Rattle.zkasm.proofs.stdin.read_input.Tie as tie
 
 abbrev Inv-loop : tie.InvT-loop
-Inv-loop input₀ piece₀ filled₀ tries₀ input piece filled tries = (input-room ≡ length piece) × Reads input₀ input (Again filled tries)
+Inv-loop input₀ piece₀ filled₀ tries₀ input piece filled tries = (input-room ≡ length piece) × Received input₀ input (Again filled tries)
 
 abbrev μ-loop : tie.MeasureT-loop
 μ-loop input₀ piece₀ filled₀ tries₀ input piece filled tries = input-room - filled + tries
@@ -43,7 +43,7 @@ piece-room c = c .before .before .before .loop .inv .0 ∙ sym (c .read-piece .k
 
 -- what calls come to by one more
 turned : (c : tie.After-step-after Inv-loop μ-loop) → let p = c .before .before .before .before in
-    Reads (p .before .before .before .before .before .before .args .input .now) (p .read-piece .last .0) (c .step-after .result)
+    Received (p .before .before .before .before .before .before .args .input .now) (p .read-piece .last .0) (c .step-after .result)
 turned c =
     let p = c .before .before .before .before in
     let l = p .before .before .before in

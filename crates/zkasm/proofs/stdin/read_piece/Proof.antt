@@ -10,11 +10,11 @@ use denote.Enum.Declared.{tagOf}
 use types.Run.{OneOf, miss}
 use Rattle.coding.proofs.Writing.{put-none}
 use Rattle.zkasm.specs.Stdin.{countOf}
-use Rattle.zkasm.specs.Contracts.{Answers}
-use Rattle.zkasm.specs.declared.stdin.Answer.{Answer}
-use Rattle.zkasm.specs.declared.stdin.Answer.the-variants.{Piece, End, Interrupted, Failed}
-use Rattle.zkasm.proofs.stdin.Answer as answer-type
-use Rattle.zkasm.proofs.Calls.{answers-fit}
+use Rattle.zkasm.specs.Contracts.{Delivers}
+use Rattle.zkasm.specs.declared.stdin.Delivery.{Delivery}
+use Rattle.zkasm.specs.declared.stdin.Delivery.the-variants.{Piece, End, Interrupted, Failed}
+use Rattle.zkasm.proofs.stdin.Delivery as delivery-type
+use Rattle.zkasm.proofs.Transcripts.{delivers-fit}
 use Rattle.zkasm.proofs.stdin.read_piece.Statement.{statement}
 use Rattle.zkasm.proofs.stdin.read_piece.Tie as tie
 
@@ -22,32 +22,32 @@ use Rattle.zkasm.proofs.stdin.read_piece.Tie as tie
 left : (s : tie.Start) → let n = length (s .args .input .now) - s .args .filled in length (take n (s .args .piece .now)) ≡ n
 left s = length-take-le _ _ (omega (arith, s .pre .1))
 
-answered : (c : tie.After-read-some) → let s = c .before .before .before .before in Answers (length (s .args .input .now) - s .args .filled) (c .read-some .result)
-answered c = rw (left (c .before .before .before .before)) at (c .read-some .ensures)
+delivered : (c : tie.After-read-some) → let s = c .before .before .before .before in Delivers (length (s .args .input .now) - s .args .filled) (c .read-some .result)
+delivered c = rw (left (c .before .before .before .before)) at (c .read-some .ensures)
 
 -- a piece is no longer than that
-few : (c : tie.After-answer) → let s = c .before .before .before .before .before .before .before .before in
-    c .answer .given .0 .0 ≤ length (s .args .input .now) - s .args .filled
+few : (c : tie.After-delivery) → let s = c .before .before .before .before .before .before .before .before in
+    c .delivery .given .0 .0 ≤ length (s .args .input .now) - s .args .filled
 unfolding countOf
-few c = omega (arith, answers-fit (answered (c .before .before .before .before)), ap countOf (c .answer .given .1))
+few c = omega (arith, delivers-fit (delivered (c .before .before .before .before)), ap countOf (c .delivery .given .1))
 
 -- nor than the buffer that it was read into
-within : (c : tie.After-answer) → let r = c .before .before .before .before in
+within : (c : tie.After-delivery) → let r = c .before .before .before .before in
     let s = r .before .before .before .before in
-    c .answer .given .0 .0 ≤ length (r .read-some .last .0 ++ drop (length (s .args .input .now) - s .args .filled) (s .args .piece .now))
+    c .delivery .given .0 .0 ≤ length (r .read-some .last .0 ++ drop (length (s .args .input .now) - s .args .filled) (s .args .piece .now))
 within c =
     let r = c .before .before .before .before in
     let s = r .before .before .before .before in
     let after = drop (length (s .args .input .now) - s .args .filled) (s .args .piece .now) in
     omega (arith, few c, left s, r .read-some .kept .0, length-append (r .read-some .last .0) after)
 
-sized : (c : tie.After-answer) → let r = c .before .before .before .before in
+sized : (c : tie.After-delivery) → let r = c .before .before .before .before in
     let s = r .before .before .before .before in
-    length (take (c .answer .given .0 .0) (r .read-some .last .0 ++ drop (length (s .args .input .now) - s .args .filled) (s .args .piece .now))) ≡ c .answer .given .0 .0
+    length (take (c .delivery .given .0 .0) (r .read-some .last .0 ++ drop (length (s .args .input .now) - s .args .filled) (s .args .piece .now))) ≡ c .delivery .given .0 .0
 sized c = length-take-le _ _ (within c)
 
--- nothing comes by another answer
-none-came : (a : Answer) → OneOf (1 ∷ 2 ∷ 3 ∷ []) (tagOf answer-type.the-type a) → countOf a ≡ 0
+-- nothing comes by another delivery
+none-came : (a : Delivery) → OneOf (1 ∷ 2 ∷ 3 ∷ []) (tagOf delivery-type.the-type a) → countOf a ≡ 0
 unfolding countOf
 none-came (Piece n) h = absurd (miss (1 ∷ 2 ∷ 3 ∷ []) 0 tt h)
 none-came End h = refl
@@ -66,8 +66,8 @@ slice-aggregate-read-some c = sym (left (c .before .before .before))
 read-some-requires : tie.Need-read-some-requires
 read-some-requires c κs = omega (arith, left (c .before .before .before), c .before .before .before .pre .0)
 
-enum-known-answer : tie.Need-enum-known-answer
-enum-known-answer c = search needs
+enum-known-delivery : tie.Need-enum-known-delivery
+enum-known-delivery c = search needs
 
 slice-reshare-prefix-write-bytes : tie.Need-slice-reshare-prefix-write-bytes
 slice-reshare-prefix-write-bytes c = within (c .before .before)
@@ -91,7 +91,7 @@ unfolding countOf
 returns c =
     let w = c .before .before in
     let a = w .before .before .before .before in
-    record { answered = rw (a .answer .given .1) at (answered (a .before .before .before .before)); holds = w .write-bytes .ensures .holds }
+    record { delivers = rw (a .delivery .given .1) at (delivered (a .before .before .before .before)); holds = w .write-bytes .ensures .holds }
 
 same-length-3 : tie.Need-same-length-3
 same-length-3 c = search needs
@@ -99,7 +99,7 @@ same-length-3 c = search needs
 returns-2 : tie.Need-returns-2
 returns-2 c =
     let r = c .before .before .before in
-    record { answered = answered r; holds = rw (none-came (r .read-some .result) (c .match .keys2)) (sym (put-none _ _)) }
+    record { delivers = delivered r; holds = rw (none-came (r .read-some .result) (c .match .keys2)) (sym (put-none _ _)) }
 
 pub read-piece-spec : {M : Type 1} → statement M
 read-piece-spec =
@@ -109,7 +109,7 @@ read-piece-spec =
     slice-relend-prefix-read-some
     slice-aggregate-read-some
     read-some-requires
-    enum-known-answer
+    enum-known-delivery
     slice-reshare-prefix-write-bytes
     slice-aggregate-write-bytes
     write-bytes-requires

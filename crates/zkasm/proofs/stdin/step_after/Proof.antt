@@ -5,7 +5,7 @@ use native.Mathlib.Omega.{arith}
 use borrow.Author.Needs.{needs}
 use borrow.Author.Tests.{lt-ltb, le-ltb}
 use Rattle.zkasm.specs.Stdin.{input-room, countOf, stepOf}
-use Rattle.zkasm.specs.declared.stdin.Answer.the-variants.{Piece, Interrupted}
+use Rattle.zkasm.specs.declared.stdin.Delivery.the-variants.{Piece, Interrupted}
 use Rattle.zkasm.specs.declared.stdin.Input.the-variants.{TooLong, Incomplete}
 use Rattle.zkasm.specs.declared.stdin.Step.the-variants.{Again, Done}
 use Rattle.zkasm.proofs.stdin.step_after.Statement.{statement}
@@ -30,20 +30,20 @@ unfolding stepOf
 gives-up filled zero h = refl
 gives-up filled (suc tries) h = absurd (omega arith)
 
-enum-known-answer : tie.Need-enum-known-answer
-enum-known-answer c = search needs
+enum-known-delivery : tie.Need-enum-known-delivery
+enum-known-delivery c = search needs
 
 add-filled : tie.Need-add-filled
 unfolding countOf
 add-filled c =
     let s = c .before .before .before in
-    let h = rw (c .before .answer .given .1) at (s .pre) in
+    let h = rw (c .before .delivery .given .1) at (s .pre) in
     record { fits = omega arith }
 
 returns : tie.Need-returns
 returns c =
     let s = c .before .before .before .before in
-    let a = c .before .before .answer .given in
+    let a = c .before .before .delivery .given in
     rw (a .1) (goes-on (s .args .filled) (s .args .tries) (a .0 .0) (c .if1 .taken))
 
 enum-told : tie.Need-enum-told
@@ -61,7 +61,7 @@ enum-told-3 c = search needs
 returns-2 : tie.Need-returns-2
 returns-2 c =
     let s = c .before .before .before .before in
-    let a = c .before .before .answer .given in
+    let a = c .before .before .delivery .given in
     rw (a .1) (too-long (s .args .filled) (s .args .tries) (a .0 .0) (c .if1 .left))
 
 returns-3 : tie.Need-returns-3
@@ -86,7 +86,7 @@ pub step-after-spec : {M : Type 1} → statement M
 step-after-spec =
     tie.close
     (tie.spec
-    enum-known-answer
+    enum-known-delivery
     add-filled
     returns
     enum-told

@@ -1,4 +1,4 @@
--- Laws of calls of `read` that follow each other: how many bytes came, what the last call answered, and where the bytes stand.
+-- Laws of calls of `read`: how many bytes came, what the last call delivered, where the bytes stand, and what is printed.
 use mathlib.Core.Path.{_≡_, refl, sym, ap, _∙_, subst}
 use Prim.Native.Nat.{ℕ, zero, suc, _+_, _-_, _≤_, _<_}
 use native.Mathlib.Omega.{arith}
@@ -17,10 +17,10 @@ use Rattle.coding.proofs.Writing.{put-append}
 use Rattle.image.specs.Lent.{over}
 use Rattle.image.specs.Zkasm.{programOutput}
 use Rattle.image.proofs.Over.{length-over, take-over}
-use Rattle.zkasm.specs.Stdin.{input-room, most-tries, interruption, failureOf, answerOf, countOf, stepOf, Calls, start, next, Writing, printed, told, writingOf}
-use Rattle.zkasm.specs.Contracts.{Answers, ReadsPiece, Reads, Writes, Replies}
-use Rattle.zkasm.specs.declared.stdin.Answer.{Answer}
-use Rattle.zkasm.specs.declared.stdin.Answer.the-variants.{Piece, End, Interrupted, Failed}
+use Rattle.zkasm.specs.Stdin.{input-room, most-tries, interruption, failureOf, deliveryOf, countOf, stepOf, Transcript, start, next, Writing, printed, told, writingOf}
+use Rattle.zkasm.specs.Contracts.{Delivers, ReadsPiece, Received, Writes, Replies}
+use Rattle.zkasm.specs.declared.stdin.Delivery.{Delivery}
+use Rattle.zkasm.specs.declared.stdin.Delivery.the-variants.{Piece, End, Interrupted, Failed}
 use Rattle.zkasm.specs.declared.stdin.Input.{Input}
 use Rattle.zkasm.specs.declared.stdin.Input.the-variants.{Whole, TooLong, Incomplete}
 use Rattle.zkasm.specs.declared.stdin.Step.{Step}
@@ -28,7 +28,7 @@ use Rattle.zkasm.specs.declared.stdin.Step.the-variants.{Again, Done}
 use Rattle.zkasm.specs.declared.reply.Reply.the-variants.{Output, Error}
 use Rattle.zkasm.proofs.Printing.{output-long}
 
--- ---- an answer
+-- ---- one read
 
 failure-none : (error : ℤ) → countOf (failureOf error) ≡ 0
 unfolding failureOf countOf
@@ -40,14 +40,14 @@ failure-none (pos n) = go (eqb n interruption)
 failure-none (negsuc n) = refl
 
 -- No more bytes come than were asked for.
-answered-fits : (room : ℕ) (got error : ℤ) → Moved room got → countOf (answerOf got error) ≤ room
-unfolding answerOf countOf
-answered-fits room (pos zero) error h = omega arith
-answered-fits room (pos (suc n)) error h = h
-answered-fits room (negsuc n) error h = omega (arith, failure-none error)
+delivered-fits : (room : ℕ) (got error : ℤ) → Moved room got → countOf (deliveryOf got error) ≤ room
+unfolding deliveryOf countOf
+delivered-fits room (pos zero) error h = omega arith
+delivered-fits room (pos (suc n)) error h = h
+delivered-fits room (negsuc n) error h = omega (arith, failure-none error)
 
 -- A piece is never empty.
-abbrev Advances : Answer → Type 0
+abbrev Advances : Delivery → Type 0
 Advances (Piece n) = 0 < n
 Advances End = Unit {0}
 Advances Interrupted = Unit {0}
@@ -62,18 +62,18 @@ failure-advances (pos n) = go (eqb n interruption)
     go false = tt
 failure-advances (negsuc n) = tt
 
-answered-advances : (got error : ℤ) → Advances (answerOf got error)
-unfolding answerOf
-answered-advances (pos zero) error = tt
-answered-advances (pos (suc n)) error = omega arith
-answered-advances (negsuc n) error = failure-advances error
+delivered-advances : (got error : ℤ) → Advances (deliveryOf got error)
+unfolding deliveryOf
+delivered-advances (pos zero) error = tt
+delivered-advances (pos (suc n)) error = omega arith
+delivered-advances (negsuc n) error = failure-advances error
 
-module _ {room : ℕ} {r : Answer} (a : Answers room r) where
-  pub answers-fit : countOf r ≤ room
-  answers-fit = rw (a .answer) (answered-fits room (a .got) (a .error) (a .moved))
+module _ {room : ℕ} {r : Delivery} (a : Delivers room r) where
+  pub delivers-fit : countOf r ≤ room
+  delivers-fit = rw (a .delivery) (delivered-fits room (a .got) (a .error) (a .moved))
 
-  answers-advance : Advances r
-  answers-advance = rw (a .answer) (answered-advances (a .got) (a .error))
+  delivers-advance : Advances r
+  delivers-advance = rw (a .delivery) (delivered-advances (a .got) (a .error))
 
 -- ---- how many bytes came
 
@@ -84,7 +84,7 @@ Counted (Done (Whole n)) came = (n ≡ length came) × (n < input-room)
 Counted (Done TooLong) came = length came ≡ input-room
 Counted (Done Incomplete) came = length came ≤ input-room
 
-step-counted : (filled tries : ℕ) (came piece : List ℕ) (a : Answer) → filled ≡ length came → filled < input-room → length piece ≡ countOf a → filled + length piece ≤ input-room
+step-counted : (filled tries : ℕ) (came piece : List ℕ) (a : Delivery) → filled ≡ length came → filled < input-room → length piece ≡ countOf a → filled + length piece ≤ input-room
     → Counted (stepOf filled tries a) (came ++ piece)
 unfolding stepOf countOf
 step-counted filled tries came piece (Piece n) e small count fits = go (ltb (filled + n) input-room) refl
@@ -97,24 +97,24 @@ step-counted filled zero came piece Interrupted e small count fits = omega (arit
 step-counted filled (suc tries) came piece Interrupted e small count fits = (omega (arith, length-append came piece), small)
 step-counted filled tries came piece Failed e small count fits = omega (arith, length-append came piece)
 
-counted : {step : Step} {came : List ℕ} → Calls step came → Counted step came
+counted : {step : Step} {came : List ℕ} → Transcript step came → Counted step came
 counted start = (refl, omega arith)
-counted (next {filled} {tries} {came} answer piece calls count fits e) =
+counted (next {filled} {tries} {came} delivery piece calls count fits e) =
     let c = counted calls in
-    rw e (step-counted filled tries came piece answer (c .0) (c .1) count fits)
+    rw e (step-counted filled tries came piece delivery (c .0) (c .1) count fits)
 
--- ---- the last answer
+-- ---- the last call
 
-pub lastOf : {step : Step} {came : List ℕ} → Calls step came → Option Answer
+pub lastOf : {step : Step} {came : List ℕ} → Transcript step came → Option Delivery
 lastOf start = none
-lastOf (next answer piece calls count fits e) = some answer
+lastOf (next delivery piece calls count fits e) = some delivery
 
--- An input is whole only if the last read answered that it had ended.
-pub whole-ended : {n : ℕ} {came : List ℕ} (calls : Calls (Done (Whole n)) came) → lastOf calls ≡ some End
+-- An input is whole only if the last call answered that it had ended.
+pub whole-ended : {n : ℕ} {came : List ℕ} (calls : Transcript (Done (Whole n)) came) → lastOf calls ≡ some End
 unfolding lastOf stepOf
-whole-ended {n} (next {filled} {tries} answer piece calls count fits e) = ap some (only answer filled tries e)
+whole-ended {n} (next {filled} {tries} delivery piece calls count fits e) = ap some (only delivery filled tries e)
   where
-    only : (a : Answer) (filled tries : ℕ) → Done (Whole n) ≡ stepOf filled tries a → a ≡ End
+    only : (a : Delivery) (filled tries : ℕ) → Done (Whole n) ≡ stepOf filled tries a → a ≡ End
     only (Piece k) filled tries e = go (ltb (filled + k) input-room) e
       where
         go : (v : Bool) → Done (Whole n) ≡ elim v [ true ↦ Again (filled + k) tries | false ↦ Done TooLong ] → Piece k ≡ End
@@ -128,7 +128,7 @@ whole-ended {n} (next {filled} {tries} answer piece calls count fits e) = ap som
 -- ---- another call
 
 -- After it there is less room, or there are fewer tries.
-step-less : (filled tries more left : ℕ) (a : Answer) → Advances a → filled + countOf a ≤ input-room → Again more left ≡ stepOf filled tries a
+step-less : (filled tries more left : ℕ) (a : Delivery) → Advances a → filled + countOf a ≤ input-room → Again more left ≡ stepOf filled tries a
     → input-room - more + left < input-room - filled + tries
 unfolding countOf stepOf
 step-less filled tries more left (Piece n) h fits e = go (ltb (filled + n) input-room) e
@@ -148,45 +148,45 @@ put-over came piece old =
     let e : (n : ℕ) → 0 + n ≡ n = λ n. omega arith in
     rw (← e (length came), ← e (length (came ++ piece))) (put-append old 0 came piece (omega arith))
 
-module _ {old new : List ℕ} {filled tries : ℕ} (r : Reads old new (Again filled tries)) (room : length old ≡ input-room) where
+module _ {old new : List ℕ} {filled tries : ℕ} (r : Received old new (Again filled tries)) (room : length old ≡ input-room) where
   pub filled-small : filled < input-room
   filled-small = counted (r .calls) .1
 
   pub still-room : length new ≡ input-room
   still-room = ap length (r .holds) ∙ length-over (r .came) old (omega (arith, counted (r .calls) .0, counted (r .calls) .1)) ∙ room
 
-  module _ {piece new′ : List ℕ} {answer : Answer} (p : ReadsPiece filled new piece new′ answer) where
-    pub next-fits : filled + countOf answer ≤ input-room
+  module _ {piece new′ : List ℕ} {delivery : Delivery} (p : ReadsPiece filled new piece new′ delivery) where
+    pub next-fits : filled + countOf delivery ≤ input-room
     next-fits =
-        omega (arith, answers-fit (p .answered), filled-small, still-room)
+        omega (arith, delivers-fit (p .delivers), filled-small, still-room)
 
-    pub next-less : (more left : ℕ) → Again more left ≡ stepOf filled tries answer → input-room - more + left < input-room - filled + tries
+    pub next-less : (more left : ℕ) → Again more left ≡ stepOf filled tries delivery → input-room - more + left < input-room - filled + tries
     next-less more left e =
-        step-less filled tries more left answer (answers-advance (p .answered)) next-fits e
+        step-less filled tries more left delivery (delivers-advance (p .delivers)) next-fits e
 
-    pub reads-next : length piece ≡ input-room → Reads old new′ (stepOf filled tries answer)
+    pub reads-next : length piece ≡ input-room → Received old new′ (stepOf filled tries delivery)
     reads-next size =
-        let count : length (take (countOf answer) piece) ≡ countOf answer = length-take-le (countOf answer) piece (omega (arith, next-fits)) in
+        let count : length (take (countOf delivery) piece) ≡ countOf delivery = length-take-le (countOf delivery) piece (omega (arith, next-fits)) in
         record {
-          came = r .came ++ take (countOf answer) piece;
-          calls = next answer (take (countOf answer) piece) (r .calls) count (omega (arith, next-fits)) refl;
-          holds = p .holds ∙ rw (r .holds, counted (r .calls) .0) (put-over (r .came) (take (countOf answer) piece) old);
+          came = r .came ++ take (countOf delivery) piece;
+          calls = next delivery (take (countOf delivery) piece) (r .calls) count (omega (arith, next-fits)) refl;
+          holds = p .holds ∙ rw (r .holds, counted (r .calls) .0) (put-over (r .came) (take (countOf delivery) piece) old);
         }
 
 -- ---- what was read
 
 module _ {old new : List ℕ} (room : length old ≡ input-room) where
   -- A whole input is the front of the buffer.
-  pub whole-fits : {n : ℕ} → Reads old new (Done (Whole n)) → n ≤ length new
+  pub whole-fits : {n : ℕ} → Received old new (Done (Whole n)) → n ≤ length new
   whole-fits r =
       let c = counted (r .calls) in
       omega (arith, c .1, ap length (r .holds), length-over (r .came) old (omega (arith, c .0, c .1)))
 
-  pub whole-front : {n : ℕ} (r : Reads old new (Done (Whole n))) → take n new ≡ r .came
+  pub whole-front : {n : ℕ} (r : Received old new (Done (Whole n))) → take n new ≡ r .came
   whole-front r = rw (r .holds, counted (r .calls) .0) (take-over (r .came) old)
 
   -- One that is too long fills it.
-  pub too-long-fills : (r : Reads old new (Done TooLong)) → new ≡ r .came
+  pub too-long-fills : (r : Received old new (Done TooLong)) → new ≡ r .came
   unfolding over
   too-long-fills r =
       let e : length old ≤ length (r .came) = omega (arith, counted (r .calls)) in
@@ -214,7 +214,7 @@ module _ {old new : List ℕ} {n : ℕ} where
   unfolding writingOf
   output-ended r = go (r .read) (r .calls) (r .writes)
     where
-      go : (i : Input) {came : List ℕ} (calls : Calls (Done i) came) → Writes (writingOf i came) old new (Output n)
+      go : (i : Input) {came : List ℕ} (calls : Transcript (Done i) came) → Writes (writingOf i came) old new (Output n)
           → (lastOf calls ≡ some End) ⊎ (length came ≡ input-room)
       go (Whole k) calls w = inl (whole-ended calls)
       go TooLong calls w = inr (counted calls)

@@ -1,4 +1,4 @@
--- `zkasm::stdin::answer_of` meets its contract. The tests are of what the machine reads back from the bits of `got`, and of the bits of `error`.
+-- `zkasm::stdin::delivery_of` meets its contract. The tests are of what the machine reads back from the bits of `got`, and of the bits of `error`.
 use mathlib.Core.Path.{_≡_, refl, sym, subst, _∙_}
 use Prim.Native.Nat.{ℕ, zero, suc}
 use native.Mathlib.Omega.{arith}
@@ -10,29 +10,29 @@ use mir.Syntax.{w32, w64}
 use mir.Val.{Fits, SFits, ofZ}
 use mir.ValLaws.{toZ-ofZ}
 use borrow.Author.Tests.{eq-eqb, ne-eqb, ltb-true, ltb-false}
-use Rattle.zkasm.specs.Stdin.{interruption, failureOf, answerOf}
-use Rattle.zkasm.specs.declared.stdin.Answer.the-variants.{Piece, End, Interrupted, Failed}
-use Rattle.zkasm.proofs.stdin.answer_of.Statement.{statement}
-use Rattle.zkasm.proofs.stdin.answer_of.Tie as tie
+use Rattle.zkasm.specs.Stdin.{interruption, failureOf, deliveryOf}
+use Rattle.zkasm.specs.declared.stdin.Delivery.the-variants.{Piece, End, Interrupted, Failed}
+use Rattle.zkasm.proofs.stdin.delivery_of.Statement.{statement}
+use Rattle.zkasm.proofs.stdin.delivery_of.Tie as tie
 
 positive : (got : ℤ) → ltZ (pos 0) got ≡ true → T (nonNeg got)
 positive (pos n) h = tt
 positive (negsuc n) h = subst T (sym h) tt
 
-piece : (got error : ℤ) → ltZ (pos 0) got ≡ true → Piece (natAbs got) ≡ answerOf got error
-unfolding answerOf
+piece : (got error : ℤ) → ltZ (pos 0) got ≡ true → Piece (natAbs got) ≡ deliveryOf got error
+unfolding deliveryOf
 piece (pos zero) error h = absurd (omega (arith, ltb-true 0 0 h))
 piece (pos (suc n)) error h = refl
 piece (negsuc n) error h = absurd (subst T (sym h) tt)
 
-end : (got error : ℤ) → SFits w64 got → ofZ w64 got ≡ 0 → End ≡ answerOf got error
-unfolding answerOf
+end : (got error : ℤ) → SFits w64 got → ofZ w64 got ≡ 0 → End ≡ deliveryOf got error
+unfolding deliveryOf
 end (pos zero) error f h = refl
 end (pos (suc n)) error f h = absurd (omega arith)
 end (negsuc n) error f h = absurd (omega arith)
 
-negative : (got error : ℤ) → ltZ (pos 0) got ≡ false → (ofZ w64 got ≡ 0 → ⊥) → failureOf error ≡ answerOf got error
-unfolding answerOf
+negative : (got error : ℤ) → ltZ (pos 0) got ≡ false → (ofZ w64 got ≡ 0 → ⊥) → failureOf error ≡ deliveryOf got error
+unfolding deliveryOf
 negative (pos zero) error h z = absurd (z refl)
 negative (pos (suc n)) error h z = absurd (omega (arith, ltb-false 0 (suc n) h))
 negative (negsuc n) error h z = refl
@@ -76,5 +76,5 @@ returns-4 c =
     failed (s .args .error) (c .if3 .left)
     ∙ negative (s .args .got) (s .args .error) (rw (toZ-ofZ w64 (s .args .got) (s .fits .got)) at (c .before .before .if1 .left)) (c .before .if2 .left)
 
-pub answer-of-spec : {M : Type 1} → statement M
-answer-of-spec = tie.close (tie.spec cast-t5 returns returns-2 returns-3 returns-4)
+pub delivery-of-spec : {M : Type 1} → statement M
+delivery-of-spec = tie.close (tie.spec cast-t5 returns returns-2 returns-3 returns-4)
