@@ -1,10 +1,10 @@
 -- Laws of calls of `read`: how many bytes came, what the last call delivered, where the bytes stand, and what is printed.
-use mathlib.Core.Path.{_≡_, refl, sym, ap, _∙_, subst}
+use mathlib.Core.Path.{_≡_, refl, sym, ap, _∙_}
 use Prim.Native.Nat.{ℕ, zero, suc, _+_, _-_, _≤_, _<_}
 use native.Mathlib.Omega.{arith}
 use mathlib.Core.Bool.{Bool, true, false}
 use mathlib.Core.Option.{Option, none, some}
-use mathlib.Core.Logic.{_⊎_, inl, inr}
+use mathlib.Core.Logic.{_⊎_, inl, inr, ⊎-elim}
 use mathlib.Core.List.{List, [], _++_, append-nil}
 use lib.ListN.{length, take, length-append, drop-of-length-le}
 use lib.Seq.{length-take-le}
@@ -17,7 +17,7 @@ use Rattle.coding.proofs.Writing.{put-append}
 use Rattle.image.specs.Lent.{over}
 use Rattle.image.specs.Zkasm.{programOutput}
 use Rattle.image.proofs.Over.{length-over, take-over}
-use Rattle.zkasm.specs.Stdin.{input-room, most-tries, interruption, failureOf, deliveryOf, countOf, stepOf, Transcript, start, next, Writing, printed, told, writingOf}
+use Rattle.zkasm.specs.Stdin.{input-room, interruption, failureOf, deliveryOf, countOf, stepOf, Transcript, start, next, Writing, printed, told, writingOf}
 use Rattle.zkasm.specs.Contracts.{Delivers, ReadsPiece, Received, Writes, Replies}
 use Rattle.zkasm.specs.declared.stdin.Delivery.{Delivery}
 use Rattle.zkasm.specs.declared.stdin.Delivery.the-variants.{Piece, End, Interrupted, Failed}
@@ -77,15 +77,15 @@ module _ {room : ℕ} {r : Delivery} (a : Delivers room r) where
 
 -- ---- how many bytes came
 
--- By the step that calls come to.
+-- By the step that the calls lead to.
 abbrev Counted : Step → List ℕ → Type 0
 Counted (Again filled tries) came = (filled ≡ length came) × (filled < input-room)
 Counted (Done (Whole n)) came = (n ≡ length came) × (n < input-room)
 Counted (Done TooLong) came = length came ≡ input-room
 Counted (Done Incomplete) came = length came ≤ input-room
 
-step-counted : (filled tries : ℕ) (came piece : List ℕ) (a : Delivery) → filled ≡ length came → filled < input-room → length piece ≡ countOf a → filled + length piece ≤ input-room
-    → Counted (stepOf filled tries a) (came ++ piece)
+step-counted : (filled tries : ℕ) (came piece : List ℕ) (a : Delivery) → filled ≡ length came → filled < input-room → length piece ≡ countOf a
+    → filled + length piece ≤ input-room → Counted (stepOf filled tries a) (came ++ piece)
 unfolding stepOf countOf
 step-counted filled tries came piece (Piece n) e small count fits = go (ltb (filled + n) input-room) refl
   where
@@ -157,12 +157,10 @@ module _ {old new : List ℕ} {filled tries : ℕ} (r : Received old new (Again 
 
   module _ {piece new′ : List ℕ} {delivery : Delivery} (p : ReadsPiece filled new piece new′ delivery) where
     pub next-fits : filled + countOf delivery ≤ input-room
-    next-fits =
-        omega (arith, delivers-fit (p .delivers), filled-small, still-room)
+    next-fits = omega (arith, delivers-fit (p .delivers), filled-small, still-room)
 
     pub next-less : (more left : ℕ) → Again more left ≡ stepOf filled tries delivery → input-room - more + left < input-room - filled + tries
-    next-less more left e =
-        step-less filled tries more left delivery (delivers-advance (p .delivers)) next-fits e
+    next-less more left e = step-less filled tries more left delivery (delivers-advance (p .delivers)) next-fits e
 
     pub reads-next : length piece ≡ input-room → Received old new′ (stepOf filled tries delivery)
     reads-next size =
@@ -194,6 +192,10 @@ module _ {old new : List ℕ} (room : length old ≡ input-room) where
 
 -- ---- what is written
 
+-- Whatever follows an input that is too long, what is printed is the same. So it need not be read.
+rest-alike : (came rest : List ℕ) → length came ≡ input-room → programOutput (came ++ rest) ≡ programOutput came
+rest-alike came rest h = output-long (came ++ rest) (omega (arith, length-append came rest)) ∙ sym (output-long came (omega arith))
+
 module _ {old new : List ℕ} {n : ℕ} where
   pub output-fits : Replies old new (Output n) → n ≤ length new
   output-fits r = go (writingOf (r .read) (r .came)) (r .writes)
@@ -209,7 +211,7 @@ module _ {old new : List ℕ} {n : ℕ} where
       go (printed text) h = absurd h
       go (told line) h = h .fits
 
-  -- A text is printed only after a read that answered that the input had ended, or when the input is too long already.
+  -- A text is printed only after a call that answered that the input had ended, or if the input is too long by now.
   pub output-ended : (r : Replies old new (Output n)) → (lastOf (r .calls) ≡ some End) ⊎ (length (r .came) ≡ input-room)
   unfolding writingOf
   output-ended r = go (r .read) (r .calls) (r .writes)
@@ -230,6 +232,10 @@ module _ {old new : List ℕ} {n : ℕ} where
       go TooLong w = w .printed
       go Incomplete w = absurd w
 
--- Of an input that is too long the rest need not be read: what is printed is the same, whatever follows.
-pub rest-alike : (came rest : List ℕ) → length came ≡ input-room → programOutput (came ++ rest) ≡ programOutput came
-rest-alike came rest h = output-long (came ++ rest) (omega (arith, length-append came rest)) ∙ sym (output-long came (omega arith))
+  -- So it is what the program prints for the whole input, if the input is the bytes that came and a rest, and if there is no rest once
+  -- a call has answered that the input had ended. That the bytes are the input's, and the answer true, is all that is left to `read`.
+  pub prints-whole : (r : Replies old new (Output n)) (rest : List ℕ) → (lastOf (r .calls) ≡ some End → rest ≡ [])
+      → take n new ≡ programOutput (r .came ++ rest)
+  prints-whole r rest ended =
+      output-text r
+      ∙ ⊎-elim (λ e. rw (ended e, append-nil (r .came))) (λ h. sym (rest-alike (r .came) rest h)) (output-ended r)

@@ -1,11 +1,11 @@
 -- `zkasm::reply::answer_input` meets its contract.
-use mathlib.Core.Path.{_≡_, sym}
-use Prim.Native.Nat.{ℕ, _≤_}
+use mathlib.Core.Path.{sym}
+use Prim.Native.Nat.{_≤_}
 use lib.ListN.{length}
 use lib.Seq.{length-take-le}
 use borrow.Author.Needs.{needs}
 use Rattle.spelling.specs.Bytes.{bytes}
-use Rattle.zkasm.specs.Stdin.{input-room, incomplete-line, writingOf}
+use Rattle.zkasm.specs.Stdin.{incomplete-line, writingOf}
 use Rattle.zkasm.specs.Contracts.{Received}
 use Rattle.zkasm.specs.declared.stdin.Input.the-variants.{Whole, TooLong, Incomplete}
 use Rattle.zkasm.specs.declared.stdin.Step.the-variants.{Done}
@@ -15,7 +15,8 @@ use Rattle.zkasm.proofs.reply.answer_input.Statement.{statement}
 use Rattle.zkasm.proofs.reply.answer_input.Tie as tie
 
 -- an input that was read whole
-whole : (c : tie.After-n) → Received (c .before .before .before .before .before .blank .result) (c .before .before .before .read-input .last .0) (Done (Whole (c .n .given .0 .0)))
+whole : (c : tie.After-n) → let i = c .before .before .before in
+    Received (i .before .before .blank .result) (i .read-input .last .0) (Done (Whole (c .n .given .0 .0)))
 whole c = rw (c .n .given .1) at (c .before .before .before .read-input .ensures)
 
 fits : (c : tie.After-n) → c .n .given .0 .0 ≤ length (c .before .before .before .read-input .last .0)

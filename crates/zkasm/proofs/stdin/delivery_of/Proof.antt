@@ -1,13 +1,13 @@
 -- `zkasm::stdin::delivery_of` meets its contract. The tests are of what the machine reads back from the bits of `got`, and of the bits of `error`.
 use mathlib.Core.Path.{_≡_, refl, sym, subst, _∙_}
-use Prim.Native.Nat.{ℕ, zero, suc}
+use Prim.Native.Nat.{zero, suc}
 use native.Mathlib.Omega.{arith}
 use mathlib.Core.Bool.{true, false}
-use lib.Dec.{T, lit<}
+use lib.Dec.{T}
 use lib.IntN.{ℤ, pos, negsuc, natAbs}
 use lib.Signed.{ltZ, nonNeg, natAbs-le}
 use mir.Syntax.{w32, w64}
-use mir.Val.{Fits, SFits, ofZ}
+use mir.Val.{SFits, ofZ}
 use mir.ValLaws.{toZ-ofZ}
 use borrow.Author.Tests.{eq-eqb, ne-eqb, ltb-true, ltb-false}
 use Rattle.zkasm.specs.Stdin.{interruption, failureOf, deliveryOf}

@@ -1,15 +1,15 @@
 -- `zkasm::stdin::read_input` meets its contract. At each turn, the bytes that came so far stand at the front of the input. After it there is less room, or
 -- there are fewer tries.
-use mathlib.Core.Path.{_≡_, refl, sym, ap, _∙_}
-use Prim.Native.Nat.{ℕ, _+_, _-_}
+use mathlib.Core.Path.{_≡_, refl, sym, _∙_}
+use Prim.Native.Nat.{_+_, _-_}
 use native.Mathlib.Omega.{arith}
-use mathlib.Core.List.{List, []}
+use mathlib.Core.List.{[]}
 use lib.ListN.{length}
 use borrow.Author.Needs.{needs}
 use Rattle.image.specs.Lent.{over}
-use Rattle.zkasm.specs.Stdin.{input-room, countOf, stepOf, start}
+use Rattle.zkasm.specs.Stdin.{input-room, start}
 use Rattle.zkasm.specs.Contracts.{Received}
-use Rattle.zkasm.specs.declared.stdin.Step.the-variants.{Again, Done}
+use Rattle.zkasm.specs.declared.stdin.Step.the-variants.{Again}
 use Rattle.zkasm.proofs.Transcripts.{filled-small, still-room, next-fits, next-less, reads-next}
 use Rattle.zkasm.proofs.stdin.read_input.Statement.{statement}
 use Rattle.zkasm.proofs.stdin.read_input.Tie as tie
