@@ -13,7 +13,7 @@ const ROOM: usize = 16385;
 const TRIES: usize = 100;
 
 // What a call of `read` delivered: a number of bytes, or the news that no more follow.
-pub enum Delivery {
+enum Delivery {
     Piece(usize),
     End,
     Interrupted,
@@ -28,7 +28,7 @@ pub enum Input {
 }
 
 // What follows a delivery: another read, with the number of bytes so far and of tries left, or the outcome.
-pub enum Step {
+enum Step {
     Again { filled: usize, tries: usize },
     Done(Input),
 }
