@@ -1,2 +1,3 @@
 pub mod Rooms
 pub mod Printing
+pub mod Transcripts

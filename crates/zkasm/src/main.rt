@@ -1,11 +1,25 @@
-// Reads a source from standard input and prints the listing of its image, or `refused N line L`.
+// Reads a source from standard input and prints the listing of its image, or `refused N line L`. If the source cannot be read to
+// its end, or the text cannot be printed, one line on standard error says so.
+mod reply;
 mod report;
+mod stdin;
+
+use reply::Reply;
 
 fn main() {
-    // one byte more than a source may have, so that a longer one is seen
-    let mut input = [0u8; 16385];
-    let n = io::read_full(0, &mut input);
     let mut out = [0u8; 360536];
-    let length = report::report(&input[..n], &mut out);
-    io::write_all(1, &out[..length]);
+    match reply::answer_input(&mut out) {
+        Reply::Output(length) => print(&out[..length]),
+        Reply::Error(length) => tell(&out[..length]),
+    }
+}
+
+fn print(text: &[u8]) {
+    if !io::write_all(libc::STDOUT_FILENO, text) {
+        tell(b"zkasm: standard output could not be written\n");
+    }
+}
+
+fn tell(line: &[u8]) {
+    io::write_all(libc::STDERR_FILENO, line);
 }

@@ -1,51 +1,68 @@
 -- `zkasm::main` is safe and ends.
 use mathlib.Core.Path.{sym}
+use Prim.Native.Nat.{_≤_}
+use lib.ListN.{length}
 use lib.Seq.{length-take-le}
 use borrow.Author.Needs.{needs}
+use Rattle.zkasm.proofs.Transcripts.{output-fits, error-fits}
 use Rattle.zkasm.proofs.main.Statement.{statement}
 use Rattle.zkasm.proofs.main.Tie as tie
 
-slice-aggregate-read-full : tie.Need-slice-aggregate-read-full
-slice-aggregate-read-full c = search needs
+output : (c : tie.After-length) → c .length .given .0 .0 ≤ length (c .before .before .before .answer-input .last .0)
+output c = output-fits (rw (c .length .given .1) at (c .before .before .before .answer-input .ensures))
 
-read-full-requires : tie.Need-read-full-requires
-read-full-requires c κs = search needs
+error : (c : tie.After-length2) → c .length2 .given .0 .0 ≤ length (c .before .before .before .answer-input .last .0)
+error c = error-fits (rw (c .length2 .given .1) at (c .before .before .before .answer-input .ensures))
 
-array-share-prefix-input : tie.Need-array-share-prefix-input
-array-share-prefix-input c = search needs
+slice-aggregate-answer-input : tie.Need-slice-aggregate-answer-input
+slice-aggregate-answer-input c = search needs
 
-slice-aggregate-report : tie.Need-slice-aggregate-report
-slice-aggregate-report c = search needs
+answer-input-requires : tie.Need-answer-input-requires
+answer-input-requires c κs = search needs
 
-slice-aggregate-report-2 : tie.Need-slice-aggregate-report-2
-slice-aggregate-report-2 c = search needs
-
-report-requires : tie.Need-report-requires
-report-requires c κs = search needs
+enum-known-length : tie.Need-enum-known-length
+enum-known-length c = search needs
 
 array-share-prefix-out : tie.Need-array-share-prefix-out
-array-share-prefix-out c = search needs
+array-share-prefix-out c = output (c .before)
 
-slice-aggregate-write-all : tie.Need-slice-aggregate-write-all
-slice-aggregate-write-all c = sym (length-take-le _ _ (c .before .before .report .ensures .fits))
+slice-aggregate-print : tie.Need-slice-aggregate-print
+slice-aggregate-print c = sym (length-take-le _ _ (output (c .before .before)))
 
-write-all-requires : tie.Need-write-all-requires
-write-all-requires c κs = search needs
+print-requires : tie.Need-print-requires
+print-requires c κs = search needs
+
+enum-known-length-2 : tie.Need-enum-known-length-2
+enum-known-length-2 c = search needs
+
+array-share-prefix-out-2 : tie.Need-array-share-prefix-out-2
+array-share-prefix-out-2 c = error (c .before)
+
+slice-aggregate-tell : tie.Need-slice-aggregate-tell
+slice-aggregate-tell c = sym (length-take-le _ _ (error (c .before .before)))
+
+tell-requires : tie.Need-tell-requires
+tell-requires c κs = search needs
 
 returns : tie.Need-returns
 returns c = search needs
+
+returns-2 : tie.Need-returns-2
+returns-2 c = search needs
 
 pub main-spec : {M : Type 1} → statement M
 main-spec =
     tie.close
     (tie.spec
-    slice-aggregate-read-full
-    read-full-requires
-    array-share-prefix-input
-    slice-aggregate-report
-    slice-aggregate-report-2
-    report-requires
+    slice-aggregate-answer-input
+    answer-input-requires
+    enum-known-length
     array-share-prefix-out
-    slice-aggregate-write-all
-    write-all-requires
-    returns)
+    slice-aggregate-print
+    print-requires
+    enum-known-length-2
+    array-share-prefix-out-2
+    slice-aggregate-tell
+    tell-requires
+    returns
+    returns-2)
