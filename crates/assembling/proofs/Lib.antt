@@ -1,6 +1,5 @@
 pub mod Bare
 pub mod Called
-pub mod Finished
 pub mod Onward
 pub mod Rooted
 pub mod Shared

@@ -1,5 +1,5 @@
--- `short_walk` and `long_walk` meet their contract: one walk of their MIR, which differs in the number of roots and in the function that makes them. The roots lie in a local, which is lent to `walk`.
---     function         their MIR: the generated MIR of either computes to it, at its number.        Roots    the contract of what makes the roots.        Walk     that of `walk`
+-- `fresh_walk` meets its contract: a walk of its MIR, over the number of roots, so that nothing counts to it. The roots lie in a local, which is lent to `walk`.
+--     function         its MIR: the generated MIR computes to it, at its number.        Roots    the contract of what makes the roots.        Walk     that of `walk`
 --     starts           from the first statement on.        walk-rooted      the function meets the contract of `Onward.antt`
 use Prim.Native.Nat.{ℕ, _≤_}
 use native.Mathlib.Nat.{le-refl}
@@ -35,6 +35,8 @@ use denote.Triple.Spec.{Meets}
 use denote.Triple.Statement.{Contract, Triple}
 use denote.Triple.Clauses.{Clauses, Ended, closing}
 use denote.Steps.{heard}
+use Rattle.image.specs.Assembling.{most-bytes}
+use Rattle.labels.specs.Tree.{Bare}
 use Rattle.labels.specs.declared.label.Label.{Label}
 use Rattle.labels.proofs.label.Label as L
 use Rattle.labels.proofs.label.Label.Laws as L′
@@ -45,8 +47,7 @@ use Rattle.labels.proofs.Locals.{Locals, frees-all}
 use Rattle.passes.specs.Contracts.{Tables as Listed}
 use Rattle.passes.proofs.first_pass.Pass as P
 use Rattle.passes.proofs.first_pass.Pass.Laws as P′
-use Rattle.labels.specs.Tree.{Bare}
-use Rattle.assembling.specs.Contracts.{Walks}
+use Rattle.assembling.specs.Contracts.{Starts, Walks}
 use Rattle.assembling.proofs.Shared.{pval, cells, aval, tells, NumbersAre, stored, Constants, constantVals, Others, big}
 use Rattle.assembling.proofs.Onward.{source, entries, constant, first, first-says, All, Held, Left, Ends, s₁, s₂, exits, Walked, walk-all}
 
@@ -97,7 +98,7 @@ module _ (n : ℕ) (make on : Name) where
     abbrev walk-says : Clauses 𝓤 walk
     walk-says = λ κs a. record {
       ghost = Unit {0};
-      requires = λ _. sep 𝓤 (fact 𝓤 (Listed (now (a .1 .1 .1 .0)) (now (a .1 .1 .1 .1 .0)) (now (a .1 .1 .1 .1 .1 .0)))) (fact 𝓤 (Bare (now (a .1 .1 .0))));
+      requires = λ _. sep 𝓤 (fact 𝓤 (Listed (now (a .1 .1 .1 .0)) (now (a .1 .1 .1 .1 .0)) (now (a .1 .1 .1 .1 .1 .0)))) (fact 𝓤 (Starts (now (a .0)) (now (a .1 .1 .0))));
       ensures = λ _ r e. fact 𝓤 (Walks (now (a .0)) (now (a .1 .0)) (now (e .1 .0)) r);
     }
 
@@ -106,7 +107,7 @@ module _ (n : ℕ) (make on : Name) where
 
     module _ (W : Given 𝓤 H A) (room : Room u32 n) (𝓣 : Tables 𝓤 H) (makes : Triple 𝓤 (𝓣 .C make) Roots) (walking : Triple 𝓤 (𝓣 .C on) Walk)
         (κs : Lfts 5) (qs : Shares 5) (src : RefT (List ℕ)) (b o : ℕ) (γ : GName) (ys : List Label) (cs : Constants)
-        (g₁ : Room u8 (length (src .now))) (gn : Room L.the-row (length ys)) (listed : Listed (cs .0 .now) (cs .1 .0 .now) (cs .1 .1 .0 .now)) where
+        (g₁ : Room u8 (length (src .now))) (gn : Room L.the-row (length ys)) (listed : Listed (cs .0 .now) (cs .1 .0 .now) (cs .1 .1 .0 .now)) (short : length (src .now) ≤ most-bytes) where
       abbrev token₁ : Item 𝓤
       token₁ = ‵ (flft (κs .0) (qs .0))
 
@@ -147,7 +148,7 @@ module _ (n : ℕ) (make on : Name) where
 
         goes : ent 𝓤 (sep 𝓤 (mean 𝓤 H A tokens) (sep 𝓤 (sem 𝓤 H A held) (mean 𝓤 H A lent))) (Walk .pre to-walk)
         goes =
-            qed W (tokens ∷ ‵ held ∷ lent ∷ []) ∵ says-both ! listed (subst Bare (sym (take-all n rs (subst (λ (k : ℕ). k ≤ n) (sym (are .1 .0 .1)) (le-refl n)))) bare) $
+            qed W (tokens ∷ ‵ held ∷ lent ∷ []) ∵ says-both ! listed (record { short = short; bare = subst Bare (sym (take-all n rs (subst (λ (k : ℕ). k ≤ n) (sym (are .1 .0 .1)) (le-refl n)))) bare }) $
             use1 W (token₁ ⊛ (token₂ ⊛ rest)) (id⊢ 𝓤 _) $ split ! $ move ! (1 ∷ []) $ split ! $ move ! (4 ∷ []) $ split ! $
             -- [the roots; their token; the table's token; the other tokens; the source's; what is held]
             move ! (1 ∷ 3 ∷ []) $ join ! $ move ! (2 ∷ 0 ∷ []) $ join ! $ move ! (2 ∷ 0 ∷ []) $ join ! $ frame ! $
@@ -199,12 +200,12 @@ module _ (n : ℕ) (make on : Name) where
 
     module _ (W : Given 𝓤 H A) (𝓣 : Tables 𝓤 H) where
       walks : Room u32 n → Triple 𝓤 (𝓣 .C make) Roots → Triple 𝓤 (𝓣 .C on) Walk → Walked 𝓤 H A W 𝓣 function
-      walks room makes walking κs qs src b o γ ys cs g₁ gn listed =
+      walks room makes walking κs qs src b o γ ys cs g₁ gn listed short =
           enter ! (𝓣 .C) (𝓣 .Λ) function _ _ $
           alloc1 ! (λ l₀. alloc1 ! (λ l₁. alloc1 ! (λ l₂. alloc1 ! (λ l₃. alloc1 ! (λ l₄. alloc1 ! (λ l₅. alloc1 ! (λ l₆. alloc1 ! (λ l₇. alloc1 ! (λ l₈. alloc1 ! (λ l₉. alloc1 ! (λ l₁₀. alloc1 ! (λ l₁₁. alloc0 ! $ params1 ! $
           pass1 ! (init ! 20 refl (tt, (tt, (record { fits = g₁ .0 }, tt)))) $ pass1 ! (init ! 18 refl (tt, (tt, (record { fits = gn .0 }, tt)))) $
           pass1 ! (init ! 16 refl (tt, tt)) $ pass1 ! (init ! 14 refl (tt, tt)) $ pass1 ! (init ! 12 refl (tt, tt)) $ pass0 ! $
-          move ! (24 ∷ 25 ∷ []) $ starts W room 𝓣 makes walking κs qs src b o γ ys cs g₁ gn listed l₀ l₁ l₂ l₃ l₄ l₅ l₆ l₇ l₈ l₉ l₁₀ l₁₁))))))))))))
+          move ! (24 ∷ 25 ∷ []) $ starts W room 𝓣 makes walking κs qs src b o γ ys cs g₁ gn listed short l₀ l₁ l₂ l₃ l₄ l₅ l₆ l₇ l₈ l₉ l₁₀ l₁₁))))))))))))
 
       pub walk-rooted : Room u32 n → Triple 𝓤 (𝓣 .C make) Roots → Triple 𝓤 (𝓣 .C on) Walk → Meets 𝓤 H A (first .signature) (WpFn 𝓤 H (𝓣 .C) (𝓣 .Λ) function) (closing 𝓤 H A first (first-says 𝓤 H A))
       walk-rooted room makes walking = walk-all 𝓤 H A W 𝓣 function (walks room makes walking)

@@ -22,10 +22,10 @@ use Rattle.labels.specs.Tree.{unlinked, Bare, Tree, TableBehind, TreeBehind, En
 use Rattle.labels.proofs.Named.{spelled-long}
 use Rattle.labels.proofs.Finding.{unlinked-long}
 use Rattle.labels.specs.declared.label.Label.{Label}
-use Rattle.passes.specs.Contracts.{Stands, Begins, withEntry, labelAt, GoesOn, Ready, Finishes}
+use Rattle.passes.specs.Contracts.{Stands, Begins, withEntry, labelAt, GoesOn, Ready, overlong, Finishes}
 use Rattle.passes.specs.declared.first_pass.Pass.{Pass}
 use Rattle.passes.specs.declared.second_pass.Assembled.{Assembled}
-use Rattle.passes.proofs.Answers.{stands-ready, stands-answers}
+use Rattle.passes.proofs.Answers.{stands-ready, stands-answers, overlong-answers}
 use Rattle.image.specs.Contracts.{settingsMeant}
 use Rattle.image.proofs.Over.{take-over, length-over, over-more}
 use Rattle.assembling.specs.Contracts.{Standing, Walks, Assembles}
@@ -220,3 +220,11 @@ nearer {s} {old} {table} {roots} {p} {r} w found g = by-test (r .found) more don
 
     done : r .found ≡ false → left s r < left s p
     done f = rw (found, f) (omega (arith, fits))
+
+-- ---- a source that is too long
+
+pub overlong-assembles : (s : List ℕ) (table : List Label) (image : List ℕ) → most-bytes < length s → Assembles s table image table image overlong
+unfolding over
+overlong-assembles s table image h =
+    let a = overlong-answers s (length table) image h in
+    record { answer = a .answer; table-holds = ap (λ (ls : List Meant). over (map entryOf ls) table) (a .labels-are); image-holds = a .image-holds }

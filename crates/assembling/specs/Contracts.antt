@@ -5,14 +5,20 @@ use mathlib.Core.Bool.{true, false}
 use mathlib.Core.List.{List, map}
 use lib.ListN.{length}
 use Rattle.spelling.specs.Names.{present}
-use Rattle.image.specs.Assembling.{assembling}
+use Rattle.image.specs.Assembling.{most-bytes, assembling}
 use Rattle.image.specs.Assembling.{Label as Meant}
 use Rattle.image.specs.Lent.{over, answerOf, entered, imageAfter}
 use Rattle.labels.specs.Contracts.{entryOf, Spelled}
+use Rattle.labels.specs.Tree.{Bare}
 use Rattle.labels.specs.declared.label.Label.{Label}
 use Rattle.passes.specs.Contracts.{Stands, Sound, answerMeant}
 use Rattle.passes.specs.declared.first_pass.Pass.{Pass}
 use Rattle.passes.specs.declared.second_pass.Assembled.{Assembled}
+
+-- What the first walk starts from: a source that is not too long, and empty buckets.
+pub record Starts (s roots : List ℕ) : Type 0 where
+  pub short : length s ≤ most-bytes
+  pub bare : Bare roots
 
 -- Where the first walk stands, and the table as it is then: the labels entered so far, ahead of its untouched entries.
 pub record Standing (s : List ℕ) (old table : List Label) (p : Pass) : Type 0 where

@@ -257,6 +257,10 @@ answerMeant (IsAssembled words labels c) = assembled words labels (settingsMeant
 answerMeant (Refused n rust line labels) = refusalAnswer n rust line labels none
 answerMeant (TooShort labels needed) = refusalAnswer 23 0 0 labels (some needed)
 
+-- "1 source over 1,048,576 bytes": "1 and 23 give both as 0".
+abbrev pub overlong : Assembled
+overlong = Refused 1 0 0 0
+
 -- The answer for such a source, with an image buffer, and what the buffer holds afterwards.
 pub record Fills (s : List ℕ) (words labels : ℕ) (setup : Settings) (old new : List ℕ) (r : Assembled) : Type 0 where
   pub answer : answerMeant r ≡ elim (leb (imageLength words) (length old)) [ true ↦ assembled words labels setup | false ↦ refusalAnswer 23 0 0 labels (some (imageLength words)) ]

@@ -51,7 +51,7 @@ use Rattle.image.specs.declared.config.Checked.{Checked}
 use Rattle.image.proofs.config.Checked as R
 use Rattle.image.proofs.config.Checked.Laws as R′
 use Rattle.labels.specs.Contracts.{countBehind, Enters}
-use Rattle.labels.specs.Tree.{unlinked, Bare, TreeBehind}
+use Rattle.labels.specs.Tree.{unlinked, TreeBehind}
 use Rattle.labels.specs.declared.label.Label.{Label}
 use Rattle.labels.proofs.label.Label as L
 use Rattle.labels.proofs.label.Label.Laws as L′
@@ -80,7 +80,7 @@ use Rattle.passes.proofs.first_pass.go_on as go-on
 use Rattle.passes.proofs.first_pass.go_on.Symbol as go-on-def
 use Rattle.passes.proofs.first_pass.go_on.Symbol.{name as #go-on}
 use Rattle.passes.proofs.first_pass.go_on.Met as go-on-thm
-use Rattle.assembling.specs.Contracts.{Walks}
+use Rattle.assembling.specs.Contracts.{Starts, Walks}
 use Rattle.assembling.proofs.Shared.{pval, PassIs, label-is, count-is, Numbers, cells, Constants, constantVals, constants, Shared, shared-twice, Alive, Others}
 use Rattle.assembling.proofs.Walks.{Walking, walking-begin, walking-long, walking-fits, walking-enterable, walking-on, walking-ends, standing-long, left, nearer}
 use Rattle.assembling.proofs.assembler.walk.Key.{name as #walk}
@@ -114,7 +114,7 @@ module _ {M : Type 1} (𝓤 : URA M) (H : Heap 𝓤) (A : Atoms 𝓤) (at-mem : 
   Unlink = Known 𝓤 H A unlink.ended (unlink.clauses 𝓤 H A at-mem run)
 
   module _ (W : Given 𝓤 H A) (κs : Lfts 6) (qs : Shares 6) (src : RefT (List ℕ)) (b o : ℕ) (γ : GName) (ys : List Label) (b₂ o₂ : ℕ) (γ₂ : GName) (bs : List ℕ) (cs : Constants)
-      (g₁ : Room u8 (length (src .now))) (gn : Room L.the-row (length ys)) (gr : Room u32 (length bs)) (listed : Listed (cs .0 .now) (cs .1 .0 .now) (cs .1 .1 .0 .now)) (bare : Bare bs) where
+      (g₁ : Room u8 (length (src .now))) (gn : Room L.the-row (length ys)) (gr : Room u32 (length bs)) (listed : Listed (cs .0 .now) (cs .1 .0 .now) (cs .1 .1 .0 .now)) (fresh : Starts (src .now) bs) where
     abbrev xs : List ℕ
     xs = src .now
 
@@ -183,7 +183,7 @@ module _ {M : Type 1} (𝓤 : URA M) (H : Heap 𝓤) (A : Atoms 𝓤) (at-mem : 
     to-begin = (((κs .0, κs .1 .1 .1), (qs .0, qs .1 .1 .1), tt, (src, cs), (s₁ ∷ [], constantVals cs)), tt)
 
     goes-begin : ent 𝓤 (sep 𝓤 (mean 𝓤 H A Tokens) (sem 𝓤 H A Rest)) (Begin .pre to-begin)
-    goes-begin = qed W (Tokens ∷ ‵ Rest ∷ []) ∵ says ! listed $ done !
+    goes-begin = qed W (Tokens ∷ ‵ Rest ∷ []) ∵ says-both ! listed (fresh .short) $ done !
 
     abbrev to-go-on : Pass → Checked → GoOn .Ghost
     to-go-on p e = (((κs .0, κs .1 .1 .1), (qs .0, qs .1 .1 .1), tt, (src, (p, (e, cs))), (s₁ ∷ [], (pval p ∷ [], (eval e ∷ [], constantVals cs)))), tt)
@@ -359,7 +359,7 @@ module _ {M : Type 1} (𝓤 : URA M) (H : Heap 𝓤) (A : Atoms 𝓤) (at-mem : 
           (and-then ! (load ! (from ! (stop !)) (look ! 36 refl)) (and-then ! (load ! (from ! (stop !)) (look ! 30 refl)) (and-then ! (load ! (from ! (stop !)) (look ! 28 refl))
           (and-then ! (load ! (from ! (stop !)) (look ! 26 refl)) (no-more !))))) (λ p ws ip.
           heard ! (Begins xs p) (λ h. drop ! $ land ! (from ! (stop !)) (init ! 24 refl (LL.lawful P.the-type P′.the-laws 𝓤 H A W .typed p _ ip .0)) $
-          move ! (1 ∷ 0 ∷ []) $ first ! $ blocks ! $ loops ! 𝓣 Nearer Nearer-wf Inv turns (ys, (p, (bs, (refl, (walking-begin ys h bare, ip)))))))
+          move ! (1 ∷ 0 ∷ []) $ first ! $ blocks ! $ loops ! 𝓣 Nearer Nearer-wf Inv turns (ys, (p, (bs, (refl, (walking-begin ys h (fresh .bare), ip)))))))
 
     walk : (𝓣 : Tables 𝓤 H) → Triple 𝓤 (𝓣 .C #begin) Begin → Triple 𝓤 (𝓣 .C #enter) Enter → Triple 𝓤 (𝓣 .C #go-on) GoOn → Triple 𝓤 (𝓣 .C #unlink) Unlink
         → ent 𝓤 (onEntry 𝓤 H A walks.signature κs qs (given .0 .3) (given .0 .4)) (WpFn 𝓤 H (𝓣 .C) (𝓣 .Λ) code.function (s₁ ∷ s ys ∷ s₂ bs ∷ ptr (cs .0) ∷ ptr (cs .1 .0) ∷ ptr (cs .1 .1 .0) ∷ []) Post)
@@ -384,9 +384,9 @@ module _ {M : Type 1} (𝓤 : URA M) (H : Heap 𝓤) (A : Atoms 𝓤) (at-mem : 
       (walked 𝓤 H A walks.ended stayed (walks.clauses 𝓤 H A at-mem run) (WpFn 𝓤 H (𝓣 .C) (𝓣 .Λ) code.function)
       (λ κs. (slice-vals, (slice-vals, (slice-vals, (ptr-vals, (ptr-vals, (ptr-vals, tt)))))))
       (λ κs. (shr-slice-tells (named 0) (κs .0) u8, (mut-slice-tells (named 1) (κs .1 .0) L.the-row, (mut-slice-tells (named 2) (κs .1 .1 .0) u32, (shr-tells (named 3) (κs .1 .1 .1 .0) (Numbers w64 50), (shr-tells (named 4) (κs .1 .1 .1 .1 .0) (Numbers w8 50), (shr-tells (named 5) (κs .1 .1 .1 .1 .1 .0) (Numbers w8 293), tt)))))))
-      (λ κs qs bounds a g are. needs-both 𝓤 _ _ _ (λ listed bare.
+      (λ κs qs bounds a g are. needs-both 𝓤 _ _ _ (λ listed fresh.
       walk W κs qs (a .0) (a .1 .0 .ptr .0) (a .1 .0 .ptr .1) (a .1 .0 .name) (a .1 .0 .now) (a .1 .1 .0 .ptr .0) (a .1 .1 .0 .ptr .1) (a .1 .1 .0 .name) (a .1 .1 .0 .now) (a .1 .1 .1)
-      (are .0 .0 .1) (are .1 .0 .0 .1) (are .1 .1 .0 .0 .1) listed bare 𝓣 begins entering going stripping)))
+      (are .0 .0 .1) (are .1 .0 .0 .1) (are .1 .1 .0 .0 .1) listed fresh 𝓣 begins entering going stripping)))
 
 pub walk-spec : {M : Type 1} → stated.statement M
 unfolding code.routine tablesOf
