@@ -73,7 +73,7 @@ standing-begin old b =
     record { labels = []; stands = b .stands (length old); sound = b .sound; table-is = refl; fits = omega arith; spelled = tt }
 
 module _ {s : List ℕ} {old table : List Label} {p : Pass} (w : Standing s old table p) where
-  pub standing-long : length table ≡ length old
+  standing-long : length table ≡ length old
   standing-long = table-long s old table (w .labels) (w .table-is) (w .fits)
 
   module _ (found : p .found ≡ true) where
@@ -144,10 +144,10 @@ module _ {s : List ℕ} {old table : List Label} {p : Pass} (w : Standing s old 
 
   -- It ends.
   module _ (ended : p .found ≡ false) where
-    pub standing-ready : p .fault ≡ Good → Ready s (p .words) (settingsMeant (p .config))
+    standing-ready : p .fault ≡ Good → Ready s (p .words) (settingsMeant (p .config))
     standing-ready f = stands-ready (w .stands) ended f
 
-    pub standing-ends : {image image′ : List ℕ} {r : Assembled} → Finishes s p image image′ r → Assembles s old image table image′ r
+    standing-ends : {image image′ : List ℕ} {r : Assembled} → Finishes s p image image′ r → Assembles s old image table image′ r
     standing-ends f =
         let a = stands-answers (w .stands) ended f in
         record { answer = a .answer; table-holds = w .table-is ∙ ap (λ (ls : List Meant). over (map entryOf ls) old) (a .labels-are); image-holds = a .image-holds }
@@ -179,10 +179,6 @@ module _ {s : List ℕ} {old table : List Label} {roots : List ℕ} {p : Pass} (
   pub walking-long : length table ≡ length old
   walking-long = sym (unlinked-long (p .labels) table) ∙ standing-long (w .standing)
 
-  -- What `unlink` asks for.
-  pub walking-fits : p .labels ≤ length table
-  walking-fits = omega (arith, w .standing .stands .count, w .standing .fits, walking-long)
-
   -- What entering a label asks for.
   pub walking-enterable : p .found ≡ true → Enterable s (p .labels) (p .label)
   unfolding most-bytes
@@ -201,9 +197,25 @@ module _ {s : List ℕ} {old table : List Label} {roots : List ℕ} {p : Pass} (
             subst (Tree s table′ roots′) (sym (n ∙ ap (countBehind (p .labels)) good)) (subst (TableBehind s table table′ roots′ (p .labels)) good (t .1));
       }
 
-  -- It has ended, and the labels stand alone in the table.
-  pub walking-ends : {table′ : List Label} → p .found ≡ false → table′ ≡ unlinked (p .labels) table → Walks s old table′ p
-  walking-ends ended e = record { standing = rw e (w .standing); ended = ended }
+  -- It has ended.
+  pub walking-ends : p .found ≡ false → Walks s old table p
+  walking-ends ended = record { standing = w .standing; ended = ended }
+
+module _ {s : List ℕ} {old table : List Label} {p : Pass} (w : Walks s old table p) where
+  pub walks-long : length table ≡ length old
+  walks-long = sym (unlinked-long (p .labels) table) ∙ standing-long (w .standing)
+
+  -- What `unlink` asks for.
+  pub walks-fits : p .labels ≤ length table
+  walks-fits = omega (arith, w .standing .stands .count, w .standing .fits, walks-long)
+
+  -- What `finish` asks for.
+  pub walks-ready : p .fault ≡ Good → Ready s (p .words) (settingsMeant (p .config))
+  walks-ready = standing-ready (w .standing) (w .ended)
+
+  -- The second walk has ended too, and the entries are unlinked.
+  pub walks-end : {table′ : List Label} {image image′ : List ℕ} {r : Assembled} → table′ ≡ unlinked (p .labels) table → Finishes s p image image′ r → Assembles s old image table′ image′ r
+  walks-end {image = image} {image′ = image′} {r = r} e f = subst (λ (t : List Label). Assembles s old image t image′ r) (sym e) (standing-ends (w .standing) (w .ended) f)
 
 -- What is left, counted in lines.
 abbrev pub left : List ℕ → Pass → ℕ
