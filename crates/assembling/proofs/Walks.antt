@@ -18,7 +18,7 @@ use Rattle.image.specs.Contracts.{faultMeant}
 use Rattle.image.specs.declared.config.Checked.{Checked}
 use Rattle.image.specs.declared.config.Checked.the-variants.{Good, Refused}
 use Rattle.labels.specs.Contracts.{entryOf, InText, spelled, anyNamed, entryFault, countBehind, Enters, Spelled}
-use Rattle.labels.specs.Tree.{unlinked, Bare, Tree, TableBehind, TreeBehind, Enterable}
+use Rattle.labels.specs.Tree.{unlinked, Bare, Tree, TreeBehind, Enterable}
 use Rattle.labels.proofs.Named.{spelled-long}
 use Rattle.labels.proofs.Finding.{unlinked-long}
 use Rattle.labels.specs.declared.label.Label.{Label}
@@ -154,10 +154,10 @@ module _ {s : List ℕ} {old table : List Label} {p : Pass} (w : Standing s old 
 
 -- ---- the walk over a table whose labels are trees
 
--- Where it stands: the labels so far, and the trees while there is a label to enter.
+-- Where it stands: the labels so far, and their trees.
 pub record Walking (s : List ℕ) (old table : List Label) (roots : List ℕ) (p : Pass) : Type 0 where
   pub standing : Standing s old (unlinked (p .labels) table) p
-  pub tree : p .found ≡ true → Tree s table roots (p .labels)
+  pub tree : Tree s table roots (p .labels)
 
 pub walking-begin : {s : List ℕ} {p : Pass} {roots : List ℕ} (old : List Label) → Begins s p → Bare roots → Walking s old old roots p
 unfolding unlinked
@@ -165,13 +165,14 @@ walking-begin {s} {p} {roots} old b bare =
     let none : p .labels ≡ 0 = b .stands (length old) .count in
     record {
       standing = subst (λ (n : ℕ). Standing s old (unlinked n old) p) (sym none) (standing-begin old b);
-      tree = λ _. record {
+      tree = record {
         in-table = rw none (omega arith);
         in-text = λ i h. absurd (omega arith);
         onward = λ i h. absurd (omega arith);
         rootable = bare .rootable;
         rooted = λ slot j e. let y : 0 ≡ suc j = sym (bare .none-there slot) ∙ e in absurd (omega arith);
         found = λ i h. absurd (omega arith);
+        distinct = λ i j h. absurd (omega arith);
       };
     }
 
@@ -192,16 +193,18 @@ module _ {s : List ℕ} {old table : List Label} {roots : List ℕ} {p : Pass} (
       let n : r .labels ≡ countBehind (p .labels) e = count-on (w .standing) found x g in
       record {
         standing = subst (λ (k : ℕ). Standing s old (unlinked k table′) r) (sym n) (standing-on (w .standing) found x g);
-        tree = λ more.
-            let good : e ≡ Good = g .entered more in
-            subst (Tree s table′ roots′) (sym (n ∙ ap (countBehind (p .labels)) good)) (subst (TableBehind s table table′ roots′ (p .labels)) good (t .1));
+        tree = subst (Tree s table′ roots′) (sym n) (behind e t);
       }
+    where
+      behind : (k : Checked) → TreeBehind s table roots (p .labels) (p .label) table′ roots′ k → Tree s table′ roots′ (countBehind (p .labels) k)
+      behind Good t = t .1
+      behind (Refused m) t = subst (λ (r : List ℕ). Tree s table′ r (p .labels)) (sym (t .0)) (subst (λ (z : List Label). Tree s z roots (p .labels)) (sym (t .1)) (w .tree))
 
   -- It has ended.
-  pub walking-ends : p .found ≡ false → Walks s old table p
-  walking-ends ended = record { standing = w .standing; ended = ended }
+  pub walking-ends : p .found ≡ false → Walks s old table roots p
+  walking-ends ended = record { standing = w .standing; tree = w .tree; ended = ended }
 
-module _ {s : List ℕ} {old table : List Label} {p : Pass} (w : Walks s old table p) where
+module _ {s : List ℕ} {old table : List Label} {roots : List ℕ} {p : Pass} (w : Walks s old table roots p) where
   pub walks-long : length table ≡ length old
   walks-long = sym (unlinked-long (p .labels) table) ∙ standing-long (w .standing)
 

@@ -9,7 +9,7 @@ use Rattle.image.specs.Assembling.{most-bytes, assembling}
 use Rattle.image.specs.Assembling.{Label as Meant}
 use Rattle.image.specs.Lent.{over, answerOf, entered, imageAfter}
 use Rattle.labels.specs.Contracts.{entryOf, Spelled}
-use Rattle.labels.specs.Tree.{unlinked, Bare}
+use Rattle.labels.specs.Tree.{unlinked, Bare, Tree}
 use Rattle.labels.specs.declared.label.Label.{Label}
 use Rattle.passes.specs.Contracts.{Stands, Sound, answerMeant}
 use Rattle.passes.specs.declared.first_pass.Pass.{Pass}
@@ -29,9 +29,10 @@ pub record Standing (s : List ℕ) (old table : List Label) (p : Pass) : Type 0 
   pub fits : length labels ≤ length old
   pub spelled : Spelled s labels
 
--- The first walk has ended, and the labels stand in the table once their entries are unlinked.
-pub record Walks (s : List ℕ) (old table : List Label) (p : Pass) : Type 0 where
+-- The first walk has ended. The labels stand in the table once their entries are unlinked; until then they can be found.
+pub record Walks (s : List ℕ) (old table : List Label) (roots : List ℕ) (p : Pass) : Type 0 where
   pub standing : Standing s old (unlinked (p .labels) table) p
+  pub tree : Tree s table roots (p .labels)
   pub ended : p .found ≡ false
 
 -- Assembling a source, with a label table and an image buffer before and after.

@@ -16,7 +16,7 @@ fn walk(
     slots: &[u8; 293],
 ) -> Pass
     requires { ⌜ Tables (now mnemonics) (now forms) (now slots) ⌝ ∗ ⌜ Starts (now source) (now roots) ⌝ }
-    ensures { λ r. ⌜ Walks (now (source .entry)) (now (table .entry)) (now (table .exit)) r ⌝ }
+    ensures { λ r. ⌜ Walks (now (source .entry)) (now (table .entry)) (now (table .exit)) (now (roots .exit)) r ⌝ }
 {
     let mut pass = passes::first_pass::begin(source, mnemonics, forms, slots);
     while pass.found {

@@ -34,6 +34,11 @@ unfoldable pub anyNamed : List ℕ → List Label → List ℕ → Bool
 anyNamed s [] u = false
 anyNamed s (l ∷ ls) u = elim (same (spelled s l) u) [ true ↦ true | false ↦ anyNamed s ls u ]
 
+-- Which of some labels has a spelling: the first that does.
+unfoldable pub indexOf : List ℕ → List Label → List ℕ → Option ℕ
+indexOf s [] u = none
+indexOf s (l ∷ ls) u = elim (same (spelled s l) u) [ true ↦ some 0 | false ↦ elim (indexOf s ls u) [ none ↦ none | some i ↦ some (suc i) ] ]
+
 -- "4 duplicate label; 5 new label, table full"
 unfoldable pub entryFault : Bool → Bool → Option ℕ
 entryFault known room = elim known [ true ↦ some 4 | false ↦ elim room [ true ↦ none | false ↦ some 5 ] ]

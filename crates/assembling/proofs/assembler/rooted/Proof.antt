@@ -225,7 +225,7 @@ module _ {M : Type 1} (𝓤 : URA M) (H : Heap 𝓤) (A : Atoms 𝓤) (at-mem : 
     abbrev to-finish : ℕ → GName → Pass → Finish .Ghost
     to-finish ν δ p = (((κs .0, (ν ∷ [], κs .1 .1 .1 .1)), (qs .0, (fullShare, qs .1 .1 .1 .1)), tt, (src, (x₃ δ zs, (p, cs))), (s₁ ∷ [], (s₃ ∷ [], (pval p ∷ [], constantVals cs)))), tt)
 
-    goes-finish : (ν : ℕ) (δ : GName) (p : Pass) {l : List Label} → Walks xs ys l p → PassIs p
+    goes-finish : (ν : ℕ) (δ : GName) (p : Pass) {l : List Label} {rs : List ℕ} → Walks xs ys l rs p → PassIs p
         → ent 𝓤 (sep 𝓤 (sem 𝓤 H A Rest) (sep 𝓤 (mean 𝓤 H A Tokens) (sep 𝓤 (sem 𝓤 H A (LentImage ν δ)) (A .lft (ν ∷ []) fullShare)))) (Finish .pre (to-finish ν δ p))
     goes-finish ν δ p w is =
         qed W (‵ Rest ∷ Tokens ∷ (‵ (LentImage ν δ) ⊛ ‵ (flft (ν ∷ []) fullShare)) ∷ []) ∵ says-both ! (walks-ready w) listed $ move ! (1 ∷ []) $
@@ -267,7 +267,7 @@ module _ {M : Type 1} (𝓤 : URA M) (H : Heap 𝓤) (A : Atoms 𝓤) (at-mem : 
       passed p r vs = some (pval p) ∷ r ∷ some (vptr b o) ∷ some s ∷ some (vptr b₂ o₂) ∷ some s₂ ∷ vs
 
       -- behind the call of `walk`
-      module _ (l : List Label) (rs : List ℕ) (p : Pass) (w : Walks xs ys l p) (ip : PassIs p) (e : length l ≡ length ys) (e₂ : length rs ≡ length bs) where
+      module _ (l : List Label) (rs : List ℕ) (p : Pass) (w : Walks xs ys l rs p) (ip : PassIs p) (e : length l ≡ length ys) (e₂ : length rs ≡ length bs) where
         -- [the tokens of what is shared; the image; its token; the label table; its token; the roots; their token; _18; …; _17; …; …; _0; …]
         strips : (i : List ℕ) (r : Assembled) → Finishes xs p zs i r → length i ≡ length zs → Is R.the-row r (rval r ∷ [])
             → Sq W (Tokens ∷ ‵ (Image i) ∷ token₃ ∷ ‵ (Table l) ∷ token ∷ ‵ (Roots rs) ∷ token₂ ∷ Locals 𝓤 H E (holds none (passed p (some (rval r)) (some (vptr b₃ o₃) ∷ some s₃ ∷ []))))
@@ -326,7 +326,7 @@ module _ {M : Type 1} (𝓤 : URA M) (H : Heap 𝓤) (A : Atoms 𝓤) (at-mem : 
           calls-to ! (fmOf 𝓤 H (W .laws) 𝓣) walk.ended (walk.clauses 𝓤 H A at-mem run) walking (to-walk ν δ ν₂ δ₂) pval (LL.tells P.the-type P′.the-laws)
           (and-then ! (load ! (from ! (stop !)) (look ! 40 refl)) (and-then ! (load ! (from ! (stop !)) (look ! 20 refl)) (and-then ! (load ! (from ! (stop !)) (look ! 16 refl))
           (and-then ! (load ! (from ! (stop !)) (look ! 32 refl)) (and-then ! (load ! (from ! (stop !)) (look ! 30 refl)) (and-then ! (load ! (from ! (stop !)) (look ! 28 refl)) (no-more !))))))) (λ p ws ip.
-          heard ! (Walks xs ys (ws .1 .0) p) (λ w. fsplit ! $ drop ! $ fsplit ! $ fsplit ! $ move ! (1 ∷ []) $ feqL ! (λ e. move ! (1 ∷ []) $
+          heard ! (Walks xs ys (ws .1 .0) (ws .1 .1 .0) p) (λ w. fsplit ! $ drop ! $ fsplit ! $ fsplit ! $ move ! (1 ∷ []) $ feqL ! (λ e. move ! (1 ∷ []) $
           fsplit ! $ fsplit ! $ move ! (1 ∷ []) $ feqL ! (λ e₂. move ! (1 ∷ []) $ drop ! $
           -- [the last roots; the last labels; the tokens; what is kept of the roots; of the table; what is shared; the image; its token; _18; …]
           move ! (2 ∷ []) $ use1 W (token₁ ⊛ (‵ (flft (ν ∷ []) fullShare) ⊛ (‵ (flft (ν₂ ∷ []) fullShare) ⊛ others))) (id⊢ 𝓤 _) $ split ! $ move ! (1 ∷ []) $ split ! $ move ! (1 ∷ []) $ split ! $

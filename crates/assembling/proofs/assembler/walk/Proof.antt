@@ -162,7 +162,7 @@ module _ {M : Type 1} (𝓤 : URA M) (H : Heap 𝓤) (A : Atoms 𝓤) (at-mem : 
     twice : ent 𝓤 (sem 𝓤 H A Rest) (sep 𝓤 (sem 𝓤 H A Rest) (sem 𝓤 H A Rest))
     twice = shared-twice (κs .0) src (κs .1 .1 .1) cs 𝓤 H A W
 
-    exits : (zs : List Label) (rs : List ℕ) (p : Pass) → Walks xs ys zs p → length rs ≡ length bs → PassIs p → Sq W (Has zs rs) (prop (Post (pval p)))
+    exits : (zs : List Label) (rs : List ℕ) (p : Pass) → Walks xs ys zs rs p → length rs ≡ length bs → PassIs p → Sq W (Has zs rs) (prop (Post (pval p)))
     exits zs rs p w long is =
         rewrite ! 2 (λ (n : ℕ). ‵ (Table zs n)) (walks-long w) refl $ rewrite ! 4 (λ (n : ℕ). ‵ (Roots rs n)) long refl $
         suffices ! _ (ends-at 𝓤 H A walks.ended stayed (walks.clauses 𝓤 H A at-mem run) W given (pval p) p (tt, (zs, (rs, (tt, (tt, (tt, tt)))))) (tt, (walks-long w, (long, (tt, (tt, (tt, tt))))))) $
@@ -212,7 +212,7 @@ module _ {M : Type 1} (𝓤 : URA M) (H : Heap 𝓤) (A : Atoms 𝓤) (at-mem : 
 
       goes-enter : Walking xs ys zs rs p → p .found ≡ true → PassIs p → ent 𝓤 (sep 𝓤 (sem 𝓤 H A Rest) (sep 𝓤 (A .lft (κs .0) (qs .0)) (mean 𝓤 H A Lent))) (Enter .pre to-enter)
       goes-enter w found is =
-          qed W (‵ Rest ∷ ‵ (flft (κs .0) (qs .0)) ∷ Lent ∷ []) ∵ says-both ! (w .tree found) (walking-enterable w found) $
+          qed W (‵ Rest ∷ ‵ (flft (κs .0) (qs .0)) ∷ Lent ∷ []) ∵ says-both ! (w .tree) (walking-enterable w found) $
           nothing ! $ move ! (3 ∷ []) $ split ! $ move ! (1 ∷ []) $ split ! $
           -- [the lent roots; their token; the lent table and its token; true; what is shared; the source's token]
           move ! (1 ∷ 3 ∷ []) $ join ! $ move ! (2 ∷ []) $ split ! $ move ! (1 ∷ 2 ∷ []) $ join ! $ move ! (4 ∷ 0 ∷ []) $ join ! $ frame ! $
