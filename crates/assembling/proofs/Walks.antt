@@ -14,14 +14,14 @@ use Rattle.spelling.proofs.Tests.{by-test}
 use Rattle.image.specs.Assembling.{isKnown, most-bytes}
 use Rattle.image.specs.Assembling.{Label as Meant}
 use Rattle.image.specs.Lent.{over}
-use Rattle.image.specs.Contracts.{faultMeant}
-use Rattle.image.specs.declared.config.Checked.{Checked}
-use Rattle.image.specs.declared.config.Checked.the-variants.{Good, Refused}
-use Rattle.labels.specs.Contracts.{entryOf, InText, spelled, anyNamed, entryFault, countBehind, Enters, Spelled}
+use Rattle.image.specs.declared.config.Checked.the-variants.{Good}
+use Rattle.labels.specs.Contracts.{entryOf, InText, spelled, anyNamed, entryFault, enteredMeant, countBehind, Enters, Spelled}
 use Rattle.labels.specs.Tree.{unlinked, Bare, Tree, TreeBehind, Enterable}
 use Rattle.labels.proofs.Named.{spelled-long}
 use Rattle.labels.proofs.Finding.{unlinked-long}
 use Rattle.labels.specs.declared.label.Label.{Label}
+use Rattle.labels.specs.declared.label.Entered.{Entered}
+use Rattle.labels.specs.declared.label.Entered.the-variants.{New, Duplicate, Full}
 use Rattle.passes.specs.Contracts.{Stands, Begins, withEntry, labelAt, GoesOn, Ready, overlong, Finishes}
 use Rattle.passes.specs.declared.first_pass.Pass.{Pass}
 use Rattle.passes.specs.declared.second_pass.Assembled.{Assembled}
@@ -60,9 +60,10 @@ module _ (s : List ℕ) (old table : List Label) (ls : List Meant) (e : table �
   table-more l h =
       rw (e, map-append entryOf ls (l ∷ []), ← length-map ls entryOf) (over-more (map entryOf ls) old (entryOf l) (rw (length-map ls entryOf) h))
 
-counted : (ls : List Meant) (l : Meant) (e : Checked) → length (withEntry e ls l) ≡ countBehind (length ls) e
-counted ls l Good = length-append ls (l ∷ []) ∙ add-one (length ls)
-counted ls l (Refused n) = refl
+counted : (ls : List Meant) (l : Meant) (e : Entered) → length (withEntry e ls l) ≡ countBehind (length ls) e
+counted ls l New = length-append ls (l ∷ []) ∙ add-one (length ls)
+counted ls l Duplicate = refl
+counted ls l Full = refl
 
 -- ---- the walk
 
@@ -90,8 +91,8 @@ module _ {s : List ℕ} {old table : List Label} {p : Pass} (w : Standing s old 
     known-is = rw (w .stands .count) (table-known s old table (w .labels) (w .table-is) name (w .spelled))
 
     -- The label is entered, or refused, and the walk goes on.
-    module _ {table′ : List Label} {e : Checked} {r : Pass} (x : Enters s table (p .labels) (p .label) table′ e) (g : GoesOn s p e r) where
-      fault-is : faultMeant e ≡ entryFault (isKnown (w .labels) name) (ltb (length (w .labels)) (length old))
+    module _ {table′ : List Label} {e : Entered} {r : Pass} (x : Enters s table (p .labels) (p .label) table′ e) (g : GoesOn s p e r) where
+      fault-is : enteredMeant e ≡ entryFault (isKnown (w .labels) name) (ltb (length (w .labels)) (length old))
       fault-is = x .answer ∙ rw (known-is, w .stands .count, standing-long)
 
       holds-is : table′ ≡ elim (isKnown (w .labels) name) [ true ↦ table | false ↦ set table (length (w .labels)) (p .label) ]
@@ -104,22 +105,22 @@ module _ {s : List ℕ} {old table : List Label} {p : Pass} (w : Standing s old 
       count-on : r .labels ≡ countBehind (p .labels) e
       count-on = stands-on .count ∙ counted (w .labels) (labelAt s p) e ∙ ap (λ (n : ℕ). countBehind n e) (sym (w .stands .count))
 
-      refused-on : (n : ℕ) → e ≡ Refused n → table′ ≡ table → Standing s old table′ r
-      refused-on n f h =
+      refused-on : Stands s (length old) (w .labels) r → table′ ≡ table → Standing s old table′ r
+      refused-on t h =
           record {
             labels = w .labels;
-            stands = subst (λ (k : Checked). Stands s (length old) (withEntry k (w .labels) (labelAt s p)) r) f stands-on;
+            stands = t;
             sound = g .sound;
             table-is = h ∙ w .table-is;
             fits = w .fits;
             spelled = w .spelled;
           }
 
-      entered-on : e ≡ Good → length (w .labels) < length old → table′ ≡ set table (length (w .labels)) (p .label) → Standing s old table′ r
-      entered-on f l h =
+      entered-on : Stands s (length old) (w .labels ++ (labelAt s p ∷ [])) r → length (w .labels) < length old → table′ ≡ set table (length (w .labels)) (p .label) → Standing s old table′ r
+      entered-on t l h =
           record {
             labels = w .labels ++ (labelAt s p ∷ []);
-            stands = subst (λ (k : Checked). Stands s (length old) (withEntry k (w .labels) (labelAt s p)) r) f stands-on;
+            stands = t;
             sound = g .sound;
             table-is = h ∙ ap (set table (length (w .labels))) (sym entry-is) ∙ table-more s old table (w .labels) (w .table-is) (labelAt s p) l;
             fits = omega (arith, l, length-append (w .labels) (labelAt s p ∷ []));
@@ -128,19 +129,22 @@ module _ {s : List ℕ} {old table : List Label} {p : Pass} (w : Standing s old 
 
       standing-on : Standing s old table′ r
       unfolding entryFault
-      standing-on = go (isKnown (w .labels) name) (ltb (length (w .labels)) (length old)) refl e refl fault-is holds-is
+      standing-on = go (isKnown (w .labels) name) (ltb (length (w .labels)) (length old)) refl e stands-on fault-is holds-is
         where
-          go : (a b : Bool) → ltb (length (w .labels)) (length old) ≡ b → (k : Checked) → e ≡ k → faultMeant k ≡ entryFault a b
+          go : (a b : Bool) → ltb (length (w .labels)) (length old) ≡ b → (k : Entered) → Stands s (length old) (withEntry k (w .labels) (labelAt s p)) r → enteredMeant k ≡ entryFault a b
               → table′ ≡ elim a [ true ↦ table | false ↦ set table (length (w .labels)) (p .label) ] → Standing s old table′ r
-          go true b l (Refused n) f q h = refused-on n f h
-          go true b l Good f q h = let y : _≡_ {A = ℕ} 0 1 = cc in absurd (omega arith)
-          go false true l Good f q h = entered-on f (ltb-true (length (w .labels)) (length old) l) h
-          go false true l (Refused n) f q h = let y : _≡_ {A = ℕ} 0 1 = cc in absurd (omega arith)
-          go false false l (Refused n) f q h = refused-on n f (h ∙ full l)
+          go true b l Duplicate t q h = refused-on t h
+          go true b l Full t q h = let y : _≡_ {A = ℕ} 4 5 = cc in absurd (omega arith)
+          go true b l New t q h = let y : _≡_ {A = ℕ} 0 1 = cc in absurd (omega arith)
+          go false true l New t q h = entered-on t (ltb-true (length (w .labels)) (length old) l) h
+          go false true l Duplicate t q h = let y : _≡_ {A = ℕ} 0 1 = cc in absurd (omega arith)
+          go false true l Full t q h = let y : _≡_ {A = ℕ} 0 1 = cc in absurd (omega arith)
+          go false false l Full t q h = refused-on t (h ∙ full l)
             where
               full : ltb (length (w .labels)) (length old) ≡ false → set table (length (w .labels)) (p .label) ≡ table
               full z = set-out table (length (w .labels)) (p .label) (omega (arith, ltb-false (length (w .labels)) (length old) z, standing-long))
-          go false false l Good f q h = let y : _≡_ {A = ℕ} 0 1 = cc in absurd (omega arith)
+          go false false l Duplicate t q h = let y : _≡_ {A = ℕ} 4 5 = cc in absurd (omega arith)
+          go false false l New t q h = let y : _≡_ {A = ℕ} 0 1 = cc in absurd (omega arith)
 
   -- It ends.
   module _ (ended : p .found ≡ false) where
@@ -187,7 +191,7 @@ module _ {s : List ℕ} {old table : List Label} {roots : List ℕ} {p : Pass} (
       let k = w .standing .sound found in
       record { in-text = k .in-text; short = k .short; few = omega (arith, k .short, k .line-fits, k .few-labels); near = k .near }
 
-  pub walking-on : {table′ : List Label} {roots′ : List ℕ} {e : Checked} {r : Pass} → p .found ≡ true → Enters s (unlinked (p .labels) table) (p .labels) (p .label) (unlinked (countBehind (p .labels) e) table′) e
+  pub walking-on : {table′ : List Label} {roots′ : List ℕ} {e : Entered} {r : Pass} → p .found ≡ true → Enters s (unlinked (p .labels) table) (p .labels) (p .label) (unlinked (countBehind (p .labels) e) table′) e
       → TreeBehind s table roots (p .labels) (p .label) table′ roots′ e → GoesOn s p e r → Walking s old table′ roots′ r
   walking-on {table′} {roots′} {e} {r} found x t g =
       let n : r .labels ≡ countBehind (p .labels) e = count-on (w .standing) found x g in
@@ -196,9 +200,13 @@ module _ {s : List ℕ} {old table : List Label} {roots : List ℕ} {p : Pass} (
         tree = subst (Tree s table′ roots′) (sym n) (behind e t);
       }
     where
-      behind : (k : Checked) → TreeBehind s table roots (p .labels) (p .label) table′ roots′ k → Tree s table′ roots′ (countBehind (p .labels) k)
-      behind Good t = t .1
-      behind (Refused m) t = subst (λ (r : List ℕ). Tree s table′ r (p .labels)) (sym (t .0)) (subst (λ (z : List Label). Tree s z roots (p .labels)) (sym (t .1)) (w .tree))
+      kept : (roots′ ≡ roots) × (table′ ≡ table) → Tree s table′ roots′ (p .labels)
+      kept t = subst (λ (r : List ℕ). Tree s table′ r (p .labels)) (sym (t .0)) (subst (λ (z : List Label). Tree s z roots (p .labels)) (sym (t .1)) (w .tree))
+
+      behind : (k : Entered) → TreeBehind s table roots (p .labels) (p .label) table′ roots′ k → Tree s table′ roots′ (countBehind (p .labels) k)
+      behind New t = t .1
+      behind Duplicate t = kept t
+      behind Full t = kept t
 
   -- It has ended.
   pub walking-ends : p .found ≡ false → Walks s old table roots p
@@ -224,7 +232,7 @@ module _ {s : List ℕ} {old table : List Label} {roots : List ℕ} {p : Pass} (
 abbrev pub left : List ℕ → Pass → ℕ
 left s p = elim (p .found) [ true ↦ length s + 2 - p .line | false ↦ 0 ]
 
-pub nearer : {s : List ℕ} {old table : List Label} {roots : List ℕ} {p r : Pass} {e : Checked} → Walking s old table roots p → p .found ≡ true → GoesOn s p e r → left s r < left s p
+pub nearer : {s : List ℕ} {old table : List Label} {roots : List ℕ} {p r : Pass} {e : Entered} → Walking s old table roots p → p .found ≡ true → GoesOn s p e r → left s r < left s p
 nearer {s} {old} {table} {roots} {p} {r} w found g = by-test (r .found) more done
   where
     fits : p .line ≤ length s + 1

@@ -16,7 +16,7 @@ use borrow.Author.Tests.{eqb-true, eqb-false, eq-eqb, ltb-true, ltb-false}
 use Rattle.spelling.specs.Bytes.{same, isSome}
 use Rattle.spelling.proofs.Tests.{by-test, no-both, both, and-both, split}
 use Rattle.spelling.proofs.Strings.{same-eq, eq-same}
-use Rattle.image.specs.declared.config.Checked.the-variants.{Good, Refused}
+use Rattle.labels.specs.declared.label.Entered.the-variants.{New, Duplicate, Full}
 use Rattle.labels.specs.declared.label.Label.{Label}
 use Rattle.labels.specs.declared.tree.Turns.{Turns}
 use Rattle.labels.specs.declared.tree.Search.{Search}
@@ -539,7 +539,7 @@ module _ (s : List ℕ) (t : List Label) (roots : List ℕ) (n : ℕ) (l : Label
 
 module _ {s : List ℕ} {t : List Label} {roots : List ℕ} {n : ℕ} {l : Label} where
   module _ {i : ℕ} (x : Finding s t roots n l (At i)) where
-    pub enter-known : Enters s (unlinked n t) n l (unlinked n t) (Refused 4)
+    pub enter-known : Enters s (unlinked n t) n l (unlinked n t) Duplicate
     unfolding isSome
     enter-known = enters-known s (unlinked n t) n l (any-index s (spelled s l) (take n (unlinked n t)) ∙ ap isSome (sym (x .index-is)))
 
@@ -566,7 +566,7 @@ module _ {s : List ℕ} {t : List Label} {roots : List ℕ} {n : ℕ} {l : Label
         pub full-kept : t₁ ≡ t
         full-kept = f ∙ set-out t n (g .entry) full
 
-        pub enter-full : Enters s (unlinked n t) n l (unlinked n t₁) (Refused 5)
+        pub enter-full : Enters s (unlinked n t) n l (unlinked n t₁) Full
         enter-full =
             enters-full s (unlinked n t) n l unnamed (unlinked n t₁)
             (ap (unlinked n) full-kept ∙ sym (set-out (unlinked n t) n l (rw (unlinked-long n t) full))) (rw (unlinked-long n t) h)
@@ -575,11 +575,11 @@ module _ {s : List ℕ} {t : List Label} {roots : List ℕ} {n : ℕ} {l : Label
         joined-is : t₂ ≡ joined t n g
         joined-is = e ∙ ap (λ (z : List Label). set z (g .last) (g .parent)) f
 
-        pub enter-new : Enters s (unlinked n t) n l (unlinked (suc n) t₂) Good
+        pub enter-new : Enters s (unlinked n t) n l (unlinked (suc n) t₂) New
         enter-new =
             enters-new s (unlinked n t) n l unnamed (unlinked (suc n) t₂) (ap (unlinked (suc n)) joined-is ∙ gaps .holds (ltb-true n (length t) h)) (rw (unlinked-long n t) h)
 
-        pub new-tree : {roots′ : List ℕ} → roots′ ≡ plantedAt roots n (g .bucket) → TreeBehind s t roots n l t₂ roots′ Good
+        pub new-tree : {roots′ : List ℕ} → roots′ ≡ plantedAt roots n (g .bucket) → TreeBehind s t roots n l t₂ roots′ New
         new-tree {roots′} p =
             let q = planted-there p in
             (q, subst (λ (r : List ℕ). Tree s t₂ r (suc n)) (sym q) (subst (λ (z : List Label). Tree s z (planted roots n (spelled s l)) (suc n)) (sym joined-is) (gaps .tree (ltb-true n (length t) h))))

@@ -10,7 +10,7 @@ use lib.ListN.{length, take, drop, getD, set, length-take, length-drop}
 use Rattle.spelling.specs.Bytes.{same, isSome}
 use Rattle.spelling.proofs.Tests.{by-test}
 use Rattle.spelling.proofs.Strings.{same-eq, eq-same}
-use Rattle.image.specs.declared.config.Checked.the-variants.{Good, Refused}
+use Rattle.labels.specs.declared.label.Entered.the-variants.{New, Duplicate, Full}
 use Rattle.labels.specs.declared.label.Label.{Label}
 use Rattle.labels.specs.Contracts.{InText, spelled, noLabel, anyNamed, indexOf, entryFault, Enters}
 
@@ -65,15 +65,15 @@ module _ (s u : List ℕ) where
   any-index (l ∷ ls) = by-test (same (spelled s l) u) (λ y. rw (anyNamed, indexOf, y)) (λ n. rw (anyNamed, indexOf, n) (any-index ls ∙ some-later (indexOf s ls u)))
 
 module _ (s : List ℕ) (table : List Label) (count : ℕ) (l : Label) where
-  pub enters-known : anyNamed s (take count table) (spelled s l) ≡ true → Enters s table count l table (Refused 4)
+  pub enters-known : anyNamed s (take count table) (spelled s l) ≡ true → Enters s table count l table Duplicate
   unfolding entryFault
   enters-known e = record { answer = rw e; holds = rw e }
 
   module _ (e : anyNamed s (take count table) (spelled s l) ≡ false) (table′ : List Label) (h : table′ ≡ set table count l) where
-    pub enters-new : ltb count (length table) ≡ true → Enters s table count l table′ Good
+    pub enters-new : ltb count (length table) ≡ true → Enters s table count l table′ New
     unfolding entryFault
     enters-new f = record { answer = rw (e, f); holds = rw e h }
 
-    pub enters-full : ltb count (length table) ≡ false → Enters s table count l table′ (Refused 5)
+    pub enters-full : ltb count (length table) ≡ false → Enters s table count l table′ Full
     unfolding entryFault
     enters-full f = record { answer = rw (e, f); holds = rw e h }

@@ -9,10 +9,10 @@ use mathlib.Core.List.{List, [], _∷_}
 use lib.ListN.{length, take, getD, set}
 use lib.Dec.{leb, ltb, eqb}
 use Rattle.spelling.specs.Bytes.{same}
-use Rattle.image.specs.declared.config.Checked.{Checked}
-use Rattle.image.specs.declared.config.Checked.the-variants.{Good, Refused}
 use Rattle.labels.specs.Contracts.{InText, spelled, noLabel, indexOf}
 use Rattle.labels.specs.declared.label.Label.{Label}
+use Rattle.labels.specs.declared.label.Entered.{Entered}
+use Rattle.labels.specs.declared.label.Entered.the-variants.{New, Duplicate, Full}
 use Rattle.labels.specs.declared.label.Gap.{Gap}
 use Rattle.labels.specs.declared.label.Found.{Found}
 use Rattle.labels.specs.declared.label.Found.the-variants.{At, Missing}
@@ -201,9 +201,10 @@ pub record Tree (s : List ℕ) (t : List Label) (roots : List ℕ) (n : ℕ) : T
 
 -- What entering a label behind n others leaves: trees again, once it is entered, which is a root where there was none; table and roots as
 -- they were, if it is refused.
-abbrev pub TreeBehind : List ℕ → List Label → List ℕ → ℕ → Label → List Label → List ℕ → Checked → Type 0
-TreeBehind s t roots n l t′ roots′ Good = (roots′ ≡ planted roots n (spelled s l)) × Tree s t′ roots′ (suc n)
-TreeBehind s t roots n l t′ roots′ (Refused k) = (roots′ ≡ roots) × (t′ ≡ t)
+abbrev pub TreeBehind : List ℕ → List Label → List ℕ → ℕ → Label → List Label → List ℕ → Entered → Type 0
+TreeBehind s t roots n l t′ roots′ New = (roots′ ≡ planted roots n (spelled s l)) × Tree s t′ roots′ (suc n)
+TreeBehind s t roots n l t′ roots′ Duplicate = (roots′ ≡ roots) × (t′ ≡ t)
+TreeBehind s t roots n l t′ roots′ Full = (roots′ ≡ roots) × (t′ ≡ t)
 
 -- A label may be entered behind n others: what an entry holds has room.
 pub record Enterable (s : List ℕ) (n : ℕ) (l : Label) : Type 0 where

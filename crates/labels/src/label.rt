@@ -5,7 +5,6 @@ ghost use lib.ListN.{length, set};
 ghost use lib.Dec.{ltb};
 ghost use Rattle.labels.specs.Contracts.{countBehind, Enters};
 ghost use Rattle.labels.specs.Tree.{unlinked, Tree, TreeBehind, Enterable, Finding};
-use image::config::Checked;
 
 // Where a label's spelling stands in the source, and its address.
 #[repr(C)]
@@ -53,29 +52,36 @@ fn append(table: &mut [Label], at: usize, entry: Label) -> bool
     true
 }
 
-// A label entered behind `count` others: 4, 5.
+// What entering a label comes to: a new label is stored, or it is refused as a duplicate (4) or for want of room (5).
+pub enum Entered {
+    New,
+    Duplicate,
+    Full,
+}
+
+// Enters a label after `count` others. A refused label leaves everything as it was.
 pub fn enter(
     source: &[u8],
     table: &mut [Label],
     roots: &mut [u32],
     count: usize,
     label: Label,
-) -> Checked
+) -> Entered
     requires { ⌜ Tree (now source) (now table) (now roots) count ⌝ ∗ ⌜ Enterable (now source) count label ⌝ }
     ensures { λ r. ⌜ Enters (now (source .entry)) (unlinked count (now (table .entry))) count label (unlinked (countBehind count r) (now (table .exit))) r ⌝ ∗ ⌜ TreeBehind (now (source .entry)) (now (table .entry)) (now (roots .entry)) count label (now (table .exit)) (now (roots .exit)) r ⌝ }
 {
     let found = find(source, table, roots, count, label);
     let gap = match found {
-        Found::At(_) => return Checked::Refused(4),
+        Found::At(_) => return Entered::Duplicate,
         Found::Missing(gap) => gap,
     };
     if append(table, count, gap.entry) {
         // its parent leads to it (a root is stored again)
         append(table, gap.last, gap.parent);
         crate::tree::plant(roots, gap.bucket, count);
-        return Checked::Good;
+        return Entered::New;
     }
-    Checked::Refused(5)
+    Entered::Full
 }
 
 // The first `count` entries of a table are left as labels.

@@ -12,6 +12,7 @@ ghost use Rattle.passes.specs.Contracts.{Tables, Sound, Stops, Ends, lab
 use crate::line::Step;
 use image::config::Checked;
 use image::config::Config;
+use labels::label::Entered;
 use labels::label::Label;
 
 // Where the first walk stands: at a line whose label is to be entered, or at its end.
@@ -195,7 +196,7 @@ pub fn begin(source: &[u8], mnemonics: &[u64; 50], forms: &[u8; 50], slots: &[u8
 pub fn go_on(
     source: &[u8],
     pass: Pass,
-    entered: Checked,
+    entered: Entered,
     mnemonics: &[u64; 50],
     forms: &[u8; 50],
     slots: &[u8; 293],
@@ -204,8 +205,10 @@ pub fn go_on(
     ensures { λ r. ⌜ GoesOn (now (source .entry)) pass entered r ⌝ }
 {
     let line = pass.line;
-    if let Checked::Refused(number) = entered {
-        return stopped_at(number, line, pass.labels);
+    match entered {
+        Entered::Duplicate => return stopped_at(4, line, pass.labels),
+        Entered::Full => return stopped_at(5, line, pass.labels),
+        Entered::New => {}
     }
     let labels = pass.labels + 1;
     let fault = pass.fault;

@@ -47,12 +47,12 @@ use denote.Triple.Statement.{Contract, Triple}
 use denote.Triple.Table.{entered, cited}
 use denote.Steps.{nothing, owned, heard}
 use denote.Triple.Walked.{says, Stays, stay-slice, stay-none-ref, stay-none-slice, walkOf, ends-at, walked, goes-slice, goes-none-ref, goes-none-slice, walk-meets}
-use Rattle.image.specs.declared.config.Checked.{Checked}
-use Rattle.image.proofs.config.Checked as R
-use Rattle.image.proofs.config.Checked.Laws as R′
 use Rattle.labels.specs.Contracts.{countBehind, Enters}
 use Rattle.labels.specs.Tree.{unlinked, TreeBehind}
 use Rattle.labels.specs.declared.label.Label.{Label}
+use Rattle.labels.specs.declared.label.Entered.{Entered}
+use Rattle.labels.proofs.label.Entered as R
+use Rattle.labels.proofs.label.Entered.Laws as R′
 use Rattle.labels.proofs.label.Label as L
 use Rattle.labels.proofs.label.Label.Laws as L′
 use Rattle.labels.proofs.Again.{lends, ends}
@@ -85,7 +85,7 @@ use Rattle.assembling.proofs.assembler.walk.Statement as stated
 use Rattle.assembling.proofs.assembler.walk.Code as code
 use Rattle.assembling.proofs.assembler.walk.Code.Mir as m
 
-abbrev eval : Checked → Val
+abbrev eval : Entered → Val
 eval = EL.val R.the-type R′.the-laws
 
 abbrev numbers : Width → ℕ → Slot 6
@@ -178,10 +178,10 @@ module _ {M : Type 1} (𝓤 : URA M) (H : Heap 𝓤) (A : Atoms 𝓤) (at-mem : 
     goes-begin : ent 𝓤 (sep 𝓤 (mean 𝓤 H A Tokens) (sem 𝓤 H A Rest)) (Begin .pre to-begin)
     goes-begin = qed W (Tokens ∷ ‵ Rest ∷ []) ∵ says-both ! listed (fresh .short) $ done !
 
-    abbrev to-go-on : Pass → Checked → GoOn .Ghost
+    abbrev to-go-on : Pass → Entered → GoOn .Ghost
     to-go-on p e = (((κs .0, κs .1 .1 .1), (qs .0, qs .1 .1 .1), tt, (src, (p, (e, cs))), (s₁ ∷ [], (pval p ∷ [], (eval e ∷ [], constantVals cs)))), tt)
 
-    goes-go-on : (p : Pass) (e : Checked) → Sound xs p → PassIs p → Is R.the-row e (eval e ∷ []) → ent 𝓤 (sep 𝓤 (mean 𝓤 H A Tokens) (sem 𝓤 H A Rest)) (GoOn .pre (to-go-on p e))
+    goes-go-on : (p : Pass) (e : Entered) → Sound xs p → PassIs p → Is R.the-row e (eval e ∷ []) → ent 𝓤 (sep 𝓤 (mean 𝓤 H A Tokens) (sem 𝓤 H A Rest)) (GoOn .pre (to-go-on p e))
     goes-go-on p e sound ip ie =
         qed W (Tokens ∷ ‵ Rest ∷ []) ∵ says-both ! sound listed $ frame ! $ fsplit ! $ move ! (1 ∷ []) $
         owned ! R.the-row (Is R.the-row) ((EL.makes R.the-type R′.the-plain) 𝓤 H A) e _ ie $ fjoin ! $ owned ! P.the-row (Is P.the-row) ((LL.makes P.the-type P′.the-plain) 𝓤 H A) p _ ip $ fjoin ! $
@@ -258,7 +258,7 @@ module _ {M : Type 1} (𝓤 : URA M) (H : Heap 𝓤) (A : Atoms 𝓤) (at-mem : 
       abbrev Turned : St → Kit.Post 𝓤 H
       Turned t = anyQ (afterTurn 𝓤 H (Below 𝓤 H A Nearer Inv t) (afterBlock 𝓤 H (afterSeq 𝓤 H (Wp 𝓤 H (𝓣 .C) (𝓣 .Λ) E m.t-3 (atReturn 𝓤 H E Post)) (atReturn 𝓤 H E Post))))
 
-      onward : (t : St) → t .1 .0 .found ≡ true → (e : Checked) (zs : List Label) (rs : List ℕ) → length rs ≡ length bs → Is R.the-row e (eval e ∷ [])
+      onward : (t : St) → t .1 .0 .found ≡ true → (e : Entered) (zs : List Label) (rs : List ℕ) → length rs ≡ length bs → Is R.the-row e (eval e ∷ [])
           → Enters xs (unlinked (t .1 .0 .labels) (t .0)) (t .1 .0 .labels) (t .1 .0 .label) (unlinked (countBehind (t .1 .0 .labels) e) zs) e → TreeBehind xs (t .0) (t .1 .1 .0) (t .1 .0 .labels) (t .1 .0 .label) zs rs e
           → Sq W (With zs rs (some (pval (t .1 .0)) ∷ some (eval e) ∷ some (vbool (t .1 .0 .found)) ∷ some (vptr b o) ∷ some (s (t .0)) ∷ some (vptr b₂ o₂) ∷ some (s₂ (t .1 .1 .0)) ∷ [])) (runs (𝓣 .C) (𝓣 .Λ) E (behind 7 m.turn-1) (Turned t))
       unfolding afterTurn
