@@ -1,8 +1,8 @@
 /* Assembling zkIR v3.4 text to program images, opening such images, and listing them as text again.
  *
- * Three functions, and one of them in a second form, whose every answer is proved: crates/capi holds their contracts, and
- * crates/capi/specs/Promises.antt what follows for a caller. Each takes any input, and returns 0, or the number of the one refusal that
- * meets it (enum zkasm_refusal). In both cases it fills its answer; a field that says nothing is 0.
+ * Three functions whose every answer is proved: crates/capi holds their contracts, and crates/capi/specs/Promises.antt what follows for a
+ * caller. Each takes any input, and returns 0, or the number of the one refusal that meets it (enum zkasm_refusal). In both cases it fills
+ * its answer; a field that says nothing is 0.
  *
  * What a caller owes, and no proof can see:
  *   - each pointer is aligned for its type and not NULL, even where its length is 0. The functions are marked so (ZKASM_NONNULL), and gcc
@@ -11,8 +11,8 @@
  *   - a buffer that is written to (table, the image that is assembled, text, answer) overlaps no other argument.
  *
  * The functions keep nothing between calls and take no memory but stack, so several threads may call them at once. A call takes at most
- * 16 KB of stack; zkasm_assemble of a source of 65,536 bytes or more, and zkasm_assemble_long, at most 288 KB (measured, not proved). The
- * library calls memcpy and memset and nothing else. Link target/staticlib/libzkasm.a, for x86-64 Linux. */
+ * 32 KB of stack, whatever the input (measured, not proved). The library calls memcpy and memset and nothing else. Link
+ * target/staticlib/libzkasm.a, for x86-64 Linux. */
 #ifndef ZKASM_H
 #define ZKASM_H
 
@@ -103,11 +103,6 @@ typedef struct zkasm_assembled {
 ZKASM_NONNULL
 uint32_t zkasm_assemble(const uint8_t *source, size_t source_length, zkasm_label *table, size_t table_length, uint8_t *image,
                         size_t image_length, zkasm_assembled *answer);
-
-/* The same, for any source, made for long ones: zkasm_assemble calls it for a source of 65,536 bytes or more. */
-ZKASM_NONNULL
-uint32_t zkasm_assemble_long(const uint8_t *source, size_t source_length, zkasm_label *table, size_t table_length, uint8_t *image,
-                             size_t image_length, zkasm_assembled *answer);
 
 /* All fields are 0 where the image is refused. */
 typedef struct zkasm_opened {

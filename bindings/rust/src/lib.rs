@@ -69,7 +69,7 @@ pub struct AssembleRefusal {
 /// The image is written to the front of its buffer, and later bytes keep their values; a refusal leaves the whole buffer as it was.
 /// 131,104 bytes hold every image.
 ///
-/// A source of 65,536 bytes or more takes at most 288 KB of stack, a shorter one 16 KB.
+/// A call takes at most 32 KB of stack, whatever the source.
 pub fn assemble(
     source: &[u8],
     table: &mut [Label],

@@ -1,16 +1,16 @@
-//! What the header says of the stack: threads with little more than that make every call.
+//! What the header says of the stack: threads with no more than that make every call.
 
 use std::thread;
 use zkasm::Label;
 
-/// What a thread takes for itself.
-const THREAD: usize = 4 << 10;
+/// The stack of such a thread, with what the thread takes for itself.
+const STACK: usize = 32 << 10;
 
 /// A source with lines of all kinds, and many labels; its last line as given.
 fn source(bytes: usize, last: &str) -> Vec<u8> {
     let mut source = b".config limb_bits 20\n.text\n".to_vec();
     for number in 0.. {
-        let line = format!("l{number}: sw a1, -4(sp) # a store\nm{number}:\naddi a0, zero, 0x7f\n");
+        let line = format!("l{number}: sw a1, -4(sp) # a store to the stack\nm{number}:\naddi a0, zero, 0x7f\n");
         if source.len() + line.len() + last.len() > bytes {
             break;
         }
@@ -19,12 +19,6 @@ fn source(bytes: usize, last: &str) -> Vec<u8> {
     source.resize(bytes - last.len(), b'\n');
     source.extend(last.as_bytes());
     source
-}
-
-/// Calls with a stack of this many bytes more than a thread takes.
-fn with_stack(bytes: usize, calls: impl FnOnce() + Send + 'static) {
-    let thread = thread::Builder::new().stack_size(THREAD + bytes);
-    thread.spawn(calls).unwrap().join().unwrap();
 }
 
 /// Assembles a source that is accepted and one that is refused at its end, and opens and lists the image.
@@ -44,11 +38,9 @@ fn every_call(bytes: usize) -> impl FnOnce() {
 }
 
 #[test]
-fn a_short_source_takes_16_kb() {
-    with_stack(16 << 10, every_call(65_535));
-}
-
-#[test]
-fn a_long_source_takes_288_kb() {
-    with_stack(288 << 10, every_call(65_536));
+fn a_call_takes_at_most_32_kb() {
+    for bytes in [1_000, 65_536, 1_048_576] {
+        let thread = thread::Builder::new().stack_size(STACK);
+        thread.spawn(every_call(bytes)).unwrap().join().unwrap();
+    }
 }

@@ -1,4 +1,4 @@
--- Roots that are all 0 lead to no entry. The lemma is over their number, so that nothing counts to 65,536.
+-- Roots that are all 0 lead to no entry. The lemma is over their number, so that nothing counts to 4,096.
 use Prim.Native.Nat.{ℕ, zero, suc, _≤_, _<_}
 use mathlib.Core.Path.{_≡_, refl, sym, subst}
 use mathlib.Core.List.{List}

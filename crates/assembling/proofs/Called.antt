@@ -1,4 +1,4 @@
--- A call of `assemble` from a walk of MIR, or of `assemble_long`, whose contract computes to the same.
+-- A call of `assemble` from a walk of MIR.
 --     calls-lent       the table and the image have been lent for lifetimes that can be ended behind the call; their last values are known, with what the callee promises
 --     calls-assemble   the caller owns the table: the first k entries of it, which lies in a local, are lent, and the image is lent again; both come back
 use Prim.Native.Nat.{ℕ, _≤_}

@@ -1,7 +1,4 @@
 pub mod Bare
 pub mod Called
-pub mod Finished
-pub mod Onward
-pub mod Rooted
 pub mod Shared
 pub mod Walks

@@ -5,14 +5,20 @@ use mathlib.Core.Bool.{true, false}
 use mathlib.Core.List.{List, map}
 use lib.ListN.{length}
 use Rattle.spelling.specs.Names.{present}
-use Rattle.image.specs.Assembling.{assembling}
+use Rattle.image.specs.Assembling.{most-bytes, assembling}
 use Rattle.image.specs.Assembling.{Label as Meant}
 use Rattle.image.specs.Lent.{over, answerOf, entered, imageAfter}
 use Rattle.labels.specs.Contracts.{entryOf, Spelled}
+use Rattle.labels.specs.Tree.{unlinked, Bare, Tree}
 use Rattle.labels.specs.declared.label.Label.{Label}
 use Rattle.passes.specs.Contracts.{Stands, Sound, answerMeant}
 use Rattle.passes.specs.declared.first_pass.Pass.{Pass}
 use Rattle.passes.specs.declared.second_pass.Assembled.{Assembled}
+
+-- What the first walk starts from: a source that is not too long, and empty buckets.
+pub record Starts (s roots : List ℕ) : Type 0 where
+  pub short : length s ≤ most-bytes
+  pub bare : Bare roots
 
 -- Where the first walk stands, and the table as it is then: the labels entered so far, ahead of its untouched entries.
 pub record Standing (s : List ℕ) (old table : List Label) (p : Pass) : Type 0 where
@@ -23,9 +29,10 @@ pub record Standing (s : List ℕ) (old table : List Label) (p : Pass) : Type 0 
   pub fits : length labels ≤ length old
   pub spelled : Spelled s labels
 
--- The first walk has ended.
-pub record Walks (s : List ℕ) (old table : List Label) (p : Pass) : Type 0 where
-  pub standing : Standing s old table p
+-- The first walk has ended. The labels stand in the table once their entries are unlinked; until then they can be found.
+pub record Walks (s : List ℕ) (old table : List Label) (roots : List ℕ) (p : Pass) : Type 0 where
+  pub standing : Standing s old (unlinked (p .labels) table) p
+  pub tree : Tree s table roots (p .labels)
   pub ended : p .found ≡ false
 
 -- Assembling a source, with a label table and an image buffer before and after.

@@ -1,10 +1,8 @@
--- `zkasm_assemble` and `zkasm_assemble_long` have one contract, and each passes its parameters on to calls for good: of the label table, the image and the answer it then has only what says their last values.
+-- `zkasm_assemble` passes its parameters on to calls for good: of the label table, the image and the answer it then has only what says their last values.
 --     All, Held        the tokens of the parameters' lifetimes, and what is had of the parameters.        Left     what is had of them behind the calls
---     calls-assemble   a call of a function with the contract of `assemble`: all but the answer is passed on to it.        Three, Answer, One      the tokens of what is passed on; the answer, and its token
+--     calls-assemble   the call of `assemble`: all but the answer is passed on to it.        Three, Answer, One      the tokens of what is passed on; the answer, and its token
 --     calls-write      the call of `write_assembled` behind it, to which the answer is passed on
---     calls-on         a call of a function with this contract itself, to which everything is passed on
---     exits            the end of such a walk.        walk-all     such a function meets the contract, if its MIR can be walked
--- What copies the parameters into locals is walked in each proof, since the two functions have other locals.
+--     exits            the end of the walk.        walk-all     the function meets the contract, if its MIR can be walked
 use Prim.Native.Nat.{ℕ}
 use mathlib.Core.Path.{_≡_, refl}
 use mathlib.Core.List.{List, [], _∷_, _++_}
@@ -49,7 +47,7 @@ use Rattle.assembling.proofs.assembler.assemble as assemble
 use Rattle.capi.specs.Contracts.{Handed, AssembleCall}
 use Rattle.capi.proofs.Answers.{assemble-called}
 use Rattle.capi.proofs.write_assembled as write
-use Rattle.capi.proofs.zkasm_assemble_long as this
+use Rattle.capi.proofs.zkasm_assemble as this
 
 -- at the exit nothing is held
 abbrev stayed : Stays (this.ended .signature .params) (this.ended .kept)
@@ -59,7 +57,7 @@ stayed = (
 )
 
 module _ {M : Type 1} (𝓤 : URA M) (H : Heap 𝓤) (A : Atoms 𝓤) (at-mem : Memory → SProp 𝓤) (run : Routine → Fun 𝓤) where
-  -- the contract of both functions, and those of the two calls
+  -- the contract, and those of the two calls
   abbrev pub Calling : Contract 𝓤
   Calling = Known 𝓤 H A this.ended (this.clauses 𝓤 H A at-mem run)
 
@@ -164,9 +162,6 @@ module _ {M : Type 1} (𝓤 : URA M) (H : Heap 𝓤) (A : Atoms 𝓤) (at-mem : 
           qed W (‵ Answer ∷ One ∷ []) ∵ nothing ! $ move ! (1 ∷ 0 ∷ []) $ fjoin ! $
           owned ! R.the-row (Is R.the-row) ((EL.makes R.the-type R′.the-plain) 𝓤 H A) r _ ir $ fjoin ! $ move ! (1 ∷ 0 ∷ []) $ join ! $ nothing ! $ move ! (1 ∷ 0 ∷ []) $ done !
 
-      goes-on : ent 𝓤 (sep 𝓤 (mean 𝓤 H A All) (sem 𝓤 H A Held)) (Calling .pre given)
-      goes-on = qed W (All ∷ ‵ Held ∷ []) ∵ join ! $ nothing ! $ move ! (1 ∷ 0 ∷ []) $ done !
-
       all-again : ent 𝓤 (sep 𝓤 (mean 𝓤 H A Three) (mean 𝓤 H A One)) (mean 𝓤 H A All)
       all-again =
           qed W (Three ∷ One ∷ []) ∵ use1 W (token₁ ⊛ (token₂ ⊛ raw (toks 𝓤 A 1 (κs .1 .1 .0, tt) (qs .1 .1 .0, tt)))) (id⊢ 𝓤 _) $ split ! $ move ! (1 ∷ []) $ split ! $ move ! (1 ∷ []) $
@@ -196,18 +191,6 @@ module _ {M : Type 1} (𝓤 : URA M) (H : Heap 𝓤) (A : Atoms 𝓤) (at-mem : 
             heard t (Handed (answerMeant r) (ws .1 .0) n) (λ g. fsplit t $ drop t $ fsplit t $ move t (1 ∷ []) $ drop t $
             -- [the last answer; its token; the other tokens; the last entries; the last image]
             move t (2 ∷ 1 ∷ []) $ use2 W All all-again $ move t (0 ∷ 2 ∷ 3 ∷ []) $ h (ws .1 .0) n (assemble-called a g) is))
-
-        pub calls-on : Triple 𝓤 (𝓣 .C f) Calling → Opds K W (raw (Calling .pre given) ∷ Γ) E os passed
-            → ((l : List Label) (i w : List ℕ) (n : ℕ) → AssembleCall (src .now) (x .now) (y .now) l i w n → length l ≡ length (x .now) → length i ≡ length (y .now) → Is (UInt w32) n (vint w32 n ∷ [])
-            → Seq K W (Left l i w ++ Γ) (lands (𝓣 .C) (𝓣 .Λ) E d (vint w32 n) rest q))
-            → Seq K W (All ∷ ‵ Held ∷ Γ) (runs (𝓣 .C) (𝓣 .Λ) E (seq (call f os d) rest) q)
-        calls-on met operands h =
-            use2 W (raw (Calling .pre given)) goes-on $
-            calls-to t (fmOf 𝓤 H (W .laws) 𝓣) this.ended (this.clauses 𝓤 H A at-mem run) met given (vint w32) (uint-tells w32) operands (λ n ws is.
-            heard t (AssembleCall (src .now) (x .now) (y .now) (ws .1 .0) (ws .1 .1 .0) (ws .1 .1 .1 .0) n) (λ c.
-            fsplit t $ drop t $ fsplit t $ move t (1 ∷ []) $ fsplit t $ move t (1 ∷ []) $ fsplit t $ move t (1 ∷ []) $ drop t $
-            -- [the last answer; what is left of the image and of the label table; the tokens]
-            move t (1 ∷ []) $ fsplit t $ move t (1 ∷ []) $ feqL t (λ g. move t (2 ∷ []) $ fsplit t $ move t (1 ∷ []) $ feqL t (λ e. move t (3 ∷ []) $ h (ws .1 .0) (ws .1 .1 .0) (ws .1 .1 .1 .0) n c e g is))))
 
   module _ (W : Given 𝓤 H A) (𝓣 : Tables 𝓤 H) (f : Fn) where
     -- what the walk of such a function shows

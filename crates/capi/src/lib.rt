@@ -55,25 +55,7 @@ pub extern "C" fn zkasm_assemble(
 ) -> u32
     ensures { λ r. ⌜ AssembleCall (now (source .entry)) (now (table .entry)) (now (image .entry)) (now (table .exit)) (now (image .exit)) (now (answer .exit)) r ⌝ }
 {
-    if 65536 <= source.len() {
-        // a function of its own, so that a short source does not pay for the stack that it takes
-        return zkasm_assemble_long(source, table, image, answer);
-    }
     let assembled = assembling::assembler::assemble(source, table, image);
-    write_assembled(assembled, answer)
-}
-
-// The same, made for long sources.
-#[no_mangle]
-pub extern "C" fn zkasm_assemble_long(
-    source: &[u8],
-    table: &mut [Label],
-    image: &mut [u8],
-    answer: &mut [u64; 8],
-) -> u32
-    ensures { λ r. ⌜ AssembleCall (now (source .entry)) (now (table .entry)) (now (image .entry)) (now (table .exit)) (now (image .exit)) (now (answer .exit)) r ⌝ }
-{
-    let assembled = assembling::assembler::assemble_long(source, table, image);
     write_assembled(assembled, answer)
 }
 

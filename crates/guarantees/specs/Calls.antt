@@ -1,5 +1,5 @@
 -- Demand 1: what every call answers and leaves in the slices that are lent to it; and demand 3, said of calls.
--- `Assembles` and `Lists` are what the contracts of `assemble` (and `assemble_long`) and `list` promise of every call, whatever the source, the image and
+-- `Assembles` and `Lists` are what the contracts of `assemble` and `list` promise of every call, whatever the source, the image and
 -- the lengths of the slices, 0 included; the contract of `open` is `openedMeant image r ≡ opening image`.
 use Prim.Native.Nat.{ℕ, _+_, _*_, _≤_}
 use mathlib.Core.Path.{_≡_}

@@ -7,23 +7,27 @@ use mathlib.Core.Logic.{_⊎_, inl, inr, ⊎-elim}
 use native.Mathlib.Omega.{arith}
 use native.Mathlib.Numerals.{add-one}
 use mathlib.Core.Bool.{Bool, true, false, true≢false}
+use mathlib.Core.Option.{none, some}
 use mathlib.Core.List.{List, [], _∷_}
 use lib.Dec.{ltb, eqb}
 use lib.ListN.{length, take, getD, set, length-take, length-set}
 use lib.Seq.{getD-take, getD-set-same, getD-set-other, set-out, ext-getD}
 use borrow.Author.Tests.{eqb-true, eqb-false, eq-eqb, ltb-true, ltb-false}
-use Rattle.spelling.specs.Bytes.{same}
+use Rattle.spelling.specs.Bytes.{same, isSome}
 use Rattle.spelling.proofs.Tests.{by-test, no-both, both, and-both, split}
 use Rattle.spelling.proofs.Strings.{same-eq, eq-same}
-use Rattle.image.specs.declared.config.Checked.the-variants.{Good, Refused}
+use Rattle.labels.specs.declared.label.Entered.the-variants.{New, Duplicate, Full}
 use Rattle.labels.specs.declared.label.Label.{Label}
 use Rattle.labels.specs.declared.tree.Turns.{Turns}
 use Rattle.labels.specs.declared.tree.Search.{Search}
-use Rattle.labels.specs.Contracts.{InText, spelled, noLabel, anyNamed, Enters}
-use Rattle.labels.specs.Tree.{plain, unlinked, held, link, raised, linked, hashOf, firstTurns, turned, wayOf, keyOf, entryFor, hits, slotOf, rootOf, planted, begunAt, begun, visited, Finds, here, there, Rootable, Tree, TreeBehind, Enterable, joined, Searched, Visitable}
-use Rattle.labels.proofs.Hashing.{parity, held-odd, raised-odd, held-even, raised-even, link-low, linked-low, link-high, linked-high, visited-hit, visited-last, visited-on}
+use Rattle.labels.specs.declared.label.Gap.{Gap}
+use Rattle.labels.specs.declared.label.Found.{Found}
+use Rattle.labels.specs.declared.label.Found.the-variants.{At, Missing}
+use Rattle.labels.specs.Contracts.{InText, spelled, noLabel, anyNamed, indexOf, Enters}
+use Rattle.labels.specs.Tree.{plain, unlinked, held, link, raised, linked, hashOf, firstTurns, turned, wayOf, keyOf, entryFor, hits, slotOf, rootOf, plantedAt, planted, begunAt, begun, visited, gapOf, foundOf, Finds, here, there, Rootable, Tree, TreeBehind, Enterable, joined, Gaps, Finding, Visitable}
+use Rattle.labels.proofs.Hashing.{slot-inside, parity, held-odd, raised-odd, held-even, raised-even, link-low, linked-low, link-high, linked-high, visited-hit, visited-last, visited-on}
 use Rattle.labels.proofs.Roots.{planted-long, planted-new, planted-kept, planted-rooted}
-use Rattle.labels.proofs.Named.{spelled-long, one-named, none-named, enters-known, enters-new, enters-full}
+use Rattle.labels.proofs.Named.{spelled-long, index-at, index-none, any-index, enters-known, enters-new, enters-full}
 
 -- ---- entries
 
@@ -178,6 +182,23 @@ module _ (s : List ℕ) (u : List ℕ) where
       way-back start nz x = x
       way-back (step {i = i} {l = l} {z = z} w h miss f) nz x = way-back w (λ e. omega arith) (there {i = i} (omega arith) (g .links i h (wayOf z) l nz f) x)
 
+-- What is found is one thing or the other.
+missing? : Found → Bool
+missing? (At i) = false
+missing? (Missing g) = true
+
+found-at : {X : Type 0} {i : ℕ} {g : Gap} → At i ≡ Missing g → X
+unfolding missing?
+found-at e = absurd (true≢false (sym (ap missing? e)))
+
+gap-in : Gap → Found → Gap
+gap-in h (At i) = h
+gap-in h (Missing g) = g
+
+gap-same : {g h : Gap} → Missing g ≡ Missing h → g ≡ h
+unfolding gap-in
+gap-same {g} e = ap (gap-in g) e
+
 -- ---- searches
 
 -- What is left of a search: the entries from the next on.
@@ -197,10 +218,11 @@ pub data Lost (s : List ℕ) (t : List Label) (roots : List ℕ) (n : ℕ) (l : 
 
 -- Where a search stands.
 pub record Seeking (s : List ℕ) (t : List Label) (roots : List ℕ) (n : ℕ) (l : Label) (q : Search) : Type 0 where
+  pub bucket-is : q .bucket ≡ slotOf (hashOf (spelled s l)) (length roots)
   pub entry-is : q .entry ≡ entryFor (spelled s l) l
   pub count-is : q .count ≡ n
   pub at-entry : q .more ≡ true → AtEntry s t roots n l q
-  pub is-known : q .known ≡ true → (i : ℕ) × ((i < n) × (hit s (spelled s l) t i ≡ true))
+  pub is-known : q .known ≡ true → (q .next < n) × (hit s (spelled s l) t (q .next) ≡ true)
   pub is-lost : q .more ≡ false → q .known ≡ false → Lost s t roots n l q
 
 module _ (s : List ℕ) (t : List Label) (roots : List ℕ) (n : ℕ) (l : Label) (tree : Tree s t roots n) (ok : Enterable s n l) where
@@ -222,8 +244,9 @@ module _ (s : List ℕ) (t : List Label) (roots : List ℕ) (n : ℕ) (l : Label
   pub seek-begin : Seeking s t roots n l (begun s roots n l)
   seek-begin = go root refl
     where
-      go : (m : ℕ) → root ≡ m → Seeking s t roots n l (begunAt s n l m)
+      go : (m : ℕ) → root ≡ m → Seeking s t roots n l (begunAt (slotOf (hashOf u) (length roots)) s n l m)
       go zero f = record {
+        bucket-is = refl;
         entry-is = refl;
         count-is = refl;
         at-entry = λ e. absurd (true≢false (sym e));
@@ -231,6 +254,7 @@ module _ (s : List ℕ) (t : List Label) (roots : List ℕ) (n : ℕ) (l : Label
         is-lost = λ _ _. none-there f refl refl;
       }
       go (suc i) f = record {
+        bucket-is = refl;
         entry-is = refl;
         count-is = refl;
         at-entry = λ _. record {
@@ -276,15 +300,17 @@ module _ (s : List ℕ) (t : List Label) (roots : List ℕ) (n : ℕ) (l : Label
         where
           found : hit s u t (q .next) ≡ true → Seeking s t roots n l (visited s q e)
           found h = subst (Seeking s t roots n l) (sym (visited-hit s q e (hit-here ∙ h))) (record {
+            bucket-is = k .bucket-is;
             entry-is = k .entry-is;
             count-is = k .count-is;
             at-entry = λ f. absurd (true≢false (sym f));
-            is-known = λ _. (q .next, (inside, h));
+            is-known = λ _. (inside, h);
             is-lost = λ _ f. absurd (true≢false f);
           })
 
           passing : hit s u t (q .next) ≡ false → (m : ℕ) → link e (wayOf (q .turns)) ≡ m → Seeking s t roots n l (visited s q e)
           passing miss zero f = subst (Seeking s t roots n l) (sym (visited-last s q e (hit-here ∙ miss) f)) (record {
+            bucket-is = k .bucket-is;
             entry-is = k .entry-is;
             count-is = k .count-is;
             at-entry = λ g. absurd (true≢false (sym g));
@@ -292,6 +318,7 @@ module _ (s : List ℕ) (t : List Label) (roots : List ℕ) (n : ℕ) (l : Label
             is-lost = λ _ _. behind (q .turns) inside (k .at-entry more .way) miss f (ap (λ (m : ℕ). linked e (wayOf (q .turns)) (m + 1)) (k .count-is));
           })
           passing miss (suc i) f = subst (Seeking s t roots n l) (sym (visited-on s q e (hit-here ∙ miss) i f)) (record {
+            bucket-is = k .bucket-is;
             entry-is = k .entry-is;
             count-is = k .count-is;
             at-entry = λ _. record {
@@ -321,28 +348,33 @@ module _ (s : List ℕ) (t : List Label) (roots : List ℕ) (n : ℕ) (l : Label
     -- ---- what it comes to
 
     module _ (ended : q .more ≡ false) where
-      -- The label is known if it was found,
-      known-there : q .known ≡ true → anyNamed s (take n (unlinked n t)) u ≡ true
-      known-there y =
+      -- What the labels are spelled like.
+      named-at : (i : ℕ) → i < n → spelled s (getD (take n (unlinked n t)) i noLabel) ≡ spelled s (plain (getD t i noLabel))
+      named-at i h = ap (spelled s) (getD-take n (unlinked n t) i noLabel h ∙ unlinked-at n t i h)
+
+      -- If the label was found, it is the one that is spelled so,
+      index-there : q .known ≡ true → indexOf s (take n (unlinked n t)) u ≡ some (q .next)
+      index-there y =
           let x = k .is-known y in
-          one-named s u (take n (unlinked n t)) (x .0) (omega (arith, length-take n (unlinked n t), unlinked-long n t, tree .in-table, x .1 .0))
-          (rw (getD-take n (unlinked n t) (x .0) noLabel (x .1 .0), unlinked-at n t (x .0) (x .1 .0)) (hit-named s u t (x .0) (x .1 .1)))
+          let e : spelled s (plain (getD t (q .next) noLabel)) ≡ u = hit-named s u t (q .next) (x .1) in
+          index-at s u (take n (unlinked n t)) (q .next) (omega (arith, length-take n (unlinked n t), unlinked-long n t, tree .in-table, x .0)) (named-at (q .next) (x .0) ∙ e)
+          (λ j d f. let less : j < n = omega (arith, x .0) in let same = tree .distinct j (q .next) less (x .0) (sym (named-at j less) ∙ f ∙ sym e) in omega arith)
 
       not-found : Lost s t roots n l q → Finds s t n u root (firstTurns u) → ⊥
       not-found (none-there f g h) x = not-nowhere s u t root n x f
       not-found (behind z inside w miss f g) x = not-nowhere s u t root n (past s u t root n (way-finds s u t root n w x) (q .last) 0 refl miss f) refl
 
-      -- and if not, it was not there.
-      unknown-there : q .known ≡ false → anyNamed s (take n (unlinked n t)) u ≡ false
-      unknown-there y = none-named s u (take n (unlinked n t)) (λ i h f.
-          let less : i < n = omega (arith, length-take n (unlinked n t)) in
-          let g : spelled s (plain (getD t i noLabel)) ≡ u = ap (spelled s) (sym (getD-take n (unlinked n t) i noLabel less ∙ unlinked-at n t i less)) ∙ f in
-          not-found (k .is-lost ended y) (subst (λ (w : List ℕ). Finds s t n w (rootOf roots w) (firstTurns w)) g (tree .found i less)))
+      -- and if not, none is.
+      none-there-yet : q .known ≡ false → (i : ℕ) → i < n → spelled s (plain (getD t i noLabel)) ≡ u → ⊥
+      none-there-yet y i less g = not-found (k .is-lost ended y) (subst (λ (w : List ℕ). Finds s t n w (rootOf roots w) (firstTurns w)) g (tree .found i less))
+
+      index-missing : q .known ≡ false → indexOf s (take n (unlinked n t)) u ≡ none
+      index-missing y = index-none s u (take n (unlinked n t)) (λ i h f. let less : i < n = omega (arith, length-take n (unlinked n t)) in none-there-yet y i less (sym (named-at i less) ∙ f))
 
       -- Then the table has the label's entry behind the others, and they are trees again.
       module _ (y : q .known ≡ false) (room : n < length t) where
         abbrev t′ : List Label
-        t′ = joined t n q
+        t′ = joined t n (gapOf q)
 
         abbrev roots′ : List ℕ
         roots′ = planted roots n u
@@ -454,8 +486,18 @@ module _ (s : List ℕ) (t : List Label) (roots : List ℕ) (n : ℕ) (l : Label
             rooted = planted-rooted roots n u (tree .rootable .some) (tree .rooted);
             found = each (λ i. Leads (spelled s (plain (getD t′ i noLabel)))) (subst (λ (x : Label). Leads (spelled s x)) (sym joined-plain) (m .leads))
                 (λ i d. subst (λ (x : Label). Leads (spelled s x)) (sym (m .grown .plains i d)) (still (spelled s (plain (getD t i noLabel))) (tree .found i d)));
+            distinct = λ i j h h′. each (λ i. spelled s (plain (getD t′ i noLabel)) ≡ spelled s (plain (getD t′ j noLabel)) → i ≡ j)
+                (each (λ j. spelled s (plain (getD t′ n noLabel)) ≡ spelled s (plain (getD t′ j noLabel)) → n ≡ j) (λ _. refl) (λ j d e. absurd (none-there-yet y j d (sym (old j d) ∙ sym e ∙ new))) j h′)
+                (λ i d. each (λ j. spelled s (plain (getD t′ i noLabel)) ≡ spelled s (plain (getD t′ j noLabel)) → i ≡ j) (λ e. absurd (none-there-yet y i d (sym (old i d) ∙ e ∙ new)))
+                (λ j d′ e. tree .distinct i j d d′ (sym (old i d) ∙ e ∙ old j d′)) j h′) i h;
           }
             where
+              new : spelled s (plain (getD t′ n noLabel)) ≡ u
+              new = ap (spelled s) joined-plain
+
+              old : (i : ℕ) → i < n → spelled s (plain (getD t′ i noLabel)) ≡ spelled s (plain (getD t i noLabel))
+              old i d = ap (spelled s) (m .grown .plains i d)
+
               Leads : List ℕ → Type 0
               Leads w = Finds s t′ (suc n) w (rootOf roots′ w) (firstTurns w)
 
@@ -476,47 +518,68 @@ module _ (s : List ℕ) (t : List Label) (roots : List ℕ) (n : ℕ) (l : Label
               at : (i : ℕ) → getD (unlinked (suc n) t′) i noLabel ≡ getD (set (unlinked n t) n l) i noLabel
               at i = split i (suc n) (upto i) (λ h. unlinked-past (suc n) t′ i h ∙ m .later i (omega arith) ∙ sym (getD-set-other (unlinked n t) n i l noLabel (λ x. omega arith) ∙ unlinked-past n t i (omega arith)))
 
-      pub seek-end : Searched s t roots n l (planted roots n u) q
-      seek-end =
-          record {
-            planted-is = refl;
-            known-is = by-test (q .known) (λ y. y ∙ sym (known-there y)) (λ y. y ∙ sym (unknown-there y));
-            tree = λ y room. is-tree y room (joins y room (k .is-lost ended y));
-            holds = λ y room. holds y room (joins y room (k .is-lost ended y));
-          }
+      pub seek-end : Finding s t roots n l (foundOf q)
+      unfolding foundOf
+      seek-end = by-test (q .known) at missing
+        where
+          at : q .known ≡ true → Finding s t roots n l (foundOf q)
+          at y = rw (foundOf, y) (record { index-is = sym (index-there y); gap = λ g e. absurd (found-at e) })
+
+          missing : q .known ≡ false → Finding s t roots n l (foundOf q)
+          missing y = rw (foundOf, y) (record {
+            index-is = sym (index-missing y);
+            gap = λ g e. subst (Gaps s t roots n l) (gap-same e) (record {
+              bucket-is = k .bucket-is;
+              tree = λ room. is-tree y room (joins y room (k .is-lost ended y));
+              holds = λ room. holds y room (joins y room (k .is-lost ended y));
+            });
+          })
 
 -- ---- a label is entered
 
-module _ {s : List ℕ} {t : List Label} {roots : List ℕ} {n : ℕ} {l : Label} {roots′ : List ℕ} {q : Search} (x : Searched s t roots n l roots′ q) where
-  pub enter-known : q .known ≡ true → Enters s (unlinked n t) n l (unlinked n t) (Refused 4)
-  enter-known y = enters-known s (unlinked n t) n l (sym (x .known-is) ∙ y)
+module _ {s : List ℕ} {t : List Label} {roots : List ℕ} {n : ℕ} {l : Label} where
+  module _ {i : ℕ} (x : Finding s t roots n l (At i)) where
+    pub enter-known : Enters s (unlinked n t) n l (unlinked n t) Duplicate
+    unfolding isSome
+    enter-known = enters-known s (unlinked n t) n l (any-index s (spelled s l) (take n (unlinked n t)) ∙ ap isSome (sym (x .index-is)))
 
-  pub known-tree : TreeBehind s t roots n l t roots′ (Refused 4)
-  known-tree = (x .planted-is, refl)
+  module _ {g : Gap} (x : Finding s t roots n l (Missing g)) where
+    gaps : Gaps s t roots n l g
+    gaps = x .gap g refl
 
-  module _ (y : q .known ≡ false) {t₁ : List Label} (f : t₁ ≡ set t n (q .entry)) where
-    module _ (h : ltb n (length t) ≡ false) where
-      full : length t ≤ n
-      full = ltb-false n (length t) h
+    unnamed : anyNamed s (take n (unlinked n t)) (spelled s l) ≡ false
+    unfolding isSome
+    unnamed = any-index s (spelled s l) (take n (unlinked n t)) ∙ ap isSome (sym (x .index-is))
 
-      kept : t₁ ≡ t
-      kept = f ∙ set-out t n (q .entry) full
+    -- What `plant` asks for, and what it leaves.
+    pub bucket-inside : 0 < length roots → g .bucket < length roots
+    bucket-inside h = rw (gaps .bucket-is) (slot-inside (hashOf (spelled s l)) (length roots) h)
 
-      pub enter-full : Enters s (unlinked n t) n l (unlinked n t₁) (Refused 5)
-      enter-full =
-          enters-full s (unlinked n t) n l (sym (x .known-is) ∙ y) (unlinked n t₁)
-          (ap (unlinked n) kept ∙ sym (set-out (unlinked n t) n l (rw (unlinked-long n t) full))) (rw (unlinked-long n t) h)
+    pub planted-there : {roots′ : List ℕ} → roots′ ≡ plantedAt roots n (g .bucket) → roots′ ≡ planted roots n (spelled s l)
+    planted-there e = e ∙ ap (plantedAt roots n) (gaps .bucket-is)
 
-      pub full-tree : TreeBehind s t roots n l t₁ roots′ (Refused 5)
-      full-tree = (x .planted-is, kept)
+    module _ {t₁ : List Label} (f : t₁ ≡ set t n (g .entry)) where
+      module _ (h : ltb n (length t) ≡ false) where
+        full : length t ≤ n
+        full = ltb-false n (length t) h
 
-    module _ {t₂ : List Label} (g : t₂ ≡ set t₁ (q .last) (q .parent)) (h : ltb n (length t) ≡ true) where
-      joined-is : t₂ ≡ joined t n q
-      joined-is = g ∙ ap (λ (z : List Label). set z (q .last) (q .parent)) f
+        pub full-kept : t₁ ≡ t
+        full-kept = f ∙ set-out t n (g .entry) full
 
-      pub enter-new : Enters s (unlinked n t) n l (unlinked (suc n) t₂) Good
-      enter-new =
-          enters-new s (unlinked n t) n l (sym (x .known-is) ∙ y) (unlinked (suc n) t₂) (ap (unlinked (suc n)) joined-is ∙ x .holds y (ltb-true n (length t) h)) (rw (unlinked-long n t) h)
+        pub enter-full : Enters s (unlinked n t) n l (unlinked n t₁) Full
+        enter-full =
+            enters-full s (unlinked n t) n l unnamed (unlinked n t₁)
+            (ap (unlinked n) full-kept ∙ sym (set-out (unlinked n t) n l (rw (unlinked-long n t) full))) (rw (unlinked-long n t) h)
 
-      pub new-tree : TreeBehind s t roots n l t₂ roots′ Good
-      new-tree = (x .planted-is, subst (λ (z : List Label). Tree s z roots′ (suc n)) (sym joined-is) (x .tree y (ltb-true n (length t) h)))
+      module _ {t₂ : List Label} (e : t₂ ≡ set t₁ (g .last) (g .parent)) (h : ltb n (length t) ≡ true) where
+        joined-is : t₂ ≡ joined t n g
+        joined-is = e ∙ ap (λ (z : List Label). set z (g .last) (g .parent)) f
+
+        pub enter-new : Enters s (unlinked n t) n l (unlinked (suc n) t₂) New
+        enter-new =
+            enters-new s (unlinked n t) n l unnamed (unlinked (suc n) t₂) (ap (unlinked (suc n)) joined-is ∙ gaps .holds (ltb-true n (length t) h)) (rw (unlinked-long n t) h)
+
+        pub new-tree : {roots′ : List ℕ} → roots′ ≡ plantedAt roots n (g .bucket) → TreeBehind s t roots n l t₂ roots′ New
+        new-tree {roots′} p =
+            let q = planted-there p in
+            (q, subst (λ (r : List ℕ). Tree s t₂ r (suc n)) (sym q) (subst (λ (z : List Label). Tree s z (planted roots n (spelled s l)) (suc n)) (sym joined-is) (gaps .tree (ltb-true n (length t) h))))

@@ -1,17 +1,18 @@
 -- Whether some labels have a spelling, and entering a label behind them.
 use Prim.Native.Nat.{ℕ, zero, suc, _+_, _-_, _<_}
 use mathlib.Core.Path.{_≡_, refl, ap, _∙_}
+use mathlib.Core.Option.{Option, none, some}
 use native.Mathlib.Omega.{arith}
 use mathlib.Core.Bool.{Bool, true, false}
 use mathlib.Core.List.{List, [], _∷_}
 use lib.Dec.{ltb}
 use lib.ListN.{length, take, drop, getD, set, length-take, length-drop}
-use Rattle.spelling.specs.Bytes.{same}
+use Rattle.spelling.specs.Bytes.{same, isSome}
 use Rattle.spelling.proofs.Tests.{by-test}
 use Rattle.spelling.proofs.Strings.{same-eq, eq-same}
-use Rattle.image.specs.declared.config.Checked.the-variants.{Good, Refused}
+use Rattle.labels.specs.declared.label.Entered.the-variants.{New, Duplicate, Full}
 use Rattle.labels.specs.declared.label.Label.{Label}
-use Rattle.labels.specs.Contracts.{InText, spelled, noLabel, anyNamed, entryFault, Enters}
+use Rattle.labels.specs.Contracts.{InText, spelled, noLabel, anyNamed, indexOf, entryFault, Enters}
 
 -- A part with a computed end.
 pub part-is : (s : List ℕ) (a n : ℕ) → take (a + n - a) (drop a s) ≡ take n (drop a s)
@@ -36,16 +37,43 @@ module _ (s u : List ℕ) where
   none-named (l ∷ ls) f =
       by-test (same (spelled s l) u) (λ y. absurd (f 0 (omega arith) (same-eq _ _ y))) (λ n. rw (anyNamed, n) (none-named ls (λ i h e. f (suc i) (omega arith) e)))
 
+  -- The first that has it,
+  pub index-at : (ls : List Label) (i : ℕ) → i < length ls → spelled s (getD ls i noLabel) ≡ u → ((j : ℕ) → j < i → spelled s (getD ls j noLabel) ≡ u → ⊥) → indexOf s ls u ≡ some i
+  unfolding indexOf
+  index-at [] i h e f = absurd (omega arith)
+  index-at (l ∷ ls) zero h e f = rw (indexOf, eq-same (spelled s l) u e)
+  index-at (l ∷ ls) (suc i) h e f =
+      by-test (same (spelled s l) u) (λ y. absurd (f 0 (omega arith) (same-eq _ _ y)))
+      (λ n. rw (indexOf, n, index-at ls i (omega arith) e (λ j d g. f (suc j) (omega arith) g)))
+
+  -- or none does.
+  pub index-none : (ls : List Label) → ((i : ℕ) → i < length ls → spelled s (getD ls i noLabel) ≡ u → ⊥) → indexOf s ls u ≡ none
+  unfolding indexOf
+  index-none [] f = refl
+  index-none (l ∷ ls) f =
+      by-test (same (spelled s l) u) (λ y. absurd (f 0 (omega arith) (same-eq _ _ y))) (λ n. rw (indexOf, n, index-none ls (λ i h e. f (suc i) (omega arith) e)))
+
+  -- Whether one of them does.
+  some-later : (x : Option ℕ) → isSome x ≡ isSome {A = ℕ} (elim x [ none ↦ none | some i ↦ some (suc i) ])
+  unfolding isSome
+  some-later none = refl
+  some-later (some i) = refl
+
+  pub any-index : (ls : List Label) → anyNamed s ls u ≡ isSome (indexOf s ls u)
+  unfolding indexOf anyNamed isSome
+  any-index [] = refl
+  any-index (l ∷ ls) = by-test (same (spelled s l) u) (λ y. rw (anyNamed, indexOf, y)) (λ n. rw (anyNamed, indexOf, n) (any-index ls ∙ some-later (indexOf s ls u)))
+
 module _ (s : List ℕ) (table : List Label) (count : ℕ) (l : Label) where
-  pub enters-known : anyNamed s (take count table) (spelled s l) ≡ true → Enters s table count l table (Refused 4)
+  pub enters-known : anyNamed s (take count table) (spelled s l) ≡ true → Enters s table count l table Duplicate
   unfolding entryFault
   enters-known e = record { answer = rw e; holds = rw e }
 
   module _ (e : anyNamed s (take count table) (spelled s l) ≡ false) (table′ : List Label) (h : table′ ≡ set table count l) where
-    pub enters-new : ltb count (length table) ≡ true → Enters s table count l table′ Good
+    pub enters-new : ltb count (length table) ≡ true → Enters s table count l table′ New
     unfolding entryFault
     enters-new f = record { answer = rw (e, f); holds = rw e h }
 
-    pub enters-full : ltb count (length table) ≡ false → Enters s table count l table′ (Refused 5)
+    pub enters-full : ltb count (length table) ≡ false → Enters s table count l table′ Full
     unfolding entryFault
     enters-full f = record { answer = rw (e, f); holds = rw e h }

@@ -11,7 +11,7 @@ use borrow.Author.Tests.{eqb-true, eqb-false, eq-eqb}
 use Rattle.spelling.proofs.Tests.{by-test}
 use Rattle.labels.specs.declared.label.Label.{Label}
 use Rattle.labels.specs.Contracts.{spelled}
-use Rattle.labels.specs.Tree.{hashOf, firstTurns, entryFor, slotOf, rootOf, planted, startedAt, begunAt, begun}
+use Rattle.labels.specs.Tree.{hashOf, firstTurns, entryFor, slotOf, rootOf, plantedAt, planted, startedAt, begunAt, begun}
 use Rattle.labels.proofs.Hashing.{slot-inside}
 
 module _ (roots : List ℕ) (n : ℕ) (u : List ℕ) where
@@ -19,12 +19,12 @@ module _ (roots : List ℕ) (n : ℕ) (u : List ℕ) where
   slot = slotOf (hashOf u) (length roots)
 
   pub planted-empty : rootOf roots u ≡ 0 → planted roots n u ≡ set roots slot (n + 1)
-  unfolding planted
-  planted-empty f = rw (planted, eq-eqb (rootOf roots u) 0 f)
+  unfolding plantedAt
+  planted-empty f = rw (plantedAt, eq-eqb (rootOf roots u) 0 f)
 
   pub planted-same : (rootOf roots u ≡ 0 → ⊥) → planted roots n u ≡ roots
-  unfolding planted
-  planted-same f = by-test (eqb (rootOf roots u) 0) (λ y. absurd (f (eqb-true _ _ y))) (λ y. rw (planted, y))
+  unfolding plantedAt
+  planted-same f = by-test (eqb (rootOf roots u) 0) (λ y. absurd (f (eqb-true _ _ y))) (λ y. rw (plantedAt, y))
 
   -- There was a root, or not.
   either-root : (X : List ℕ → Type 0) → (rootOf roots u ≡ 0 → X (set roots slot (n + 1))) → X roots → X (planted roots n u)
@@ -53,8 +53,8 @@ module _ (roots : List ℕ) (n : ℕ) (u : List ℕ) where
 
 -- How a search begins: without a root, or at one.
 module _ (s roots : List ℕ) (n : ℕ) (l : Label) where
-  pub begun-none : rootOf roots (spelled s l) ≡ 0 → begun s roots n l ≡ startedAt false 0 (firstTurns (spelled s l)) n (entryFor (spelled s l) l)
-  begun-none f = ap (begunAt s n l) f
+  pub begun-none : rootOf roots (spelled s l) ≡ 0 → begun s roots n l ≡ startedAt (slotOf (hashOf (spelled s l)) (length roots)) false 0 (firstTurns (spelled s l)) n (entryFor (spelled s l) l)
+  begun-none f = ap (begunAt (slotOf (hashOf (spelled s l)) (length roots)) s n l) f
 
-  pub begun-some : (i : ℕ) → rootOf roots (spelled s l) ≡ suc i → begun s roots n l ≡ startedAt true i (firstTurns (spelled s l)) n (entryFor (spelled s l) l)
-  begun-some i f = ap (begunAt s n l) f
+  pub begun-some : (i : ℕ) → rootOf roots (spelled s l) ≡ suc i → begun s roots n l ≡ startedAt (slotOf (hashOf (spelled s l)) (length roots)) true i (firstTurns (spelled s l)) n (entryFor (spelled s l) l)
+  begun-some i f = ap (begunAt (slotOf (hashOf (spelled s l)) (length roots)) s n l) f

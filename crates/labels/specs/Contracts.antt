@@ -8,10 +8,9 @@ use lib.ListN.{length, take, drop, set}
 use lib.Dec.{ltb}
 use Rattle.spelling.specs.Bytes.{same}
 use Rattle.image.specs.Assembling.{Label as Meant}
-use Rattle.image.specs.Contracts.{faultMeant}
-use Rattle.image.specs.declared.config.Checked.{Checked}
-use Rattle.image.specs.declared.config.Checked.the-variants.{Good, Refused}
 use Rattle.labels.specs.declared.label.Label.{Label}
+use Rattle.labels.specs.declared.label.Entered.{Entered}
+use Rattle.labels.specs.declared.label.Entered.the-variants.{New, Duplicate, Full}
 
 -- "entries of start, length, address": the entry of a label.
 abbrev pub entryOf : Meant → Label
@@ -34,19 +33,30 @@ unfoldable pub anyNamed : List ℕ → List Label → List ℕ → Bool
 anyNamed s [] u = false
 anyNamed s (l ∷ ls) u = elim (same (spelled s l) u) [ true ↦ true | false ↦ anyNamed s ls u ]
 
+-- Which of some labels has a spelling: the first that does.
+unfoldable pub indexOf : List ℕ → List Label → List ℕ → Option ℕ
+indexOf s [] u = none
+indexOf s (l ∷ ls) u = elim (same (spelled s l) u) [ true ↦ some 0 | false ↦ elim (indexOf s ls u) [ none ↦ none | some i ↦ some (suc i) ] ]
+
 -- "4 duplicate label; 5 new label, table full"
 unfoldable pub entryFault : Bool → Bool → Option ℕ
 entryFault known room = elim known [ true ↦ some 4 | false ↦ elim room [ true ↦ none | false ↦ some 5 ] ]
 
--- How many labels there are behind an attempt to enter one.
-abbrev pub countBehind : ℕ → Checked → ℕ
-countBehind count Good = suc count
-countBehind count (Refused n) = count
+abbrev pub enteredMeant : Entered → Option ℕ
+enteredMeant New = none
+enteredMeant Duplicate = some 4
+enteredMeant Full = some 5
+
+-- How many labels there are after an attempt to enter one.
+abbrev pub countBehind : ℕ → Entered → ℕ
+countBehind count New = suc count
+countBehind count Duplicate = count
+countBehind count Full = count
 
 -- Entering a label behind `count` others of a table: the answer, and the table afterwards. (`set` leaves a list as it is at a place
 -- behind its end.)
-pub record Enters (s : List ℕ) (table : List Label) (count : ℕ) (l : Label) (table′ : List Label) (r : Checked) : Type 0 where
-  pub answer : faultMeant r ≡ entryFault (anyNamed s (take count table) (spelled s l)) (ltb count (length table))
+pub record Enters (s : List ℕ) (table : List Label) (count : ℕ) (l : Label) (table′ : List Label) (r : Entered) : Type 0 where
+  pub answer : enteredMeant r ≡ entryFault (anyNamed s (take count table) (spelled s l)) (ltb count (length table))
   pub holds : table′ ≡ elim (anyNamed s (take count table) (spelled s l)) [ true ↦ table | false ↦ set table count l ]
 
 -- The spellings of labels stand in a source, where their entries say.

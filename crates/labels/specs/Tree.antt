@@ -4,14 +4,18 @@
 use Prim.Native.Nat.{ℕ, zero, suc, _+_, _*_, _/_, _%_, _≤_, _<_}
 use mathlib.Core.Path.{_≡_}
 use mathlib.Core.Bool.{Bool, true, false}
+use mathlib.Core.Option.{Option, none, some}
 use mathlib.Core.List.{List, [], _∷_}
 use lib.ListN.{length, take, getD, set}
 use lib.Dec.{leb, ltb, eqb}
 use Rattle.spelling.specs.Bytes.{same}
-use Rattle.image.specs.declared.config.Checked.{Checked}
-use Rattle.image.specs.declared.config.Checked.the-variants.{Good, Refused}
-use Rattle.labels.specs.Contracts.{InText, spelled, noLabel, anyNamed}
+use Rattle.labels.specs.Contracts.{InText, spelled, noLabel, indexOf}
 use Rattle.labels.specs.declared.label.Label.{Label}
+use Rattle.labels.specs.declared.label.Entered.{Entered}
+use Rattle.labels.specs.declared.label.Entered.the-variants.{New, Duplicate, Full}
+use Rattle.labels.specs.declared.label.Gap.{Gap}
+use Rattle.labels.specs.declared.label.Found.{Found}
+use Rattle.labels.specs.declared.label.Found.the-variants.{At, Missing}
 use Rattle.labels.specs.declared.tree.Digest.{Digest}
 use Rattle.labels.specs.declared.tree.Turns.{Turns}
 use Rattle.labels.specs.declared.tree.Search.{Search}
@@ -113,9 +117,12 @@ slotOf h k = h .first % 4294967296 * k / 4294967296
 abbrev pub rootOf : List ℕ → List ℕ → ℕ
 rootOf roots u = getD roots (slotOf (hashOf u) (length roots)) 0
 
--- Roots once a label of a spelling is entered behind n others: it is one where there was none.
-unfoldable pub planted : List ℕ → ℕ → List ℕ → List ℕ
-planted roots n u = elim (eqb (rootOf roots u) 0) [ true ↦ set roots (slotOf (hashOf u) (length roots)) (n + 1) | false ↦ roots ]
+-- Roots once a label is entered behind n others into a bucket: it is the root where there was none.
+unfoldable pub plantedAt : List ℕ → ℕ → ℕ → List ℕ
+plantedAt roots n slot = elim (eqb (getD roots slot 0) 0) [ true ↦ set roots slot (n + 1) | false ↦ roots ]
+
+abbrev pub planted : List ℕ → ℕ → List ℕ → List ℕ
+planted roots n u = plantedAt roots n (slotOf (hashOf u) (length roots))
 
 -- None of them leads to an entry as yet.
 pub record Bare (roots : List ℕ) : Type 0 where
@@ -133,25 +140,26 @@ unfoldable pub hits : List ℕ → Label → ℕ → List ℕ → Bool
 hits s e key u = elim (eqb (e .length) key) [ true ↦ same (spelled s (plain e)) u | false ↦ false ]
 
 -- The search for a label behind `count` others, from its root on,
-abbrev pub startedAt : Bool → ℕ → Turns → ℕ → Label → Search
-startedAt more next turns count e = record { more = more; known = false; next = next; turns = turns; count = count; entry = e; last = count; parent = e }
+abbrev pub startedAt : ℕ → Bool → ℕ → Turns → ℕ → Label → Search
+startedAt bucket more next turns count e = record { bucket = bucket; more = more; known = false; next = next; turns = turns; count = count; entry = e; last = count; parent = e }
 
-abbrev pub begunAt : List ℕ → ℕ → Label → ℕ → Search
-begunAt s count l zero = startedAt false 0 (firstTurns (spelled s l)) count (entryFor (spelled s l) l)
-begunAt s count l (suc i) = startedAt true i (firstTurns (spelled s l)) count (entryFor (spelled s l) l)
+abbrev pub begunAt : ℕ → List ℕ → ℕ → Label → ℕ → Search
+begunAt slot s count l zero = startedAt slot false 0 (firstTurns (spelled s l)) count (entryFor (spelled s l) l)
+begunAt slot s count l (suc i) = startedAt slot true i (firstTurns (spelled s l)) count (entryFor (spelled s l) l)
 
 abbrev pub begun : List ℕ → List ℕ → ℕ → Label → Search
-begun s roots count l = begunAt s count l (rootOf roots (spelled s l))
+begun s roots count l = begunAt (slotOf (hashOf (spelled s l)) (length roots)) s count l (rootOf roots (spelled s l))
 
 -- and behind an entry that it has come to: it has ended, or goes on.
 abbrev pub endedAt : Search → Bool → Label → Search
 endedAt q known e =
-    record { more = false; known = known; next = q .next; turns = q .turns; count = q .count; entry = q .entry; last = q .next; parent = e }
+    record { bucket = q .bucket; more = false; known = known; next = q .next; turns = q .turns; count = q .count; entry = q .entry; last = q .next; parent = e }
 
 abbrev pub passed : List ℕ → Search → Label → ℕ → Search
 passed s q e zero = endedAt q false (linked e (wayOf (q .turns)) (q .count + 1))
 passed s q e (suc i) =
     record {
+      bucket = q .bucket;
       more = true;
       known = false;
       next = i;
@@ -165,6 +173,13 @@ passed s q e (suc i) =
 unfoldable pub visited : List ℕ → Search → Label → Search
 visited s q e = elim (hits s e (q .entry .length) (spelled s (plain (q .entry)))) [ true ↦ endedAt q true e | false ↦ passed s q e (link e (wayOf (q .turns))) ]
 
+-- What a search that has ended comes to.
+abbrev pub gapOf : Search → Gap
+gapOf q = record { bucket = q .bucket; entry = q .entry; last = q .last; parent = q .parent }
+
+unfoldable pub foundOf : Search → Found
+foundOf q = elim (q .known) [ true ↦ At (q .next) | false ↦ Missing (gapOf q) ]
+
 -- ---- trees
 
 -- A spelling is found among the first n entries of a table, from the entry before a number on, with the turns left.
@@ -172,7 +187,8 @@ pub data Finds (s : List ℕ) (t : List Label) (n : ℕ) (u : List ℕ) : ℕ �
   here : {i : ℕ} {z : Turns} → i < n → hits s (getD t i noLabel) (keyOf u) u ≡ true → Finds s t n u (suc i) z
   there : {i l : ℕ} {z : Turns} → i < n → link (getD t i noLabel) (wayOf z) ≡ l → Finds s t n u l (turned u z) → Finds s t n u (suc i) z
 
--- The first n entries of a table are trees: each is a part of the source, leads to later ones only, and is found by its spelling.
+-- The first n entries of a table are trees: each is a part of the source, leads to later ones only, and is found by its spelling, which no
+-- other has.
 pub record Tree (s : List ℕ) (t : List Label) (roots : List ℕ) (n : ℕ) : Type 0 where
   pub in-table : n ≤ length t
   pub in-text : (i : ℕ) → i < n → InText s (plain (getD t i noLabel))
@@ -181,15 +197,14 @@ pub record Tree (s : List ℕ) (t : List Label) (roots : List ℕ) (n : ℕ) : T
   pub rooted : (slot j : ℕ) → getD roots slot 0 ≡ suc j → j < n
   pub found : (i : ℕ) → i < n
       → Finds s t n (spelled s (plain (getD t i noLabel))) (rootOf roots (spelled s (plain (getD t i noLabel)))) (firstTurns (spelled s (plain (getD t i noLabel))))
+  pub distinct : (i j : ℕ) → i < n → j < n → spelled s (plain (getD t i noLabel)) ≡ spelled s (plain (getD t j noLabel)) → i ≡ j
 
--- What entering a label behind n others leaves: it is a root where there was none; trees again, once it is entered; the table as it was, if it
--- is refused. (None is entered behind a refused one, whose root may lead to no entry.)
-abbrev pub TableBehind : List ℕ → List Label → List Label → List ℕ → ℕ → Checked → Type 0
-TableBehind s t t′ roots′ n Good = Tree s t′ roots′ (suc n)
-TableBehind s t t′ roots′ n (Refused k) = t′ ≡ t
-
-abbrev pub TreeBehind : List ℕ → List Label → List ℕ → ℕ → Label → List Label → List ℕ → Checked → Type 0
-TreeBehind s t roots n l t′ roots′ r = (roots′ ≡ planted roots n (spelled s l)) × TableBehind s t t′ roots′ n r
+-- What entering a label behind n others leaves: trees again, once it is entered, which is a root where there was none; table and roots as
+-- they were, if it is refused.
+abbrev pub TreeBehind : List ℕ → List Label → List ℕ → ℕ → Label → List Label → List ℕ → Entered → Type 0
+TreeBehind s t roots n l t′ roots′ New = (roots′ ≡ planted roots n (spelled s l)) × Tree s t′ roots′ (suc n)
+TreeBehind s t roots n l t′ roots′ Duplicate = (roots′ ≡ roots) × (t′ ≡ t)
+TreeBehind s t roots n l t′ roots′ Full = (roots′ ≡ roots) × (t′ ≡ t)
 
 -- A label may be entered behind n others: what an entry holds has room.
 pub record Enterable (s : List ℕ) (n : ℕ) (l : Label) : Type 0 where
@@ -198,16 +213,24 @@ pub record Enterable (s : List ℕ) (n : ℕ) (l : Label) : Type 0 where
   pub few : n ≤ 1048576
   pub near : l .address < 2097152
 
--- A search's entry stored behind n others, and its parent's.
-abbrev pub joined : List Label → ℕ → Search → List Label
-joined t n q = set (set t n (q .entry)) (q .last) (q .parent)
+-- A label's entry stored behind n others, and its parent's.
+abbrev pub joined : List Label → ℕ → Gap → List Label
+joined t n g = set (set t n (g .entry)) (g .last) (g .parent)
 
--- A search that has ended, and the roots as they are then: whether the label is known, and what a table becomes where it is not.
-pub record Searched (s : List ℕ) (t : List Label) (roots : List ℕ) (n : ℕ) (l : Label) (roots′ : List ℕ) (q : Search) : Type 0 where
-  pub planted-is : roots′ ≡ planted roots n (spelled s l)
-  pub known-is : q .known ≡ anyNamed s (take n (unlinked n t)) (spelled s l)
-  pub tree : q .known ≡ false → n < length t → Tree s (joined t n q) roots′ (suc n)
-  pub holds : q .known ≡ false → n < length t → unlinked (suc n) (joined t n q) ≡ set (unlinked n t) n l
+-- Where a label that is not among n others would be entered: what a table becomes then.
+pub record Gaps (s : List ℕ) (t : List Label) (roots : List ℕ) (n : ℕ) (l : Label) (g : Gap) : Type 0 where
+  pub bucket-is : g .bucket ≡ slotOf (hashOf (spelled s l)) (length roots)
+  pub tree : n < length t → Tree s (joined t n g) (planted roots n (spelled s l)) (suc n)
+  pub holds : n < length t → unlinked (suc n) (joined t n g) ≡ set (unlinked n t) n l
+
+abbrev pub indexMeant : Found → Option ℕ
+indexMeant (At i) = some i
+indexMeant (Missing g) = none
+
+-- The label of a spelling, looked for among n: which of them has it; or none, and where it would be entered.
+pub record Finding (s : List ℕ) (t : List Label) (roots : List ℕ) (n : ℕ) (l : Label) (r : Found) : Type 0 where
+  pub index-is : indexMeant r ≡ indexOf s (take n (unlinked n t)) (spelled s l)
+  pub gap : (g : Gap) → r ≡ Missing g → Gaps s t roots n l g
 
 -- What a search asks of an entry that it has come to.
 pub record Visitable (s : List ℕ) (q : Search) (e : Label) : Type 0 where

@@ -4,9 +4,7 @@ ghost use Prim.Native.Nat.{_≤_};
 ghost use lib.ListN.{length, set};
 ghost use lib.Dec.{ltb};
 ghost use Rattle.labels.specs.Contracts.{countBehind, Enters};
-ghost use Rattle.labels.specs.Tree.{unlinked, Tree, TreeBehind, Enterable, Searched};
-use crate::tree::Search;
-use image::config::Checked;
+ghost use Rattle.labels.specs.Tree.{unlinked, Tree, TreeBehind, Enterable, Finding};
 
 // Where a label's spelling stands in the source, and its address.
 #[repr(C)]
@@ -16,17 +14,31 @@ pub struct Label {
     pub address: u64,
 }
 
-// The search for a label among the first `count` entries of a table. The label is made a root where it has none.
-fn find(source: &[u8], table: &[Label], roots: &mut [u32], count: usize, label: Label) -> Search
+// Where a label that is not there would be entered: its entry, the entry that would lead to it and where that one stands, and its bucket.
+pub struct Gap {
+    pub(crate) bucket: usize,
+    pub(crate) entry: Label,
+    pub(crate) last: usize,
+    pub(crate) parent: Label,
+}
+
+// The index of the label that has a spelling, or that none has it.
+pub enum Found {
+    At(usize),
+    Missing(Gap),
+}
+
+// The label of a spelling among the first `count` entries of a table. Nothing is changed.
+pub fn find(source: &[u8], table: &[Label], roots: &[u32], count: usize, label: Label) -> Found
     requires { ⌜ Tree (now source) (now table) (now roots) count ⌝ ∗ ⌜ Enterable (now source) count label ⌝ }
-    ensures { λ r. ⌜ Searched (now (source .entry)) (now (table .entry)) (now (roots .entry)) count label (now (roots .exit)) r ⌝ }
+    ensures { λ r. ⌜ Finding (now (source .entry)) (now (table .entry)) (now (roots .entry)) count label r ⌝ }
 {
     let mut search = crate::tree::begin(source, roots, count, label);
     while search.more {
         let at = search.next;
         search = crate::tree::visit(source, search, table[at]);
     }
-    search
+    crate::tree::found(search)
 }
 
 // An entry stored at a place, where there is room; whether there was.
@@ -40,27 +52,36 @@ fn append(table: &mut [Label], at: usize, entry: Label) -> bool
     true
 }
 
-// A label entered behind `count` others: 4, 5.
+// What entering a label comes to: a new label is stored, or it is refused as a duplicate (4) or for want of room (5).
+pub enum Entered {
+    New,
+    Duplicate,
+    Full,
+}
+
+// Enters a label after `count` others. A refused label leaves everything as it was.
 pub fn enter(
     source: &[u8],
     table: &mut [Label],
     roots: &mut [u32],
     count: usize,
     label: Label,
-) -> Checked
+) -> Entered
     requires { ⌜ Tree (now source) (now table) (now roots) count ⌝ ∗ ⌜ Enterable (now source) count label ⌝ }
     ensures { λ r. ⌜ Enters (now (source .entry)) (unlinked count (now (table .entry))) count label (unlinked (countBehind count r) (now (table .exit))) r ⌝ ∗ ⌜ TreeBehind (now (source .entry)) (now (table .entry)) (now (roots .entry)) count label (now (table .exit)) (now (roots .exit)) r ⌝ }
 {
-    let search = find(source, table, roots, count, label);
-    if search.known {
-        return Checked::Refused(4);
-    }
-    if append(table, count, search.entry) {
+    let found = find(source, table, roots, count, label);
+    let gap = match found {
+        Found::At(_) => return Entered::Duplicate,
+        Found::Missing(gap) => gap,
+    };
+    if append(table, count, gap.entry) {
         // its parent leads to it (a root is stored again)
-        append(table, search.last, search.parent);
-        return Checked::Good;
+        append(table, gap.last, gap.parent);
+        crate::tree::plant(roots, gap.bucket, count);
+        return Entered::New;
     }
-    Checked::Refused(5)
+    Entered::Full
 }
 
 // The first `count` entries of a table are left as labels.

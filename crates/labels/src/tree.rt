@@ -6,7 +6,9 @@ ghost use Prim.Native.Nat.{_+_, _/_, _≤_, _<_};
 ghost use lib.ListN.{length};
 ghost use Rattle.spelling.specs.Bytes.{same};
 ghost use Rattle.labels.specs.Contracts.{InText, spelled};
-ghost use Rattle.labels.specs.Tree.{plain as plainOf, held as heldOf, link as linkOf, raised as raisedOf, linked as linkedOf, mixed, threeAt, hashOf, turned, hits as hitsOf, Rootable, slotOf, planted, startedAt, begun, endedAt, visited, Enterable, Visitable};
+ghost use Rattle.labels.specs.Tree.{plain as plainOf, held as heldOf, link as linkOf, raised as raisedOf, linked as linkedOf, mixed, threeAt, hashOf, turned, hits as hitsOf, Rootable, slotOf, plantedAt, startedAt, begun, foundOf, endedAt, visited, Enterable, Visitable};
+use crate::label::Found;
+use crate::label::Gap;
 use crate::label::Label;
 
 pub(crate) struct Digest {
@@ -22,9 +24,10 @@ pub(crate) struct Turns {
     pub(crate) used: usize,
 }
 
-// A spelling that is looked for. `entry` is that of its label, behind `count` others; `parent` is the entry that is to lead to
-// it, and stands at `last`: for a label that becomes a root, to which no entry leads, its own.
+// A spelling that is looked for, from the root of a hash bucket on. `entry` is that of its label, behind `count` others; `parent` is the
+// entry that is to lead to it, and stands at `last`: for a label that becomes a root, to which no entry leads, its own.
 pub(crate) struct Search {
+    pub(crate) bucket: usize,
     pub(crate) more: bool,
     pub(crate) known: bool,
     pub(crate) next: usize,
@@ -211,10 +214,18 @@ fn hits(source: &[u8], at: Label, key: usize, label: Label) -> bool
 }
 
 // A search that has come to no entry as yet.
-fn started(more: bool, next: usize, turns: Turns, count: usize, entry: Label) -> Search
-    ensures { λ r. ⌜ r ≡ startedAt more next turns count entry ⌝ }
+fn started(
+    bucket: usize,
+    more: bool,
+    next: usize,
+    turns: Turns,
+    count: usize,
+    entry: Label,
+) -> Search
+    ensures { λ r. ⌜ r ≡ startedAt bucket more next turns count entry ⌝ }
 {
     Search {
+        bucket,
         more,
         known: false,
         next,
@@ -234,11 +245,10 @@ fn slot(hash: Digest, places: usize) -> usize
     (hash.first % 4294967296) as usize * places / 4294967296
 }
 
-// The search for a label that is to be entered behind `count` others, from the entry before a root on. The label is the root of its
-// place where there is none.
-pub(crate) fn begin(source: &[u8], roots: &mut [u32], count: usize, label: Label) -> Search
+// The search for a label among `count` others, from the root of its bucket on.
+pub(crate) fn begin(source: &[u8], roots: &[u32], count: usize, label: Label) -> Search
     requires { ⌜ Enterable (now source) count label ⌝ ∗ ⌜ Rootable (now roots) ⌝ }
-    ensures { λ r. ⌜ r ≡ begun (now (source .entry)) (now (roots .entry)) count label ⌝ ∗ ⌜ now (roots .exit) ≡ planted (now (roots .entry)) count (spelled (now (source .entry)) label) ⌝ }
+    ensures { λ r. ⌜ r ≡ begun (now (source .entry)) (now (roots .entry)) count label ⌝ }
 {
     let hash = hash(source, label);
     let second = hash.second;
@@ -255,10 +265,19 @@ pub(crate) fn begin(source: &[u8], roots: &mut [u32], count: usize, label: Label
     let slot = slot(hash, roots.len());
     let root = roots[slot] as usize;
     if root == 0 {
-        roots[slot] = (count + 1) as u32;
-        return started(false, 0, turns, count, entry);
+        return started(slot, false, 0, turns, count, entry);
     }
-    started(true, root - 1, turns, count, entry)
+    started(slot, true, root - 1, turns, count, entry)
+}
+
+// An empty bucket gets a root: the label that is entered behind `count` others.
+pub(crate) fn plant(roots: &mut [u32], bucket: usize, count: usize)
+    requires { ⌜ bucket < length (now roots) ⌝ ∗ ⌜ count ≤ 1048576 ⌝ }
+    ensures { λ r. ⌜ now (roots .exit) ≡ plantedAt (now (roots .entry)) count bucket ⌝ }
+{
+    if roots[bucket] == 0 {
+        roots[bucket] = (count + 1) as u32;
+    }
 }
 
 // A search that has ended at an entry.
@@ -268,6 +287,7 @@ fn ended(search: Search, known: bool, parent: Label) -> Search
     let turns = search.turns;
     let entry = search.entry;
     Search {
+        bucket: search.bucket,
         more: false,
         known,
         next: search.next,
@@ -297,6 +317,7 @@ pub(crate) fn visit(source: &[u8], search: Search, at: Label) -> Search
         return ended(search, false, linked(at, way, count + 1));
     }
     Search {
+        bucket: search.bucket,
         more: true,
         known: false,
         next: to - 1,
@@ -306,4 +327,21 @@ pub(crate) fn visit(source: &[u8], search: Search, at: Label) -> Search
         last: search.next,
         parent: at,
     }
+}
+
+// What a search that has ended comes to.
+pub(crate) fn found(search: Search) -> Found
+    ensures { λ r. ⌜ r ≡ foundOf search ⌝ }
+{
+    if search.known {
+        return Found::At(search.next);
+    }
+    let entry = search.entry;
+    let parent = search.parent;
+    Found::Missing(Gap {
+        bucket: search.bucket,
+        entry,
+        last: search.last,
+        parent,
+    })
 }

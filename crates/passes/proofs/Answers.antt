@@ -101,10 +101,6 @@ module _ (s : List ℕ) (room : ℕ) {p : Pass} where
         at-end = λ f. rw (k .fault-is, k .rust-is, k .line-is) e;
       }
 
-  pub too-long : most-bytes < length s → Stops 1 0 0 0 p → Stands s room [] p
-  unfolding reading
-  too-long h k = begins-refused k (rw (reading, lt-leb (length s) most-bytes h))
-
   module _ (short : length s ≤ most-bytes) where
     pub high-byte : {line : ℕ} → run ascii s < length s → line ≡ length (lines (take (run ascii s) s)) → Stops 2 0 line 0 p → Stands s room [] p
     unfolding reading
@@ -133,9 +129,6 @@ reached-first s room c e short clean =
 
 -- What the walk begins with.
 module _ {s : List ℕ} {p : Pass} where
-  pub begins-long : most-bytes < length s → Stops 1 0 0 0 p → Begins s p
-  begins-long h k = record { stands = λ room. too-long s room h k; sound = λ g. found-not (sym g ∙ k .not-found) }
-
   module _ (short : length s ≤ most-bytes) where
     pub begins-high : {line : ℕ} → run ascii s < length s → line ≡ length (lines (take (run ascii s) s)) → Stops 2 0 line 0 p → Begins s p
     begins-high h e k = record { stands = λ room. high-byte s room short h e k; sound = λ g. found-not (sym g ∙ k .not-found) }
@@ -217,3 +210,11 @@ stands-answers {s} {room} {ls} {p} {old} {new} {r} t f h = go (p .fault) refl
                 let x = rw (← w, q, ← w, t .count, ← l) at (fills .answer) in
                 let y = rw (← w, q) at (fills .holds) in
                 record { answer = x ∙ ap answerOf (sym a); image-holds = y ∙ ap (λ (z : Assembled). imageAfter present s z old) (sym a); labels-are = sym l ∙ ap entered (sym a) }
+
+-- A source that is too long.
+pub overlong-answers : (s : List ℕ) (room : ℕ) (old : List ℕ) → most-bytes < length s → Answers s room [] old old (Refused 1 0 0 0)
+unfolding reading assembling fitted refusing answerOf entered imageAfter
+overlong-answers s room old h =
+    let e : reading present s room ≡ refusing 1 0 0 [] none = rw (reading, lt-leb (length s) most-bytes h) in
+    let a : assembling present s room (length old) ≡ refusing 1 0 0 [] none = ap (fitted (length old)) e in
+    record { answer = ap answerOf (sym a); image-holds = ap (λ (z : Assembled). imageAfter present s z old) (sym a); labels-are = ap entered (sym a) }

@@ -25,6 +25,7 @@ use Rattle.image.specs.declared.config.Config.{Config}
 use Rattle.image.specs.declared.config.Checked.{Checked}
 use Rattle.image.specs.declared.config.Checked.the-variants.{Good, Refused}
 use Rattle.labels.specs.Contracts.{spelled, entryFault}
+use Rattle.labels.specs.declared.label.Entered.the-variants.{New, Duplicate, Full}
 use Rattle.passes.specs.Contracts.{effectAt, labelStep, onward, Comes, whole, Clean, Reached, behindLine, AtLabel, Stands, Sound, Stops, Ends, labelledPass, ScanFrom, Scans, labelAt, GoesOn}
 use Rattle.passes.specs.declared.first_pass.Pass.{Pass}
 use Rattle.passes.specs.declared.first_pass.Step.{Step as Stepped}
@@ -338,8 +339,8 @@ module _ {s : List ℕ} {p : Pass} {room : ℕ} {ls : List Meant} (stood : Stand
 -- ---- going on
 
 module _ {s : List ℕ} {p r : Pass} where
-  pub goes-refused : {n : ℕ} → Stops n (rustLine n (p .line)) (p .line) (p .labels) r → GoesOn s p (Refused n) r
-  goes-refused k =
+  pub goes-duplicate : Stops 4 (rustLine 4 (p .line)) (p .line) (p .labels) r → GoesOn s p Duplicate r
+  goes-duplicate k =
       record {
         stands = λ room ls t f e. label-refused t f e k;
         sound = λ g. found-not (sym g ∙ k .not-found);
@@ -347,7 +348,16 @@ module _ {s : List ℕ} {p r : Pass} where
         entered = λ g. found-not (sym g ∙ k .not-found);
       }
 
-  pub goes-stop : {n : ℕ} → p .fault ≡ Refused n → Stops n (rustLine n (p .line)) (p .line) (p .labels + 1) r → GoesOn s p Good r
+  pub goes-full : Stops 5 (rustLine 5 (p .line)) (p .line) (p .labels) r → GoesOn s p Full r
+  goes-full k =
+      record {
+        stands = λ room ls t f e. label-refused t f e k;
+        sound = λ g. found-not (sym g ∙ k .not-found);
+        behind = λ g. found-not (sym g ∙ k .not-found);
+        entered = λ g. found-not (sym g ∙ k .not-found);
+      }
+
+  pub goes-stop : {n : ℕ} → p .fault ≡ Refused n → Stops n (rustLine n (p .line)) (p .line) (p .labels + 1) r → GoesOn s p New r
   goes-stop h k =
       record {
         stands = λ room ls t f e. behind-refused t f e h k;
@@ -357,7 +367,7 @@ module _ {s : List ℕ} {p r : Pass} where
       }
 
   module _ (h : p .fault ≡ Good) where
-    pub goes-end : length s ≤ p .end → Ends (p .labels + 1) (p .words) (p .config) r → GoesOn s p Good r
+    pub goes-end : length s ≤ p .end → Ends (p .labels + 1) (p .words) (p .config) r → GoesOn s p New r
     goes-end z k =
         record {
           stands = λ room ls t f e. behind-end t f e h z k;
@@ -366,7 +376,7 @@ module _ {s : List ℕ} {p r : Pass} where
           entered = λ g. refl;
         }
 
-    pub goes-scan : p .end < length s → Scans s (p .end + 1) (p .line + 1) (p .labels + 1) (p .words) (settingsMeant (p .config)) r → GoesOn s p Good r
+    pub goes-scan : p .end < length s → Scans s (p .end + 1) (p .line + 1) (p .labels + 1) (p .words) (settingsMeant (p .config)) r → GoesOn s p New r
     goes-scan z k =
         record {
           stands = λ room ls t f e. k .stands room (ls ++ (labelAt s p ∷ [])) (named-count t f e) (behind-on t f e h z);

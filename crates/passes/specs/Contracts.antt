@@ -25,7 +25,9 @@ use Rattle.image.specs.Contracts.{settingsMeant, faultMeant, recordMeant}
 use Rattle.image.specs.declared.config.Config.{Config}
 use Rattle.image.specs.declared.config.Checked.{Checked}
 use Rattle.image.specs.declared.config.Checked.the-variants.{Good, Refused as RefusedCheck}
-use Rattle.labels.specs.Contracts.{InText, spelled, entryFault}
+use Rattle.labels.specs.Contracts.{InText, spelled, entryFault, enteredMeant}
+use Rattle.labels.specs.declared.label.Entered.{Entered}
+use Rattle.labels.specs.declared.label.Entered.the-variants.{New, Duplicate, Full}
 use Rattle.passes.specs.declared.first_pass.Pass.{Pass}
 use Rattle.passes.specs.declared.second_pass.Assembled.{Assembled}
 use Rattle.passes.specs.declared.second_pass.Assembled.the-variants.{Is as IsAssembled, Refused, TooShort}
@@ -276,22 +278,23 @@ pub record Begins (s : List ℕ) (p : Pass) : Type 0 where
   pub sound : p .found ≡ true → Sound s p
 
 -- The labels behind an attempt to enter one.
-abbrev pub withEntry : Checked → List Meant → Meant → List Meant
-withEntry Good ls l = ls ++ (l ∷ [])
-withEntry (RefusedCheck n) ls l = ls
+abbrev pub withEntry : Entered → List Meant → Meant → List Meant
+withEntry New ls l = ls ++ (l ∷ [])
+withEntry Duplicate ls l = ls
+withEntry Full ls l = ls
 
 -- The label that a pass stands at.
 abbrev pub labelAt : List ℕ → Pass → Meant
 labelAt s p = record { spelling = spelled s (p .label); start = p .label .start; address = p .label .address }
 
 -- The walk behind a label, as document 01 has it entered: "4 duplicate label; 5 new label, table full".
-pub record GoesOn (s : List ℕ) (p : Pass) (e : Checked) (r : Pass) : Type 0 where
+pub record GoesOn (s : List ℕ) (p : Pass) (e : Entered) (r : Pass) : Type 0 where
   pub stands : (room : ℕ) (ls : List Meant) → Stands s room ls p → p .found ≡ true
-      → faultMeant e ≡ entryFault (isKnown ls (spelled s (p .label))) (ltb (length ls) room) → Stands s room (withEntry e ls (labelAt s p)) r
+      → enteredMeant e ≡ entryFault (isKnown ls (spelled s (p .label))) (ltb (length ls) room) → Stands s room (withEntry e ls (labelAt s p)) r
   pub sound : r .found ≡ true → Sound s r
   pub behind : r .found ≡ true → p .line < r .line
   -- behind a refused label there is no other
-  pub entered : r .found ≡ true → e ≡ Good
+  pub entered : r .found ≡ true → e ≡ New
 
 -- ---- the second walk
 
@@ -331,6 +334,10 @@ abbrev pub answerMeant : Assembled → Answer
 answerMeant (IsAssembled words labels c) = assembled words labels (settingsMeant c)
 answerMeant (Refused n rust line labels) = refusalAnswer n rust line labels none
 answerMeant (TooShort labels needed) = refusalAnswer 23 0 0 labels (some needed)
+
+-- "1 source over 1,048,576 bytes": "1 and 23 give both as 0".
+abbrev pub overlong : Assembled
+overlong = Refused 1 0 0 0
 
 -- The answer for such a source, with an image buffer, and what the buffer holds afterwards.
 pub record Fills (s : List ℕ) (words labels : ℕ) (setup : Settings) (old new : List ℕ) (r : Assembled) : Type 0 where

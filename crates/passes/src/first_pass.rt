@@ -3,8 +3,9 @@
 ghost use mathlib.Core.Path.{_≡_};
 ghost use Prim.Native.Nat.{_≤_};
 ghost use lib.ListN.{length, take};
+ghost use lib.Dec.{ltb};
 ghost use Rattle.text.specs.Lines.{lines};
-ghost use Rattle.image.specs.Assembling.{rustLine};
+ghost use Rattle.image.specs.Assembling.{rustLine, most-bytes};
 ghost use Rattle.image.specs.Contracts.{settingsMeant};
 ghost use Rattle.labels.specs.Contracts.{noLabel};
 ghost use Rattle.passes.specs.Contracts.{Tables, wordFault, stepAfter, Sound, Stops, Ends, labelledPass, ScanFrom, Scans, Begins, GoesOn};
@@ -12,6 +13,7 @@ use crate::line::Effect;
 use crate::line::Read;
 use image::config::Checked;
 use image::config::Config;
+use labels::label::Entered;
 use labels::label::Label;
 
 // Where the first walk stands: at a line whose label is to be entered, or at its end.
@@ -248,14 +250,18 @@ fn at_label(step: Step, words: usize, line: usize, labels: usize) -> Pass
     }
 }
 
-// The walk from a source's first line to the first label or the end: 1, 2, then the lines.
+// Whether a source is refused for its length (1). This is asked before anything else is done for it.
+pub fn too_long(source: &[u8]) -> bool
+    ensures { λ r. ⌜ r ≡ ltb most-bytes (length (now (source .entry))) ⌝ }
+{
+    1048576 < source.len()
+}
+
+// The walk from a source's first line to the first label or the end: 2, then the lines.
 pub fn begin(source: &[u8], mnemonics: &[u64; 50], forms: &[u8; 50], slots: &[u8; 293]) -> Pass
-    requires { ⌜ Tables (now mnemonics) (now forms) (now slots) ⌝ }
+    requires { ⌜ Tables (now mnemonics) (now forms) (now slots) ⌝ ∗ ⌜ length (now source) ≤ most-bytes ⌝ }
     ensures { λ r. ⌜ Begins (now (source .entry)) r ⌝ }
 {
-    if 1048576 < source.len() {
-        return stopped(1, 0, 0, 0);
-    }
     let clean = spelling::bytes::ascii_end(source, 0);
     if clean < source.len() {
         return stopped(2, 0, line_number(source, clean), 0);
@@ -267,7 +273,7 @@ pub fn begin(source: &[u8], mnemonics: &[u64; 50], forms: &[u8; 50], slots: &[u8
 pub fn go_on(
     source: &[u8],
     pass: Pass,
-    entered: Checked,
+    entered: Entered,
     mnemonics: &[u64; 50],
     forms: &[u8; 50],
     slots: &[u8; 293],
@@ -276,8 +282,10 @@ pub fn go_on(
     ensures { λ r. ⌜ GoesOn (now (source .entry)) pass entered r ⌝ }
 {
     let line = pass.line;
-    if let Checked::Refused(number) = entered {
-        return stopped_at(number, line, pass.labels);
+    match entered {
+        Entered::Duplicate => return stopped_at(4, line, pass.labels),
+        Entered::Full => return stopped_at(5, line, pass.labels),
+        Entered::New => {}
     }
     let labels = pass.labels + 1;
     let fault = pass.fault;

@@ -9,7 +9,7 @@ ghost use Rattle.instruction.specs.Contracts.{opcodeNumbers, formNumbers, parts
 ghost use Rattle.coding.specs.Contracts.{Written};
 ghost use Rattle.image.specs.Contracts.{settingsMeant};
 ghost use Rattle.image.specs.declared.config.Checked.the-variants.{Good};
-ghost use Rattle.passes.specs.Contracts.{Tables, codedMeant, CodesLine, Readable, codeBytes, Ready, Fills, Finishes};
+ghost use Rattle.passes.specs.Contracts.{Tables, codedMeant, CodesLine, Readable, codeBytes, Ready, overlong as overlongAnswer, Fills, Finishes};
 use crate::first_pass::Pass;
 use crate::line::Effect;
 use image::config::Checked;
@@ -157,6 +157,18 @@ fn write_image(
         words,
         labels,
         config,
+    }
+}
+
+// The answer for a source that is too long.
+pub fn overlong() -> Assembled
+    ensures { λ r. ⌜ r ≡ overlongAnswer ⌝ }
+{
+    Assembled::Refused {
+        number: 1,
+        rust_line: 0,
+        line: 0,
+        labels: 0,
     }
 }
 

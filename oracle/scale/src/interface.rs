@@ -90,15 +90,6 @@ extern "C" {
         image_length: usize,
         answer: *mut u64,
     ) -> c_uint;
-    fn zkasm_assemble_long(
-        source: *const u8,
-        source_length: usize,
-        table: *mut Label,
-        table_length: usize,
-        image: *mut u8,
-        image_length: usize,
-        answer: *mut u64,
-    ) -> c_uint;
     fn zkasm_open(image: *const u8, image_length: usize, answer: *mut u64) -> c_uint;
     fn zkasm_list(
         image: *const u8,
@@ -114,8 +105,6 @@ pub struct Exported {
     answer: Lent<u64>,
     /// Where the next answer is lent.
     place: Place,
-    /// Whether the function that is made for long sources assembles, whatever their length.
-    pub long: bool,
 }
 
 impl Default for Exported {
@@ -123,7 +112,6 @@ impl Default for Exported {
         Exported {
             answer: Lent::new(1, |place| !(place as u64)),
             place: Place::Front,
-            long: false,
         }
     }
 }
@@ -152,13 +140,9 @@ impl Exported {
 // the answer has as many fields as the header says.
 impl Interface for Exported {
     fn assemble(&mut self, source: &[u8], table: &mut [Label], image: &mut [u8]) -> Told<8> {
-        let assemble = match self.long {
-            true => zkasm_assemble_long,
-            false => zkasm_assemble,
-        };
         let (entries, bytes) = (table.as_mut_ptr(), image.as_mut_ptr());
         self.answered(|answer| unsafe {
-            assemble(
+            zkasm_assemble(
                 source.as_ptr(),
                 source.len(),
                 entries,

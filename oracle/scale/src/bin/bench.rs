@@ -16,8 +16,7 @@ use zkasm::Label;
 
 const KB: usize = 1024;
 
-/// The lengths that are timed: each row stands against the second, and takes as much as the last. From
-/// 64 KB on a function of its own assembles.
+/// The lengths that are timed: each row stands against the second, and takes as much as the last.
 const SOURCES: [usize; 5] = [KB, 16 * KB, 63 * KB, 256 * KB, 1024 * KB];
 const CODE: [usize; 3] = [KB, 16 * KB, 128 * KB];
 

@@ -19,7 +19,7 @@ use scale::large;
 use scale::lengths::{about, more};
 use scale::tally::Call;
 
-/// From this length on a function of its own assembles a source.
+/// A long source: its labels share hash buckets.
 const LONG: usize = 65_536;
 
 /// Sources of one kind.
@@ -31,7 +31,7 @@ struct Group {
 
 struct Run {
     desk: Desk<Crate>,
-    /// Asked for some of the sources, by both functions that assemble.
+    /// Asked for some of the sources.
     exported: Desk<Exported>,
     groups: Vec<Group>,
     differences: Differences,
@@ -129,7 +129,7 @@ impl Run {
         }
     }
 
-    /// Sources about the length from which a function of its own assembles them, and longer ones.
+    /// Long sources.
     fn long_sources(&mut self, seeds: Range<u64>) {
         for kind in large::KINDS {
             self.begin(format!("{}, about 64 KB and more", kind.name));
@@ -227,21 +227,21 @@ fn compare(desk: &mut Desk<Crate>, source: &[u8], rng: &mut Rng) -> Result<bool,
     Ok(true)
 }
 
-/// What differs if both exported functions are asked, for one source in eight and every long one.
+/// What differs if the exported function is asked, for one source in eight and every long one: with
+/// room for all, and with about as much.
 fn ask_exported(desk: &mut Desk<Exported>, source: &[u8], rng: &mut Rng) -> Result<(), Difference> {
     if source.len() < LONG - 1 && rng.below(8) > 0 {
         return Ok(());
     }
     let asked = Asked::new(source);
     let (labels, length) = enough(&asked);
-    for long in [false, true] {
-        desk.interface.long = long;
-        let (table, room) = match rng.percent(50) {
+    for enough in [true, false] {
+        let (table, room) = match enough {
             true => (labels + more(rng), length + more(rng)),
             false => (about(rng, labels), about(rng, length)),
         };
         desk.assemble(&asked, table, room)
-            .map_err(|difference| format!("exported, long: {long}: {difference}"))?;
+            .map_err(|difference| format!("exported: {difference}"))?;
     }
     Ok(())
 }

@@ -65,7 +65,6 @@ fn case(desk: &mut Desk<Exported>, seed: u64, differences: &mut Differences) {
     use Place::{Back, Front, Middle};
     let mut rng = Rng::new(seed);
     desk.places = [(); 3].map(|()| rng.pick(&[Front, Front, Back, Back, Middle]));
-    desk.interface.long = rng.percent(50);
     let (kind, input, compared) = if rng.percent(60) {
         let source = hostile::source(&mut rng);
         let compared = assemble(desk, &source, &mut rng);

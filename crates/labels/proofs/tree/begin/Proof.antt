@@ -9,7 +9,7 @@ use Rattle.labels.specs.declared.tree.Digest.{Digest}
 use Rattle.labels.specs.Contracts.{spelled}
 use Rattle.labels.specs.Tree.{hashOf, firstTurns, keyOf, entryFor, slotOf, rootOf}
 use Rattle.labels.proofs.Named.{spelled-long}
-use Rattle.labels.proofs.Roots.{planted-empty, planted-same, begun-none, begun-some}
+use Rattle.labels.proofs.Roots.{begun-none, begun-some}
 use Rattle.labels.proofs.tree.begin.Statement.{statement}
 use Rattle.labels.proofs.tree.begin.Tie as tie
 
@@ -34,29 +34,14 @@ slot-requires c κs = search needs
 mul-root : tie.Need-mul-root
 mul-root c = search needs
 
-slice-read-root : tie.Need-slice-read-root
-slice-read-root c = search needs
+shared-slice-read-root : tie.Need-shared-slice-read-root
+shared-slice-read-root c = search needs
 
 cast-root : tie.Need-cast-root
-cast-root c = omega (arith, c .slice-known2 .given (c .before .slot .result))
-
-add-roots : tie.Need-add-roots
-add-roots c = search needs
-
-cast-roots : tie.Need-cast-roots
-cast-roots c = search needs
-
-mul-roots : tie.Need-mul-roots
-mul-roots c = search needs
-
-slice-write-roots : tie.Need-slice-write-roots
-slice-write-roots c = search needs
+cast-root c = omega (arith, c .shared-slice-known3 .given (c .before .slot .result))
 
 started-requires : tie.Need-started-requires
 started-requires c κs = search needs
-
-same-length : tie.Need-same-length
-same-length c = search needs
 
 returns : tie.Need-returns
 unfolding firstTurns keyOf entryFor
@@ -67,10 +52,8 @@ returns c =
     let roots : List ℕ = k .args .roots .now in
     let u : List ℕ = spelled (k .args .source .now) (k .args .label) in
     let at : f .slot .result ≡ slotOf (hashOf u) (length roots) = f .slot .ensures .0 ∙ ap (λ (d : Digest). slotOf d (length roots)) (h .ensures) in
-    let none : rootOf roots u ≡ 0 = ap (λ (i : ℕ). getD roots i 0) (sym at) ∙ c .before .if1 .taken in (
-      rw (begun-none (k .args .source .now) roots (k .args .count) (k .args .label) none, c .started .ensures, h .ensures, spelled-long (k .args .source .now) (k .args .label) (k .pre .0 .in-text)),
-      ap (λ (i : ℕ). set roots i (k .args .count + 1)) at ∙ sym (planted-empty roots (k .args .count) u none),
-    )
+    let none : rootOf roots u ≡ 0 = ap (λ (i : ℕ). getD roots i 0) (sym at) ∙ c .before .if1 .taken in
+    rw (begun-none (k .args .source .now) roots (k .args .count) (k .args .label) none, c .started .ensures, h .ensures, spelled-long (k .args .source .now) (k .args .label) (k .pre .0 .in-text), ← at)
 
 sub-started : tie.Need-sub-started
 sub-started c = search needs
@@ -89,10 +72,8 @@ returns-2 c =
     let at : f .slot .result ≡ slotOf (hashOf u) (length roots) = f .slot .ensures .0 ∙ ap (λ (d : Digest). slotOf d (length roots)) (h .ensures) in
     let root : ℕ = getD roots (f .slot .result) 0 in
     let same : rootOf roots u ≡ root = ap (λ (i : ℕ). getD roots i 0) (sym at) in
-    let one : root ≡ suc (root - 1) = omega (arith, c .before .if1 .left) in (
-      rw (begun-some (k .args .source .now) roots (k .args .count) (k .args .label) (root - 1) (same ∙ one), c .started2 .ensures, h .ensures, spelled-long (k .args .source .now) (k .args .label) (k .pre .0 .in-text)),
-      sym (planted-same roots (k .args .count) u (λ e. c .before .if1 .left (sym same ∙ e))),
-    )
+    let one : root ≡ suc (root - 1) = omega (arith, c .before .if1 .left) in
+    rw (begun-some (k .args .source .now) roots (k .args .count) (k .args .label) (root - 1) (same ∙ one), c .started2 .ensures, h .ensures, spelled-long (k .args .source .now) (k .args .label) (k .pre .0 .in-text), ← at)
 
 pub begin-spec : {M : Type 1} → statement M
 begin-spec =
@@ -105,14 +86,9 @@ begin-spec =
     add-t18
     slot-requires
     mul-root
-    slice-read-root
+    shared-slice-read-root
     cast-root
-    add-roots
-    cast-roots
-    mul-roots
-    slice-write-roots
     started-requires
-    same-length
     returns
     sub-started
     started-requires-2

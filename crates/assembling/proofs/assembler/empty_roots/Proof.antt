@@ -1,0 +1,11 @@
+-- `assembling::assembler::empty_roots` meets its contract.
+use lib.Dec.{lit<, lit≤}
+use Rattle.assembling.proofs.Bare.{bare}
+use Rattle.assembling.proofs.assembler.empty_roots.Statement.{statement}
+use Rattle.assembling.proofs.assembler.empty_roots.Tie as tie
+
+returns : tie.Need-returns
+returns c = bare 4096 (lit< tt) (lit≤ tt)
+
+pub empty-roots-spec : {M : Type 1} → statement M
+empty-roots-spec = tie.close (tie.spec returns)
