@@ -12,7 +12,7 @@ use mathlib.Core.List.{List, [], _∷_}
 use lib.Dec.{ltb, eqb}
 use lib.ListN.{length, take, getD, set, length-take, length-set}
 use lib.Seq.{getD-take, getD-set-same, getD-set-other, set-out, ext-getD}
-use borrow.Author.Tests.{eqb-true, eqb-false, eq-eqb, ltb-true, ltb-false}
+use borrow.Author.Tests.{eqb-true, eqb-false, eq-eqb, ne-eqb, ltb-true, ltb-false}
 use Rattle.spelling.specs.Bytes.{same, isSome}
 use Rattle.spelling.proofs.Tests.{by-test, no-both, both, and-both, split}
 use Rattle.spelling.proofs.Strings.{same-eq, eq-same}
@@ -24,7 +24,7 @@ use Rattle.labels.specs.declared.label.Gap.{Gap}
 use Rattle.labels.specs.declared.label.Found.{Found}
 use Rattle.labels.specs.declared.label.Found.the-variants.{At, Missing}
 use Rattle.labels.specs.Contracts.{InText, spelled, noLabel, anyNamed, indexOf, Enters}
-use Rattle.labels.specs.Tree.{plain, unlinked, held, link, raised, linked, hashOf, firstTurns, turned, wayOf, keyOf, entryFor, hits, slotOf, rootOf, plantedAt, planted, begunAt, begun, visited, gapOf, foundOf, Finds, here, there, Rootable, Tree, TreeBehind, Enterable, joined, Gaps, Finding, Visitable}
+use Rattle.labels.specs.Tree.{plain, unlinked, held, link, raised, linked, hashOf, firstTurns, turned, wayOf, keyOf, entryFor, hits, slotOf, rootOf, plantedAt, planted, span, begunAt, begun, visited, gapOf, foundOf, Finds, here, there, Rootable, Tree, TreeBehind, Enterable, joined, addressed, Gaps, Finding, Visitable}
 use Rattle.labels.proofs.Hashing.{slot-inside, parity, held-odd, raised-odd, held-even, raised-even, link-low, linked-low, link-high, linked-high, visited-hit, visited-last, visited-on}
 use Rattle.labels.proofs.Roots.{planted-long, planted-new, planted-kept, planted-rooted}
 use Rattle.labels.proofs.Named.{spelled-long, index-at, index-none, any-index, enters-known, enters-new, enters-full}
@@ -518,34 +518,75 @@ module _ (s : List ℕ) (t : List Label) (roots : List ℕ) (n : ℕ) (l : Label
               at : (i : ℕ) → getD (unlinked (suc n) t′) i noLabel ≡ getD (set (unlinked n t) n l) i noLabel
               at i = split i (suc n) (upto i) (λ h. unlinked-past (suc n) t′ i h ∙ m .later i (omega arith) ∙ sym (getD-set-other (unlinked n t) n i l noLabel (λ x. omega arith) ∙ unlinked-past n t i (omega arith)))
 
-      pub seek-end : Finding s t roots n l (foundOf q)
-      unfolding foundOf
-      seek-end = by-test (q .known) at missing
-        where
-          at : q .known ≡ true → Finding s t roots n l (foundOf q)
-          at y = rw (foundOf, y) (record { index-is = sym (index-there y); gap = λ g e. absurd (found-at e) })
+      -- What the search comes to then.
+      gap-is : q .known ≡ false → Gaps s t roots n l (gapOf q)
+      gap-is y =
+          record {
+            bucket-is = k .bucket-is;
+            tree = λ room. is-tree y room (joins y room (k .is-lost ended y));
+            holds = λ room. holds y room (joins y room (k .is-lost ended y));
+          }
 
-          missing : q .known ≡ false → Finding s t roots n l (foundOf q)
-          missing y = rw (foundOf, y) (record {
-            index-is = sym (index-missing y);
-            gap = λ g e. subst (Gaps s t roots n l) (gap-same e) (record {
-              bucket-is = k .bucket-is;
-              tree = λ room. is-tree y room (joins y room (k .is-lost ended y));
-              holds = λ room. holds y room (joins y room (k .is-lost ended y));
-            });
-          })
+-- A search for a part of the source is one for a label there, at whatever address.
+module _ (s : List ℕ) (t : List Label) (roots : List ℕ) (n start long a : ℕ) (q : Search) where
+  abbrev labelled : Label
+  labelled = record { start = start; length = long; address = a }
+
+  abbrev moved : Search
+  moved =
+      let g : Gap = addressed (gapOf q) n a in
+      record { bucket = q .bucket; more = q .more; known = q .known; next = q .next; turns = q .turns; count = q .count; entry = g .entry; last = q .last; parent = g .parent }
+
+  seeking-moved : Seeking s t roots n (span start long) q → Seeking s t roots n labelled moved
+  unfolding addressed entryFor
+  seeking-moved k =
+      record {
+        bucket-is = k .bucket-is;
+        entry-is = entry-same;
+        count-is = k .count-is;
+        at-entry = λ more. record { inside = k .at-entry more .inside; way = k .at-entry more .way };
+        is-known = k .is-known;
+        is-lost = λ more known. lost (k .is-lost more known);
+      }
+    where
+      entry-same : moved .entry ≡ entryFor (spelled s labelled) labelled
+      entry-same = ap (λ (e : Label). record { start = e .start; length = e .length; address = a }) (k .entry-is)
+
+      lost : Lost s t roots n (span start long) q → Lost s t roots n labelled moved
+      lost (none-there f g h) = none-there f g (rw (addressed, eq-eqb (q .last) n g) entry-same)
+      lost (behind z inside w miss f g) = behind z inside w miss f (rw (addressed, ne-eqb (q .last) n (λ e. omega arith)) g)
+
+-- What a search that has ended comes to.
+module _ (s : List ℕ) (t : List Label) (roots : List ℕ) (n start long : ℕ) (tree : Tree s t roots n) (ok : Enterable s n (span start long)) (q : Search) (k : Seeking s t roots n (span start long) q) where
+  pub seek-end : q .more ≡ false → Finding s t roots n start long (foundOf q)
+  unfolding foundOf addressed
+  seek-end ended = by-test (q .known) at missing
+    where
+      at : q .known ≡ true → Finding s t roots n start long (foundOf q)
+      at y = rw (foundOf, y) (record { index-is = sym (index-there s t roots n (span start long) tree ok q k ended y); gap = λ g e. absurd (found-at e) })
+
+      placed : q .known ≡ false → (a : ℕ) → a < 2097152 → Gaps s t roots n (record { start = start; length = long; address = a }) (addressed (gapOf q) n a)
+      placed y a h =
+          gap-is s t roots n (record { start = start; length = long; address = a }) tree (record { in-text = ok .in-text; short = ok .short; few = ok .few; near = h })
+          (moved s t roots n start long a q) (seeking-moved s t roots n start long a q k) ended y
+
+      missing : q .known ≡ false → Finding s t roots n start long (foundOf q)
+      missing y = rw (foundOf, y) (record {
+        index-is = sym (index-missing s t roots n (span start long) tree ok q k ended y);
+        gap = λ g e a h. subst (λ (x : Gap). Gaps s t roots n (record { start = start; length = long; address = a }) (addressed x n a)) (gap-same e) (placed y a h);
+      })
 
 -- ---- a label is entered
 
 module _ {s : List ℕ} {t : List Label} {roots : List ℕ} {n : ℕ} {l : Label} where
-  module _ {i : ℕ} (x : Finding s t roots n l (At i)) where
+  module _ {i : ℕ} (x : Finding s t roots n (l .start) (l .length) (At i)) where
     pub enter-known : Enters s (unlinked n t) n l (unlinked n t) Duplicate
     unfolding isSome
     enter-known = enters-known s (unlinked n t) n l (any-index s (spelled s l) (take n (unlinked n t)) ∙ ap isSome (sym (x .index-is)))
 
-  module _ {g : Gap} (x : Finding s t roots n l (Missing g)) where
+  module _ {bare : Gap} (x : Finding s t roots n (l .start) (l .length) (Missing bare)) (near : l .address < 2097152) {g : Gap} (made : g ≡ addressed bare n (l .address)) where
     gaps : Gaps s t roots n l g
-    gaps = x .gap g refl
+    gaps = subst (Gaps s t roots n l) (sym made) (x .gap bare refl (l .address) near)
 
     unnamed : anyNamed s (take n (unlinked n t)) (spelled s l) ≡ false
     unfolding isSome

@@ -131,6 +131,10 @@ pub record Bare (roots : List ℕ) : Type 0 where
 
 -- ---- searches
 
+-- A part of a source, as a label that has no address as yet.
+abbrev pub span : ℕ → ℕ → Label
+span start n = record { start = start; length = n; address = 0 }
+
 -- The entry of a label of a spelling.
 unfoldable pub entryFor : List ℕ → Label → Label
 entryFor u l = record { start = l .start; length = keyOf u; address = l .address }
@@ -217,6 +221,12 @@ pub record Enterable (s : List ℕ) (n : ℕ) (l : Label) : Type 0 where
 abbrev pub joined : List Label → ℕ → Gap → List Label
 joined t n g = set (set t n (g .entry)) (g .last) (g .parent)
 
+-- A gap with an address for the label's entry: it is its own parent where no entry leads to it.
+unfoldable pub addressed : Gap → ℕ → ℕ → Gap
+addressed g n a =
+    let e : Label = record { start = g .entry .start; length = g .entry .length; address = a } in
+    record { bucket = g .bucket; entry = e; last = g .last; parent = elim (eqb (g .last) n) [ true ↦ e | false ↦ g .parent ] }
+
 -- Where a label that is not among n others would be entered: what a table becomes then.
 pub record Gaps (s : List ℕ) (t : List Label) (roots : List ℕ) (n : ℕ) (l : Label) (g : Gap) : Type 0 where
   pub bucket-is : g .bucket ≡ slotOf (hashOf (spelled s l)) (length roots)
@@ -227,10 +237,11 @@ abbrev pub indexMeant : Found → Option ℕ
 indexMeant (At i) = some i
 indexMeant (Missing g) = none
 
--- The label of a spelling, looked for among n: which of them has it; or none, and where it would be entered.
-pub record Finding (s : List ℕ) (t : List Label) (roots : List ℕ) (n : ℕ) (l : Label) (r : Found) : Type 0 where
-  pub index-is : indexMeant r ≡ indexOf s (take n (unlinked n t)) (spelled s l)
-  pub gap : (g : Gap) → r ≡ Missing g → Gaps s t roots n l g
+-- The label that is spelled as a part of a source, looked for among n: which of them it is; or none, and where it would be entered at an
+-- address.
+pub record Finding (s : List ℕ) (t : List Label) (roots : List ℕ) (n start long : ℕ) (r : Found) : Type 0 where
+  pub index-is : indexMeant r ≡ indexOf s (take n (unlinked n t)) (spelled s (span start long))
+  pub gap : (g : Gap) → r ≡ Missing g → (a : ℕ) → a < 2097152 → Gaps s t roots n (record { start = start; length = long; address = a }) (addressed g n a)
 
 -- What a search asks of an entry that it has come to.
 pub record Visitable (s : List ℕ) (q : Search) (e : Label) : Type 0 where

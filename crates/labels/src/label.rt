@@ -4,7 +4,7 @@ ghost use Prim.Native.Nat.{_≤_};
 ghost use lib.ListN.{length, set};
 ghost use lib.Dec.{ltb};
 ghost use Rattle.labels.specs.Contracts.{countBehind, Enters};
-ghost use Rattle.labels.specs.Tree.{unlinked, Tree, TreeBehind, Enterable, Finding};
+ghost use Rattle.labels.specs.Tree.{unlinked, span, Tree, TreeBehind, Enterable, Finding};
 
 // Where a label's spelling stands in the source, and its address.
 #[repr(C)]
@@ -14,7 +14,8 @@ pub struct Label {
     pub address: u64,
 }
 
-// Where a label that is not there would be entered: its entry, the entry that would lead to it and where that one stands, and its bucket.
+// Where a label that is not there would be entered: its entry, without an address, the entry that would lead to it and where that one
+// stands, and its bucket.
 pub struct Gap {
     pub(crate) bucket: usize,
     pub(crate) entry: Label,
@@ -28,12 +29,20 @@ pub enum Found {
     Missing(Gap),
 }
 
-// The label of a spelling among the first `count` entries of a table. Nothing is changed.
-pub fn find(source: &[u8], table: &[Label], roots: &[u32], count: usize, label: Label) -> Found
-    requires { ⌜ Tree (now source) (now table) (now roots) count ⌝ ∗ ⌜ Enterable (now source) count label ⌝ }
-    ensures { λ r. ⌜ Finding (now (source .entry)) (now (table .entry)) (now (roots .entry)) count label r ⌝ }
+// Finds the label that is spelled as a part of the source, among the first `count` entries of a table. Nothing is changed. The part is
+// given by two numbers, since a label would be passed through memory.
+pub fn find(
+    source: &[u8],
+    table: &[Label],
+    roots: &[u32],
+    count: usize,
+    start: usize,
+    length: usize,
+) -> Found
+    requires { ⌜ Tree (now source) (now table) (now roots) count ⌝ ∗ ⌜ Enterable (now source) count (span start «length») ⌝ }
+    ensures { λ r. ⌜ Finding (now (source .entry)) (now (table .entry)) (now (roots .entry)) count start «length» r ⌝ }
 {
-    let mut search = crate::tree::begin(source, roots, count, label);
+    let mut search = crate::tree::begin(source, roots, count, start, length);
     while search.more {
         let at = search.next;
         search = crate::tree::visit(source, search, table[at]);
@@ -70,11 +79,12 @@ pub fn enter(
     requires { ⌜ Tree (now source) (now table) (now roots) count ⌝ ∗ ⌜ Enterable (now source) count label ⌝ }
     ensures { λ r. ⌜ Enters (now (source .entry)) (unlinked count (now (table .entry))) count label (unlinked (countBehind count r) (now (table .exit))) r ⌝ ∗ ⌜ TreeBehind (now (source .entry)) (now (table .entry)) (now (roots .entry)) count label (now (table .exit)) (now (roots .exit)) r ⌝ }
 {
-    let found = find(source, table, roots, count, label);
-    let gap = match found {
+    let found = find(source, table, roots, count, label.start, label.length);
+    let bare = match found {
         Found::At(_) => return Entered::Duplicate,
         Found::Missing(gap) => gap,
     };
+    let gap = crate::tree::addressed(bare, count, label.address);
     if append(table, count, gap.entry) {
         // its parent leads to it (a root is stored again)
         append(table, gap.last, gap.parent);

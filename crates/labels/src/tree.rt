@@ -6,7 +6,7 @@ ghost use Prim.Native.Nat.{_+_, _/_, _≤_, _<_};
 ghost use lib.ListN.{length};
 ghost use Rattle.spelling.specs.Bytes.{same};
 ghost use Rattle.labels.specs.Contracts.{InText, spelled};
-ghost use Rattle.labels.specs.Tree.{plain as plainOf, held as heldOf, link as linkOf, raised as raisedOf, linked as linkedOf, mixed, threeAt, hashOf, turned, hits as hitsOf, Rootable, slotOf, plantedAt, startedAt, begun, foundOf, endedAt, visited, Enterable, Visitable};
+ghost use Rattle.labels.specs.Tree.{plain as plainOf, held as heldOf, link as linkOf, raised as raisedOf, linked as linkedOf, mixed, threeAt, hashOf, turned, hits as hitsOf, Rootable, slotOf, plantedAt, startedAt, begun, foundOf, span, addressed as addressedAt, endedAt, visited, Enterable, Visitable};
 use crate::label::Found;
 use crate::label::Gap;
 use crate::label::Label;
@@ -246,16 +246,27 @@ fn slot(hash: Digest, places: usize) -> usize
 }
 
 // The search for a label among `count` others, from the root of its bucket on.
-pub(crate) fn begin(source: &[u8], roots: &[u32], count: usize, label: Label) -> Search
-    requires { ⌜ Enterable (now source) count label ⌝ ∗ ⌜ Rootable (now roots) ⌝ }
-    ensures { λ r. ⌜ r ≡ begun (now (source .entry)) (now (roots .entry)) count label ⌝ }
+pub(crate) fn begin(
+    source: &[u8],
+    roots: &[u32],
+    count: usize,
+    start: usize,
+    length: usize,
+) -> Search
+    requires { ⌜ Enterable (now source) count (span start «length») ⌝ ∗ ⌜ Rootable (now roots) ⌝ }
+    ensures { λ r. ⌜ r ≡ begun (now (source .entry)) (now (roots .entry)) count (span start «length») ⌝ }
 {
+    let label = Label {
+        start,
+        length,
+        address: 0,
+    };
     let hash = hash(source, label);
     let second = hash.second;
     let entry = Label {
-        start: label.start,
-        length: label.length + 2097152 * (second as usize / 2097152),
-        address: label.address,
+        start,
+        length: length + 2097152 * (second as usize / 2097152),
+        address: 0,
     };
     let turns = Turns {
         bits: 4611686018427387904 + hash.first % 4611686018427387904,
@@ -344,4 +355,33 @@ pub(crate) fn found(search: Search) -> Found
         last: search.last,
         parent,
     })
+}
+
+// The gap of a label with an address, behind `count` others: a label that becomes a root is stored again as its own parent.
+pub(crate) fn addressed(gap: Gap, count: usize, address: u64) -> Gap
+    ensures { λ r. ⌜ r ≡ addressedAt gap count address ⌝ }
+{
+    let bare = gap.entry;
+    let entry = Label {
+        start: bare.start,
+        length: bare.length,
+        address,
+    };
+    let bucket = gap.bucket;
+    let last = gap.last;
+    if last == count {
+        return Gap {
+            bucket,
+            entry,
+            last,
+            parent: entry,
+        };
+    }
+    let parent = gap.parent;
+    Gap {
+        bucket,
+        entry,
+        last,
+        parent,
+    }
 }
