@@ -7,7 +7,7 @@ ghost use lib.ListN.{length};
 ghost use Rattle.spelling.specs.Numbers.{little};
 ghost use Rattle.instruction.specs.Operands.{readInstruction, behind};
 ghost use Rattle.instruction.specs.Words.{wordOf};
-ghost use Rattle.instruction.specs.Contracts.{opcodeNumbers, formNumbers, partsMeant};
+ghost use Rattle.instruction.specs.Contracts.{opcodeNumbers, partsMeant};
 ghost use Rattle.coding.specs.Contracts.{Written};
 ghost use Rattle.image.specs.Meaning.{oneOf, instructionOn};
 ghost use Rattle.image.specs.Contracts.{recordMeant, settingsMeant};
@@ -68,11 +68,7 @@ fn word_at(
 {
     match reading::assembler::parse_instruction(source, line, at, mnemonics, forms, slots) {
         Parsed::Refused(_) => Coded::Nothing,
-        Parsed::Is(instruction) => Coded::Word(coding::encoder::encode(
-            instruction,
-            opcodes,
-            forms,
-        )),
+        Parsed::Is(instruction) => Coded::Word(encoding::encoder::encode(instruction, opcodes)),
     }
 }
 
@@ -95,12 +91,12 @@ fn line_word(
 }
 
 // The word of an instruction by its row and operands.
-fn straight_word(row: usize, operands: Operands, opcodes: &[u8; 50], forms: &[u8; 50]) -> u32
-    requires { ⌜ row < 50 ⌝ ∗ ⌜ now opcodes ≡ opcodeNumbers ⌝ ∗ ⌜ now forms ≡ formNumbers ⌝ }
+fn straight_word(row: usize, operands: Operands, opcodes: &[u8; 50]) -> u32
+    requires { ⌜ row < 50 ⌝ ∗ ⌜ now opcodes ≡ opcodeNumbers ⌝ }
     ensures { λ r. ⌜ r ≡ wordOf (partsMeant (record { row = row; operands = operands })) ⌝ }
 {
     let instruction = Instruction::from_parts(row, operands);
-    coding::encoder::encode(instruction, opcodes, forms)
+    encoding::encoder::encode(instruction, opcodes)
 }
 
 // The word of the line that begins at `at`, if it has one, and where the line ends.
@@ -117,7 +113,7 @@ fn coded_line(
 {
     match straight::line::read_straight(source, at, mnemonics, forms, slots) {
         Straight::Instruction { row, operands, end } => {
-            let word = straight_word(row, operands, opcodes, forms);
+            let word = straight_word(row, operands, opcodes);
             CodedLine {
                 coded: Coded::Word(word),
                 end,

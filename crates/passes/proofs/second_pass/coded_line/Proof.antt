@@ -15,7 +15,7 @@ enum-known-row c = search needs
 straight-word-requires : tie.Need-straight-word-requires
 straight-word-requires c κs =
     let b = c .before .before .before .before .before in
-    (rw (c .before .row .given .1) at (c .before .before .before .read-straight .ensures) .in-table, (b .pre .1 .1, b .pre .1 .0 .form-column))
+    (rw (c .before .row .given .1) at (c .before .before .before .read-straight .ensures) .in-table, b .pre .1 .1)
 
 enum-known-end : tie.Need-enum-known-end
 enum-known-end c = search needs

@@ -16,7 +16,7 @@ enum-known-instruction : tie.Need-enum-known-instruction
 enum-known-instruction c = search needs
 
 encode-requires : tie.Need-encode-requires
-encode-requires c κs = let p = c .before .before .before .before .before .pre in (p .1 .1 .1, p .1 .1 .0 .form-column)
+encode-requires c κs = c .before .before .before .before .before .pre .1 .1 .1
 
 returns : tie.Need-returns
 returns c = let p = c .before .before in word-none _ _ (rw (c .enum-told .given .1) at (p .parse-instruction .ensures))
