@@ -1,82 +1,82 @@
--- Forms by their numbers: the fields of operands, and the operands in a word.
+-- The words of forms, and the operands in a word by the number of its form.
 use mathlib.Core.Path.{_≡_, refl, ap}
 use mathlib.Core.Logic.{_⊎_, inl, inr}
 use Prim.Native.Nat.{ℕ, zero, suc, _+_, _-_, _*_, _/_, _%_, _^_, _≤_, _<_}
 use native.Mathlib.Nat.{mod-eq-of-lt, div-lt-iff-lt-mul}
 use native.Mathlib.Omega.{arith}
 use mathlib.Core.Bool.{true}
-use mathlib.Core.Option.{some}
+use mathlib.Core.Option.{none, some}
 use mathlib.Core.List.{[], _∷_}
 use lib.IntN.{ℤ, pos, negsuc}
+use lib.ListN.{List·getD-eq-default}
 use lib.Pow.{pow-pos}
 use borrow.Author.Tests.{lt-ltb, le-ltb}
 use Rattle.spelling.specs.Numbers.{minus, meantBy}
 use Rattle.spelling.specs.Contracts.{Reduced}
-use Rattle.instruction.specs.Table.{places}
+use Rattle.spelling.proofs.Tests.{split}
+use Rattle.instruction.specs.Table.{R, I, Shift, Load, Store, Branch, Jump, System, places}
 use Rattle.instruction.specs.Words.{reduced, fields, fieldAt, registersIn, numberIn, unusedFrom}
-use Rattle.instruction.specs.Contracts.{formAt, registersFor, numberFor}
-use Rattle.coding.specs.Contracts.{Signed}
+use Rattle.instruction.specs.Contracts.{rowAt, formAt, registersFor, numberFor}
+use Rattle.coding.specs.Contracts.{formWord, Signed}
 
--- ---- fields
+-- ---- the words of forms
 
--- The fields of a form's operands.
-abbrev pub sumOf : ℕ → (a b c : ℕ) → ℤ → ℕ
-sumOf n a b c z = fields (places (formAt n)) (registersFor (places (formAt n)) (a ∷ b ∷ c ∷ [])) (numberFor (places (formAt n)) z)
+module _ (i a b : ℕ) where
+  -- Three registers.
+  pub word-registers : (c : ℕ) → formWord R i (a ∷ b ∷ c ∷ []) none ≡ rowAt i .opcode + (a * 0x80 + b * 0x800 + c * 0x8000)
+  unfolding formWord places fields
+  word-registers c = omega arith
 
--- Three registers.
-pub sum-registers : (n a b c : ℕ) (z : ℤ) → n ≡ 0 → sumOf n a b c z ≡ a * 0x80 + b * 0x800 + c * 0x8000
-unfolding places registersFor numberFor fields reduced
-sum-registers n a b c z e = rw e (omega arith)
+  module _ (v : ℕ) (z : ℤ) where
+    -- Two registers and a number of seventeen bits.
+    pub word-number : Reduced 0x20000 z v → formWord I i (a ∷ b ∷ []) (some z) ≡ rowAt i .opcode + (a * 0x80 + b * 0x800 + v * 0x8000)
+    unfolding formWord places fields reduced
+    word-number r = rw (← r .at-width 17 refl) (omega arith)
 
-module _ (n a b c v : ℕ) (z : ℤ) where
-  -- Two registers and a number of seventeen bits.
-  pub sum-number : (n ≡ 1) ⊎ ((n ≡ 3) ⊎ (n ≡ 5)) → Reduced 0x20000 z v → sumOf n a b c z ≡ a * 0x80 + b * 0x800 + v * 0x8000
-  unfolding places registersFor numberFor fields reduced
-  sum-number (inl e) r = let q = r .at-width 17 refl in rw (e, ← q) (omega arith)
-  sum-number (inr (inl e)) r = let q = r .at-width 17 refl in rw (e, ← q) (omega arith)
-  sum-number (inr (inr e)) r = let q = r .at-width 17 refl in rw (e, ← q) (omega arith)
+    -- Of eight bits.
+    pub word-shift : Reduced 0x100 z v → formWord Shift i (a ∷ b ∷ []) (some z) ≡ rowAt i .opcode + (a * 0x80 + b * 0x800 + v * 0x8000)
+    unfolding formWord places fields reduced
+    word-shift r = rw (← r .at-width 8 refl) (omega arith)
 
-  -- Of eight bits.
-  pub sum-shift : n ≡ 2 → Reduced 0x100 z v → sumOf n a b c z ≡ a * 0x80 + b * 0x800 + v * 0x8000
-  unfolding places registersFor numberFor fields reduced
-  sum-shift e r = let q = r .at-width 8 refl in rw (e, ← q) (omega arith)
+    -- The registers the other way round.
+    pub word-store : Reduced 0x20000 z v → formWord Store i (b ∷ a ∷ []) (some z) ≡ rowAt i .opcode + (a * 0x80 + b * 0x800 + v * 0x8000)
+    unfolding formWord places fields reduced
+    word-store r = rw (← r .at-width 17 refl) (omega arith)
 
-  -- The registers the other way round.
-  pub sum-store : n ≡ 4 → Reduced 0x20000 z v → sumOf n a b c z ≡ b * 0x80 + a * 0x800 + v * 0x8000
-  unfolding places registersFor numberFor fields reduced
-  sum-store e r = let q = r .at-width 17 refl in rw (e, ← q) (omega arith)
+    pub word-branch : Reduced 0x20000 z v → formWord Branch i (a ∷ b ∷ []) (some z) ≡ rowAt i .opcode + (a * 0x80 + b * 0x800 + v * 0x8000)
+    unfolding formWord places fields reduced
+    word-branch r = rw (← r .at-width 17 refl) (omega arith)
 
   -- One register and a number of twenty-one bits.
-  pub sum-jump : n ≡ 6 → Reduced 0x200000 z v → sumOf n a b c z ≡ a * 0x80 + v * 0x800
-  unfolding places registersFor numberFor fields reduced
-  sum-jump e r = let q = r .at-width 21 refl in rw (e, ← q) (omega arith)
+  pub word-jump : (v : ℕ) (z : ℤ) → Reduced 0x200000 z v → formWord Jump i (a ∷ []) (some z) ≡ rowAt i .opcode + (a * 0x80 + v * 0x800)
+  unfolding formWord places fields reduced
+  word-jump v z r = rw (← r .at-width 21 refl) (omega arith)
+
+  -- A load's word is as addi's.
+  pub word-load : (z : ℤ) → formWord Load i (a ∷ b ∷ []) (some z) ≡ formWord I i (a ∷ b ∷ []) (some z)
+  unfolding formWord places fields
+  word-load z = omega arith
 
 -- No operands.
-pub sum-none : (n a b c : ℕ) (z : ℤ) → (n ≡ 0 → ⊥) → ((n ≡ 1) ⊎ ((n ≡ 3) ⊎ (n ≡ 5)) → ⊥) → (n ≡ 2 → ⊥) → (n ≡ 4 → ⊥) → (n ≡ 6 → ⊥) → sumOf n a b c z ≡ 0
-unfolding places registersFor numberFor fields
-sum-none zero a b c z n0 n1 n2 n4 n6 = absurd (n0 refl)
-sum-none (suc zero) a b c z n0 n1 n2 n4 n6 = absurd (n1 (inl refl))
-sum-none (suc (suc zero)) a b c z n0 n1 n2 n4 n6 = absurd (n2 refl)
-sum-none (suc (suc (suc zero))) a b c z n0 n1 n2 n4 n6 = absurd (n1 (inr (inl refl)))
-sum-none (suc (suc (suc (suc zero)))) a b c z n0 n1 n2 n4 n6 = absurd (n4 refl)
-sum-none (suc (suc (suc (suc (suc zero))))) a b c z n0 n1 n2 n4 n6 = absurd (n1 (inr (inr refl)))
-sum-none (suc (suc (suc (suc (suc (suc zero)))))) a b c z n0 n1 n2 n4 n6 = absurd (n6 refl)
-sum-none (suc (suc (suc (suc (suc (suc (suc n))))))) a b c z n0 n1 n2 n4 n6 = refl
+pub word-system : (i : ℕ) → formWord System i [] none ≡ rowAt i .opcode
+unfolding formWord places fields
+word-system i = omega arith
 
 -- ---- what is read of a word
 
--- The forms whose fields fill the word.
-pub filled : (n : ℕ) → n < 8 → (n ≡ 0 → ⊥) → (n ≡ 2 → ⊥) → (n ≡ 7 → ⊥) → unusedFrom (places (formAt n)) ≡ 32
+-- The forms whose fields fill the word,
+pub filled : (n : ℕ) → (n ≡ 1) ⊎ ((3 ≤ n) × (n ≤ 6)) → unusedFrom (places (formAt n)) ≡ 32
 unfolding places unusedFrom
-filled zero l n0 n2 n7 = absurd (n0 refl)
-filled (suc zero) l n0 n2 n7 = refl
-filled (suc (suc zero)) l n0 n2 n7 = absurd (n2 refl)
-filled (suc (suc (suc zero))) l n0 n2 n7 = refl
-filled (suc (suc (suc (suc zero)))) l n0 n2 n7 = refl
-filled (suc (suc (suc (suc (suc zero))))) l n0 n2 n7 = refl
-filled (suc (suc (suc (suc (suc (suc zero)))))) l n0 n2 n7 = refl
-filled (suc (suc (suc (suc (suc (suc (suc zero))))))) l n0 n2 n7 = absurd (n7 refl)
-filled (suc (suc (suc (suc (suc (suc (suc (suc n)))))))) l n0 n2 n7 = absurd (omega arith)
+filled n (inl e) = rw e
+filled n (inr (l, h)) =
+    split n 4 (λ m. let e : n ≡ 3 = omega arith in rw e)
+    (λ m. split n 5 (λ p. let e : n ≡ 4 = omega arith in rw e)
+    (λ p. split n 6 (λ q. let e : n ≡ 5 = omega arith in rw e) (λ q. let e : n ≡ 6 = omega arith in rw e)))
+
+-- and those without fields.
+pub empty : (n : ℕ) → 6 < n → unusedFrom (places (formAt n)) ≡ 7
+unfolding places unusedFrom
+empty n l = rw (List·getD-eq-default (R ∷ I ∷ Shift ∷ Load ∷ Store ∷ Branch ∷ Jump ∷ []) System {n = n} l)
 
 module _ (n w x y t : ℕ) (ex : x ≡ w / 0x80 % 16) (ey : y ≡ w / 0x800 % 16) where
   -- A store's registers stand the other way round.

@@ -2,6 +2,7 @@
 use Prim.Native.Nat.{ℕ, _+_, _^_, _≤_}
 use mathlib.Core.Path.{_≡_}
 use mathlib.Core.Bool.{true}
+use mathlib.Core.Option.{Option}
 use mathlib.Core.List.{List, [], _∷_, _++_}
 use lib.ListN.{length, take, drop}
 use lib.IntN.{ℤ}
@@ -12,8 +13,8 @@ use Rattle.spelling.specs.declared.register.Register.{Register}
 use Rattle.instruction.specs.Table.{Form, places}
 use Rattle.instruction.specs.Operands.{Instruction as Meant}
 use Rattle.instruction.specs.Text.{registerText, operandsText}
-use Rattle.instruction.specs.Contracts.{registersFor, numberFor, registersOf, instructionMeant}
-use Rattle.instruction.specs.declared.instruction.Operands.{Operands}
+use Rattle.instruction.specs.Words.{fields}
+use Rattle.instruction.specs.Contracts.{rowAt, instructionMeant}
 use Rattle.coding.specs.declared.encoder.Decoded.{Decoded}
 use Rattle.coding.specs.declared.encoder.Decoded.the-variants.{Is as IsDecoded, Refused as RefusedDecoded}
 
@@ -23,6 +24,10 @@ use Rattle.coding.specs.declared.encoder.Decoded.the-variants.{Is as IsD
 abbrev pub decodedMeant : Decoded → Result Meant
 decodedMeant (IsDecoded i) = value (instructionMeant i)
 decodedMeant (RefusedDecoded n) = refused n
+
+-- The word of a form's registers and number, with the opcode of a row.
+unfoldable pub formWord : Form → ℕ → List ℕ → Option ℤ → ℕ
+formWord f row rs n = rowAt row .opcode + fields (places f) rs n
 
 -- A power of two, for a field of at most 21 bits.
 pub record Power (modulus : ℕ) : Type 0 where
@@ -36,7 +41,7 @@ pub record Signed (modulus field : ℕ) (z : ℤ) : Type 0 where
 
 -- ---- texts in a buffer
 
--- A register with a comma and a space behind it; with the space before the operands; and two registers.
+-- A register with a comma and a space after it; with the space before the operands; and two registers.
 abbrev pub nextText : Register → List ℕ
 nextText r = registerText (indexOf r) ++ (44 ∷ 32 ∷ [])
 
@@ -50,9 +55,9 @@ pairText a b = firstText a ++ nextText b
 abbrev pub baseText : Register → List ℕ
 baseText r = 40 ∷ (registerText (indexOf r) ++ (41 ∷ []))
 
--- The text of a form's operands.
-unfoldable pub formText : Form → Operands → List ℕ
-formText f o = operandsText (places f) (registersFor (places f) (registersOf o)) (numberFor (places f) (wholeMeant (o .number)))
+-- The text of a form's registers and number, with the mnemonic of a row.
+unfoldable pub formText : Form → ℕ → List ℕ → Option ℤ → List ℕ
+formText f row rs n = rowAt row .mnemonic ++ operandsText (places f) rs n
 
 -- A buffer in which a text was put at a place.
 unfoldable pub put : List ℕ → ℕ → List ℕ → List ℕ

@@ -1,17 +1,16 @@
-// The text of an instruction: its length, and its bytes written into a lent buffer. A writer answers the place behind what it wrote.
-// A length has a bound beside it, so that sums of lengths do not wrap.
+// The text of each form of instruction: its length, and its bytes written into a lent buffer. A writer answers the place after what it
+// wrote. A length has a bound next to it, so that sums of lengths do not wrap.
 ghost use mathlib.Core.Path.{_≡_};
+ghost use mathlib.Core.Option.{none, some};
+ghost use mathlib.Core.List.{[], _∷_};
 ghost use Prim.Native.Nat.{_+_, _≤_, _<_};
 ghost use lib.ListN.{length};
 ghost use Rattle.spelling.specs.Numbers.{decimal, signedDecimal};
 ghost use Rattle.spelling.specs.Contracts.{indexOf, wholeMeant};
 ghost use Rattle.instruction.specs.Table.{R, I, Load, Jump};
-ghost use Rattle.instruction.specs.Text.{registerText, instructionText};
-ghost use Rattle.instruction.specs.Contracts.{mnemonicKeys, formNumbers, rowAt, formAt, partsMeant, instructionMeant};
+ghost use Rattle.instruction.specs.Text.{registerText};
+ghost use Rattle.instruction.specs.Contracts.{mnemonicKeys, rowAt};
 ghost use Rattle.coding.specs.Contracts.{nextText, firstText, pairText, baseText, formText, Written};
-use instruction::instruction::Instruction;
-use instruction::instruction::Operands;
-use instruction::instruction::Parts;
 use spelling::number::Whole;
 use spelling::register::Register;
 
@@ -89,7 +88,7 @@ fn write_register(out: &mut [u8], at: usize, register: Register) -> usize
     write_decimal(out, at + 1, index as u64)
 }
 
-// A register, with a comma and a space behind it.
+// A register, with a comma and a space after it.
 fn write_next(out: &mut [u8], at: usize, register: Register) -> usize
     requires { ⌜ at + length (nextText register) ≤ length (now out) ⌝ }
     ensures { λ r. ⌜ Written (now (out .entry)) at (nextText register) r (now (out .exit)) ⌝ }
@@ -121,8 +120,8 @@ fn write_base(out: &mut [u8], at: usize, register: Register) -> usize
     place + 1
 }
 
-// The mnemonic of a row, by its key: a byte is left while the key is more than the 1 behind them.
-fn mnemonic_length(row: usize, mnemonics: &[u64; 50]) -> usize
+// The mnemonic of a row, by its key: a byte is left while the key is more than the 1 after them.
+pub fn mnemonic_length(row: usize, mnemonics: &[u64; 50]) -> usize
     requires { ⌜ row < 50 ⌝ ∗ ⌜ now mnemonics ≡ mnemonicKeys ⌝ }
     ensures { λ r. ⌜ r ≡ length (rowAt row .mnemonic) ⌝ ∗ ⌜ r ≤ 7 ⌝ }
 {
@@ -135,7 +134,7 @@ fn mnemonic_length(row: usize, mnemonics: &[u64; 50]) -> usize
     length
 }
 
-fn write_mnemonic(out: &mut [u8], at: usize, row: usize, mnemonics: &[u64; 50]) -> usize
+pub fn write_mnemonic(out: &mut [u8], at: usize, row: usize, mnemonics: &[u64; 50]) -> usize
     requires { ⌜ row < 50 ⌝ ∗ ⌜ now mnemonics ≡ mnemonicKeys ⌝ ∗ ⌜ at + length (rowAt row .mnemonic) ≤ length (now out) ⌝ }
     ensures { λ r. ⌜ Written (now (out .entry)) at (rowAt row .mnemonic) r (now (out .exit)) ⌝ }
 {
@@ -158,133 +157,111 @@ fn write_pair(out: &mut [u8], at: usize, first: Register, second: Register) -> u
     write_next(out, place, second)
 }
 
-// `rd, rs1, rs2`
-fn write_registers(out: &mut [u8], at: usize, operands: Operands) -> usize
-    requires { ⌜ at + length (formText R operands) ≤ length (now out) ⌝ }
-    ensures { λ r. ⌜ Written (now (out .entry)) at (formText R operands) r (now (out .exit)) ⌝ }
+// The text of `rd, rs1, rs2` after its mnemonic.
+pub fn r_type_length(
+    row: usize,
+    mnemonics: &[u64; 50],
+    rd: Register,
+    rs1: Register,
+    rs2: Register,
+) -> usize
+    requires { ⌜ row < 50 ⌝ ∗ ⌜ now mnemonics ≡ mnemonicKeys ⌝ }
+    ensures { λ r. ⌜ r ≡ length (formText R row (indexOf rd ∷ indexOf rs1 ∷ indexOf rs2 ∷ []) none) ⌝ ∗ ⌜ r ≤ 39 ⌝ }
 {
-    let first = operands.first;
-    let second = operands.second;
-    let third = operands.third;
-    let place = write_pair(out, at, first, second);
-    write_register(out, place, third)
+    let operands = 5 + register_length(rd) + register_length(rs1) + register_length(rs2);
+    mnemonic_length(row, mnemonics) + operands
 }
 
-// `rd, rs1, n`, of shifts too; `rs1, rs2, n` of branches
-fn write_immediate(out: &mut [u8], at: usize, operands: Operands) -> usize
-    requires { ⌜ at + length (formText I operands) ≤ length (now out) ⌝ }
-    ensures { λ r. ⌜ Written (now (out .entry)) at (formText I operands) r (now (out .exit)) ⌝ }
-{
-    let first = operands.first;
-    let second = operands.second;
-    let number = operands.number;
-    let place = write_pair(out, at, first, second);
-    write_number(out, place, number)
-}
-
-// `rd, n(rs1)` of loads, `rs2, n(rs1)` of stores
-fn write_memory(out: &mut [u8], at: usize, operands: Operands) -> usize
-    requires { ⌜ at + length (formText Load operands) ≤ length (now out) ⌝ }
-    ensures { λ r. ⌜ Written (now (out .entry)) at (formText Load operands) r (now (out .exit)) ⌝ }
-{
-    let first = operands.first;
-    let second = operands.second;
-    let number = operands.number;
-    let place = write_first(out, at, first);
-    let base = write_number(out, place, number);
-    write_base(out, base, second)
-}
-
-// `rd, n`
-fn write_jump(out: &mut [u8], at: usize, operands: Operands) -> usize
-    requires { ⌜ at + length (formText Jump operands) ≤ length (now out) ⌝ }
-    ensures { λ r. ⌜ Written (now (out .entry)) at (formText Jump operands) r (now (out .exit)) ⌝ }
-{
-    let first = operands.first;
-    let number = operands.number;
-    let place = write_first(out, at, first);
-    write_number(out, place, number)
-}
-
-// The operands of a form, by its number, with the space before them.
-fn operands_length(form: u8, operands: Operands) -> usize
-    ensures { λ r. ⌜ r ≡ length (formText (formAt form) operands) ⌝ ∗ ⌜ r ≤ 32 ⌝ }
-{
-    let first = operands.first;
-    let second = operands.second;
-    let third = operands.third;
-    let number = operands.number;
-    match form {
-        0 => 5 + register_length(first) + register_length(second) + register_length(third),
-        1..=5 => 5 + register_length(first) + register_length(second) + number_length(number),
-        6 => 3 + register_length(first) + number_length(number),
-        _ => 0,
-    }
-}
-
-fn write_operands(out: &mut [u8], at: usize, form: u8, operands: Operands) -> usize
-    requires { ⌜ at + length (formText (formAt form) operands) ≤ length (now out) ⌝ }
-    ensures { λ r. ⌜ Written (now (out .entry)) at (formText (formAt form) operands) r (now (out .exit)) ⌝ }
-{
-    match form {
-        0 => write_registers(out, at, operands),
-        1 | 2 | 5 => write_immediate(out, at, operands),
-        3 | 4 => write_memory(out, at, operands),
-        6 => write_jump(out, at, operands),
-        _ => at,
-    }
-}
-
-// A row's mnemonic, and the operands of its form.
-fn parts_length(parts: Parts, mnemonics: &[u64; 50], forms: &[u8; 50]) -> usize
-    requires { ⌜ parts .row < 50 ⌝ ∗ ⌜ now mnemonics ≡ mnemonicKeys ⌝ ∗ ⌜ now forms ≡ formNumbers ⌝ }
-    ensures { λ r. ⌜ r ≡ length (instructionText (partsMeant parts)) ⌝ ∗ ⌜ r ≤ 39 ⌝ }
-{
-    let row = parts.row;
-    let operands = parts.operands;
-    mnemonic_length(row, mnemonics) + operands_length(forms[row], operands)
-}
-
-fn write_parts(
+pub fn write_r_type(
     out: &mut [u8],
     at: usize,
-    parts: Parts,
+    row: usize,
     mnemonics: &[u64; 50],
-    forms: &[u8; 50],
+    rd: Register,
+    rs1: Register,
+    rs2: Register,
 ) -> usize
-    requires { ⌜ parts .row < 50 ⌝ ∗ ⌜ now mnemonics ≡ mnemonicKeys ⌝ ∗ ⌜ now forms ≡ formNumbers ⌝ ∗ ⌜ at + length (instructionText (partsMeant parts)) ≤ length (now out) ⌝ }
-    ensures { λ r. ⌜ Written (now (out .entry)) at (instructionText (partsMeant parts)) r (now (out .exit)) ⌝ }
+    requires { ⌜ row < 50 ⌝ ∗ ⌜ now mnemonics ≡ mnemonicKeys ⌝ ∗ ⌜ at + length (formText R row (indexOf rd ∷ indexOf rs1 ∷ indexOf rs2 ∷ []) none) ≤ length (now out) ⌝ }
+    ensures { λ r. ⌜ Written (now (out .entry)) at (formText R row (indexOf rd ∷ indexOf rs1 ∷ indexOf rs2 ∷ []) none) r (now (out .exit)) ⌝ }
 {
-    let row = parts.row;
-    let operands = parts.operands;
+    let first = write_mnemonic(out, at, row, mnemonics);
+    let last = write_pair(out, first, rd, rs1);
+    write_register(out, last, rs2)
+}
+
+// The text of two registers and a number after their mnemonic. `rd, rs1, n` and `rd, n(rs1)` are equally long.
+pub fn i_type_length(
+    row: usize,
+    mnemonics: &[u64; 50],
+    first: Register,
+    second: Register,
+    number: Whole,
+) -> usize
+    requires { ⌜ row < 50 ⌝ ∗ ⌜ now mnemonics ≡ mnemonicKeys ⌝ }
+    ensures { λ r. ⌜ r ≡ length (formText I row (indexOf first ∷ indexOf second ∷ []) (some (wholeMeant number))) ⌝ ∗ ⌜ r ≤ 39 ⌝ }
+{
+    let operands = 5 + register_length(first) + register_length(second) + number_length(number);
+    mnemonic_length(row, mnemonics) + operands
+}
+
+// `rd, rs1, n`, of shifts too; `rs1, rs2, n` of branches.
+pub fn write_i_type(
+    out: &mut [u8],
+    at: usize,
+    row: usize,
+    mnemonics: &[u64; 50],
+    first: Register,
+    second: Register,
+    number: Whole,
+) -> usize
+    requires { ⌜ row < 50 ⌝ ∗ ⌜ now mnemonics ≡ mnemonicKeys ⌝ ∗ ⌜ at + length (formText I row (indexOf first ∷ indexOf second ∷ []) (some (wholeMeant number))) ≤ length (now out) ⌝ }
+    ensures { λ r. ⌜ Written (now (out .entry)) at (formText I row (indexOf first ∷ indexOf second ∷ []) (some (wholeMeant number))) r (now (out .exit)) ⌝ }
+{
     let place = write_mnemonic(out, at, row, mnemonics);
-    write_operands(out, place, forms[row], operands)
+    let last = write_pair(out, place, first, second);
+    write_number(out, last, number)
 }
 
-// How many bytes an instruction's text has.
-pub fn instruction_length(
-    instruction: Instruction,
-    mnemonics: &[u64; 50],
-    forms: &[u8; 50],
-) -> usize
-    requires { ⌜ now mnemonics ≡ mnemonicKeys ⌝ ∗ ⌜ now forms ≡ formNumbers ⌝ }
-    ensures { λ r. ⌜ r ≡ length (instructionText (instructionMeant instruction)) ⌝ ∗ ⌜ r ≤ 39 ⌝ }
-{
-    let parts = instruction.to_parts();
-    parts_length(parts, mnemonics, forms)
-}
-
-// An instruction's text.
-pub fn write_instruction(
+// `rd, n(rs1)` of loads, `rs2, n(rs1)` of stores.
+pub fn write_memory(
     out: &mut [u8],
     at: usize,
-    instruction: Instruction,
+    row: usize,
     mnemonics: &[u64; 50],
-    forms: &[u8; 50],
+    register: Register,
+    base: Register,
+    number: Whole,
 ) -> usize
-    requires { ⌜ now mnemonics ≡ mnemonicKeys ⌝ ∗ ⌜ now forms ≡ formNumbers ⌝ ∗ ⌜ at + length (instructionText (instructionMeant instruction)) ≤ length (now out) ⌝ }
-    ensures { λ r. ⌜ Written (now (out .entry)) at (instructionText (instructionMeant instruction)) r (now (out .exit)) ⌝ }
+    requires { ⌜ row < 50 ⌝ ∗ ⌜ now mnemonics ≡ mnemonicKeys ⌝ ∗ ⌜ at + length (formText Load row (indexOf register ∷ indexOf base ∷ []) (some (wholeMeant number))) ≤ length (now out) ⌝ }
+    ensures { λ r. ⌜ Written (now (out .entry)) at (formText Load row (indexOf register ∷ indexOf base ∷ []) (some (wholeMeant number))) r (now (out .exit)) ⌝ }
 {
-    let parts = instruction.to_parts();
-    write_parts(out, at, parts, mnemonics, forms)
+    let first = write_mnemonic(out, at, row, mnemonics);
+    let second = write_first(out, first, register);
+    let last = write_number(out, second, number);
+    write_base(out, last, base)
+}
+
+// The text of `rd, n` after its mnemonic.
+pub fn j_type_length(row: usize, mnemonics: &[u64; 50], rd: Register, offset: Whole) -> usize
+    requires { ⌜ row < 50 ⌝ ∗ ⌜ now mnemonics ≡ mnemonicKeys ⌝ }
+    ensures { λ r. ⌜ r ≡ length (formText Jump row (indexOf rd ∷ []) (some (wholeMeant offset))) ⌝ ∗ ⌜ r ≤ 39 ⌝ }
+{
+    let operands = 3 + register_length(rd) + number_length(offset);
+    mnemonic_length(row, mnemonics) + operands
+}
+
+pub fn write_j_type(
+    out: &mut [u8],
+    at: usize,
+    row: usize,
+    mnemonics: &[u64; 50],
+    rd: Register,
+    offset: Whole,
+) -> usize
+    requires { ⌜ row < 50 ⌝ ∗ ⌜ now mnemonics ≡ mnemonicKeys ⌝ ∗ ⌜ at + length (formText Jump row (indexOf rd ∷ []) (some (wholeMeant offset))) ≤ length (now out) ⌝ }
+    ensures { λ r. ⌜ Written (now (out .entry)) at (formText Jump row (indexOf rd ∷ []) (some (wholeMeant offset))) r (now (out .exit)) ⌝ }
+{
+    let first = write_mnemonic(out, at, row, mnemonics);
+    let last = write_first(out, first, rd);
+    write_number(out, last, offset)
 }

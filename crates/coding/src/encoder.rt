@@ -1,12 +1,14 @@
-// Words: an instruction's word, and a word's instruction.
+// Words: the word of each form's operands, and a word's instruction.
 ghost use mathlib.Core.Path.{_≡_};
+ghost use mathlib.Core.Option.{none, some};
+ghost use mathlib.Core.List.{[], _∷_};
 ghost use Prim.Native.Nat.{suc, _+_, _*_, _/_, _%_, _^_, _≤_, _<_};
 ghost use lib.Dec.{ltb};
 ghost use Rattle.spelling.specs.Contracts.{indexOf, wholeMeant, Reduced};
-ghost use Rattle.instruction.specs.Table.{places};
-ghost use Rattle.instruction.specs.Words.{wordOf, fields as fieldSum, unusedFrom, registersIn, numberIn, instructionOf};
-ghost use Rattle.instruction.specs.Contracts.{formAt, formNumbers, opcodeNumbers, instructionMeant, numberFor, operandsMeant};
-ghost use Rattle.coding.specs.Contracts.{decodedMeant, Power, Signed};
+ghost use Rattle.instruction.specs.Table.{R, I, Shift, Store, Branch, Jump, System, places};
+ghost use Rattle.instruction.specs.Words.{unusedFrom, registersIn, numberIn, instructionOf};
+ghost use Rattle.instruction.specs.Contracts.{rowAt, formAt, formNumbers, opcodeNumbers, numberFor, operandsMeant};
+ghost use Rattle.coding.specs.Contracts.{decodedMeant, formWord, Power, Signed};
 use instruction::instruction::Instruction;
 use instruction::instruction::Operands;
 use instruction::opcode::Row;
@@ -34,44 +36,100 @@ fn number_of(register: Register) -> u32
     wide(register.index())
 }
 
-// Two registers and a field of at most seventeen bits, each at its bit.
-fn spread(low: u32, high: u32, top: u32) -> u32
-    requires { ⌜ low < 16 ⌝ ∗ ⌜ high < 16 ⌝ ∗ ⌜ top < 0x20000 ⌝ }
-    ensures { λ r. ⌜ r ≡ low * 0x80 + high * 0x800 + top * 0x8000 ⌝ }
+// The opcode of a row, with room above it.
+fn opcode_of(row: usize, opcodes: &[u8; 50]) -> u32
+    requires { ⌜ row < 50 ⌝ ∗ ⌜ now opcodes ≡ opcodeNumbers ⌝ }
+    ensures { λ r. ⌜ r ≡ rowAt row .opcode ⌝ ∗ ⌜ r < 0x80 ⌝ }
 {
-    low * 0x80 + high * 0x800 + top * 0x8000
+    wide(opcodes[row])
 }
 
-// The fields of a form's operands, each at its bit; there is room for an opcode.
-fn fields(form: u8, operands: Operands) -> u32
-    ensures { λ r. ⌜ r ≡ fieldSum (places (formAt form)) (operandsMeant (places (formAt form)) operands .registers) (operandsMeant (places (formAt form)) operands .number) ⌝ ∗ ⌜ r + 128 ≤ 2 ^ 32 ⌝ }
+// Two registers and a field of at most seventeen bits, each at its bit; there is room for an opcode.
+fn spread(low: Register, high: Register, top: u32) -> u32
+    requires { ⌜ top < 0x20000 ⌝ }
+    ensures { λ r. ⌜ r ≡ indexOf low * 0x80 + indexOf high * 0x800 + top * 0x8000 ⌝ ∗ ⌜ r + 0x80 ≤ 2 ^ 32 ⌝ }
 {
-    let first = operands.first;
-    let second = operands.second;
-    let third = operands.third;
-    let number = operands.number;
-    let low = number_of(first);
-    let high = number_of(second);
-    match form {
-        0 => spread(low, high, number_of(third)),
-        1 | 3 | 5 => spread(low, high, reduced(number, 0x1FFFF)),
-        2 => spread(low, high, reduced(number, 0xFF)),
-        // a store's registers stand the other way round
-        4 => spread(high, low, reduced(number, 0x1FFFF)),
-        6 => low * 0x80 + reduced(number, 0x1FFFFF) * 0x800,
-        _ => 0,
-    }
+    number_of(low) * 0x80 + number_of(high) * 0x800 + top * 0x8000
 }
 
-// The word of an instruction.
-pub fn encode(instruction: Instruction, opcodes: &[u8; 50], forms: &[u8; 50]) -> u32
-    requires { ⌜ now opcodes ≡ opcodeNumbers ⌝ ∗ ⌜ now forms ≡ formNumbers ⌝ }
-    ensures { λ r. ⌜ r ≡ wordOf (instructionMeant instruction) ⌝ }
+// The word of `rd, rs1, rs2`, by the row of its mnemonic.
+pub fn encode_r_type(
+    row: usize,
+    opcodes: &[u8; 50],
+    rd: Register,
+    rs1: Register,
+    rs2: Register,
+) -> u32
+    requires { ⌜ row < 50 ⌝ ∗ ⌜ now opcodes ≡ opcodeNumbers ⌝ }
+    ensures { λ r. ⌜ r ≡ formWord R row (indexOf rd ∷ indexOf rs1 ∷ indexOf rs2 ∷ []) none ⌝ }
 {
-    let parts = instruction.to_parts();
-    let row = parts.row;
-    let operands = parts.operands;
-    wide(opcodes[row]) + fields(forms[row], operands)
+    opcode_of(row, opcodes) + spread(rd, rs1, number_of(rs2))
+}
+
+// The word of `rd, rs1, n`. A load's `rd, n(rs1)` has the same.
+pub fn encode_i_type(row: usize, opcodes: &[u8; 50], rd: Register, rs1: Register, imm: Whole) -> u32
+    requires { ⌜ row < 50 ⌝ ∗ ⌜ now opcodes ≡ opcodeNumbers ⌝ }
+    ensures { λ r. ⌜ r ≡ formWord I row (indexOf rd ∷ indexOf rs1 ∷ []) (some (wholeMeant imm)) ⌝ }
+{
+    opcode_of(row, opcodes) + spread(rd, rs1, reduced(imm, 0x1FFFF))
+}
+
+// The word of a shift, `rd, rs1, n`.
+pub fn encode_shift(
+    row: usize,
+    opcodes: &[u8; 50],
+    rd: Register,
+    rs1: Register,
+    shamt: Whole,
+) -> u32
+    requires { ⌜ row < 50 ⌝ ∗ ⌜ now opcodes ≡ opcodeNumbers ⌝ }
+    ensures { λ r. ⌜ r ≡ formWord Shift row (indexOf rd ∷ indexOf rs1 ∷ []) (some (wholeMeant shamt)) ⌝ }
+{
+    opcode_of(row, opcodes) + spread(rd, rs1, reduced(shamt, 0xFF))
+}
+
+// The word of a store, `rs2, n(rs1)`: the base register is the lower of the two.
+pub fn encode_s_type(
+    row: usize,
+    opcodes: &[u8; 50],
+    rs1: Register,
+    rs2: Register,
+    imm: Whole,
+) -> u32
+    requires { ⌜ row < 50 ⌝ ∗ ⌜ now opcodes ≡ opcodeNumbers ⌝ }
+    ensures { λ r. ⌜ r ≡ formWord Store row (indexOf rs2 ∷ indexOf rs1 ∷ []) (some (wholeMeant imm)) ⌝ }
+{
+    opcode_of(row, opcodes) + spread(rs1, rs2, reduced(imm, 0x1FFFF))
+}
+
+// The word of a branch, `rs1, rs2, n`.
+pub fn encode_b_type(
+    row: usize,
+    opcodes: &[u8; 50],
+    rs1: Register,
+    rs2: Register,
+    offset: Whole,
+) -> u32
+    requires { ⌜ row < 50 ⌝ ∗ ⌜ now opcodes ≡ opcodeNumbers ⌝ }
+    ensures { λ r. ⌜ r ≡ formWord Branch row (indexOf rs1 ∷ indexOf rs2 ∷ []) (some (wholeMeant offset)) ⌝ }
+{
+    opcode_of(row, opcodes) + spread(rs1, rs2, reduced(offset, 0x1FFFF))
+}
+
+// The word of `rd, n`.
+pub fn encode_j_type(row: usize, opcodes: &[u8; 50], rd: Register, offset: Whole) -> u32
+    requires { ⌜ row < 50 ⌝ ∗ ⌜ now opcodes ≡ opcodeNumbers ⌝ }
+    ensures { λ r. ⌜ r ≡ formWord Jump row (indexOf rd ∷ []) (some (wholeMeant offset)) ⌝ }
+{
+    opcode_of(row, opcodes) + number_of(rd) * 0x80 + reduced(offset, 0x1FFFFF) * 0x800
+}
+
+// The word of an instruction without operands.
+pub fn encode_system(row: usize, opcodes: &[u8; 50]) -> u32
+    requires { ⌜ row < 50 ⌝ ∗ ⌜ now opcodes ≡ opcodeNumbers ⌝ }
+    ensures { λ r. ⌜ r ≡ formWord System row [] none ⌝ }
+{
+    opcode_of(row, opcodes)
 }
 
 pub enum Decoded {
@@ -81,14 +139,13 @@ pub enum Decoded {
 
 // Whether a word has no bit set above its form's fields.
 fn is_clear(form: u8, word: u32) -> bool
-    requires { ⌜ form < 8 ⌝ }
     ensures { λ r. ⌜ r ≡ ltb word (2 ^ unusedFrom (places (formAt form))) ⌝ }
 {
     match form {
         0 => word < 0x80000,
         2 => word < 0x800000,
-        7 => word < 0x80,
-        _ => true,
+        1 | 3..=6 => true,
+        _ => word < 0x80,
     }
 }
 
@@ -155,11 +212,11 @@ fn operands_of(form: u8, word: u32) -> Operands
 }
 
 // The instruction of a word, or 30, or 31.
-pub fn decode(word: u32, forms: &[u8; 50]) -> Decoded
-    requires { ⌜ now forms ≡ formNumbers ⌝ }
+pub fn decode(word: u32, opcodes: &[u8; 50], forms: &[u8; 50]) -> Decoded
+    requires { ⌜ now opcodes ≡ opcodeNumbers ⌝ ∗ ⌜ now forms ≡ formNumbers ⌝ }
     ensures { λ r. ⌜ decodedMeant r ≡ instructionOf word ⌝ }
 {
-    let Row::At(row) = instruction::opcode::find_opcode(word % 0x80) else {
+    let Row::At(row) = instruction::opcode::find_opcode(word % 0x80, opcodes) else {
         return Decoded::Refused(30);
     };
     let form = forms[row];

@@ -13,7 +13,7 @@ use Rattle.spelling.proofs.Tests.{both}
 use Rattle.spelling.proofs.Strings.{every-head, every-tail}
 use Rattle.spelling.proofs.Keys.{isKeyed, key-short}
 use Rattle.instruction.specs.Table.{Form, R, I, Shift, Load, Store, Branch, Jump, System, row, table}
-use Rattle.instruction.specs.Contracts.{rowAt, formAt, formNumber, mnemonicKeys, formNumbers, opcodeNumbers}
+use Rattle.instruction.specs.Contracts.{noRow, rowAt, formAt, formNumber, mnemonicKeys, formNumbers, opcodeNumbers}
 
 -- What a column holds of an entry.
 column-at : {A : Type 0} (f : A → ℕ) (l : List A) (i : ℕ) (d : A) → i < length l → getD (map f l) i 0 ≡ f (getD l i d)
@@ -22,7 +22,7 @@ column-at f (a ∷ l) zero d h = refl
 column-at f (a ∷ l) (suc i) d h = column-at f l i d (omega arith)
 
 -- A test that every entry passes.
-each-at : {A : Type 0} (q : A → Bool) (l : List A) (i : ℕ) (d : A) → i < length l → each q l ≡ true → q (getD l i d) ≡ true
+pub each-at : {A : Type 0} (q : A → Bool) (l : List A) (i : ℕ) (d : A) → i < length l → each q l ≡ true → q (getD l i d) ≡ true
 unfolding each
 each-at q [] i d h k = absurd (omega arith)
 each-at q (a ∷ l) zero d h k = both (q a) (each q l) k .0
@@ -58,7 +58,7 @@ mnemonic-packed i h = column-at (λ r. keyOf (r .mnemonic)) table i _ h ∙ key-
 -- The column of opcodes has numbers of seven bits.
 pub opcode-at : (i : ℕ) → getD opcodeNumbers i 0 ≡ rowAt i .opcode
 unfolding opcodeNumbers
-opcode-at i = List·getD-map (λ r. r .opcode) table i (record { mnemonic = []; opcode = 0; form = System })
+opcode-at i = List·getD-map (λ r. r .opcode) table i noRow
 
 opcodes-small : each (λ o. ltb o 128) opcodeNumbers ≡ true
 unfolding each opcodeNumbers table row
@@ -85,23 +85,9 @@ form-numbered Branch = refl
 form-numbered Jump = refl
 form-numbered System = refl
 
-form-small : (f : Form) → formNumber f < 8
-unfolding formNumber
-form-small R = omega arith
-form-small I = omega arith
-form-small Shift = omega arith
-form-small Load = omega arith
-form-small Store = omega arith
-form-small Branch = omega arith
-form-small Jump = omega arith
-form-small System = omega arith
-
 pub form-column : (i : ℕ) → i < 50 → getD formNumbers i 0 ≡ formNumber (rowAt i .form)
 unfolding formNumbers table
 form-column i h = column-at (λ r. formNumber (r .form)) table i _ h
 
 pub form-at : (i : ℕ) → i < 50 → formAt (getD formNumbers i 0) ≡ rowAt i .form
 form-at i h = rw (form-column i h) (form-numbered (rowAt i .form))
-
-pub form-below : (i : ℕ) → i < 50 → getD formNumbers i 0 < 8
-form-below i h = rw (form-column i h) (form-small (rowAt i .form))

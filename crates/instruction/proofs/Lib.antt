@@ -1,9 +1,9 @@
 pub mod Results
 pub mod Fields
 pub mod Rows
-pub mod Parts
 pub mod Columns
 pub mod Lookup
+pub mod Parts
 pub mod Placing
 pub mod Decoding
 pub mod Meaning

@@ -1,22 +1,23 @@
 -- Rows that are looked for: by the key of a mnemonic, at its slot, and by an opcode.
 use mathlib.Core.Path.{_≡_, refl, sym, ap, _∙_}
-use Prim.Native.Nat.{ℕ, zero, suc, _+_, _-_, _%_, _≤_, _<_}
+use Prim.Native.Nat.{ℕ, zero, suc, _+_, _-_, _/_, _%_, _≤_, _<_}
 use native.Mathlib.Nat.{mod-lt}
 use native.Mathlib.Omega.{arith}
-use mathlib.Core.Bool.{Bool, true, false, not, _&&_, _||_, and-eq-true-iff}
+use mathlib.Core.Bool.{Bool, true, false, not, _&&_, and-eq-true-iff}
 use mathlib.Core.Option.{none, some}
 use mathlib.Core.List.{List, [], _∷_, map}
-use lib.ListN.{length, getD, length-map}
-use lib.Dec.{leb, ltb, eqb}
-use borrow.Author.Tests.{ltb-true, leb-true, eqb-true, eqb-false, eq-eqb, ne-eqb, not-true}
+use lib.ListN.{length, getD, length-map, List·getD-eq-default}
+use lib.Dec.{ltb, eqb}
+use borrow.Author.Tests.{ltb-true, eqb-true, eqb-false, eq-eqb, ne-eqb, not-true}
 use Rattle.spelling.specs.Bytes.{bytes, every, same, find, each}
 use Rattle.spelling.specs.Contracts.{packed, keyOf}
-use Rattle.spelling.proofs.Tests.{by-test, both, or-elim}
+use Rattle.spelling.proofs.Tests.{by-test, both}
 use Rattle.spelling.proofs.Keys.{Below, isKeyed, byKey, found-by-key}
-use Rattle.instruction.specs.Table.{System, Row, row, table, rowNamed, rowCoded}
-use Rattle.instruction.specs.Contracts.{rowAt, mnemonicKeys, slotRow, slotRowsFrom, slotRows}
+use Rattle.instruction.specs.Table.{Row, row, table, rowNamed, rowCoded}
+use Rattle.instruction.specs.Contracts.{noRow, rowAt, mnemonicKeys, opcodeNumbers, slotRow, slotRowsFrom, slotRows, unusedBelow}
 use Rattle.instruction.specs.Fits.{InTable}
 use Rattle.instruction.proofs.Rows.{unique, fifty}
+use Rattle.instruction.proofs.Columns.{each-at, opcode-at}
 
 -- ---- searching a list
 
@@ -131,7 +132,7 @@ slot-small slots k e = rw (slot-of slots k e) (omega (arith, slot-most (k % 293)
 pub key-found : (k i : ℕ) → i ≡ slotRow (k % 293) mnemonicKeys → i < 50 → getD mnemonicKeys i 0 ≡ k → find (λ q. eqb (keyOf (q .mnemonic)) k) table ≡ some (rowAt i)
 unfolding mnemonicKeys
 key-found k i s l e =
-    rw s (slot-here k (record { mnemonic = []; opcode = 0; form = System }) table (rw (fifty, ← s) l) (rw (← s) e))
+    rw s (slot-here k noRow table (rw (fifty, ← s) l) (rw (← s) e))
 
 -- It has another: there is none.
 pub key-other : (k i : ℕ) → i ≡ slotRow (k % 293) mnemonicKeys → (getD mnemonicKeys i 0 ≡ k → ⊥) → find (λ q. eqb (keyOf (q .mnemonic)) k) table ≡ none
@@ -145,8 +146,63 @@ key-none k i s l = slot-none k table (rw (fifty, ← s) l)
 
 -- ---- by an opcode
 
+-- x is none of the numbers below n.
+abbrev pub NoneBelow : ℕ → ℕ → Type 0
+NoneBelow zero x = Unit {0}
+NoneBelow (suc n) x = NoneBelow n x × (x ≡ n → ⊥)
+
+pub from-on : (n x : ℕ) → NoneBelow n x → n ≤ x
+from-on zero x h = omega arith
+from-on (suc n) x h = let l = from-on n x (h .0) in omega (arith, h .1)
+
+abbrev counts : List ℕ
+counts = 0 ∷ 0 ∷ 7 ∷ 9 ∷ 11 ∷ 11 ∷ 18 ∷ 20 ∷ 24 ∷ 26 ∷ 32 ∷ []
+
+-- The count of the eight numbers that an opcode is among.
+pub unused-at : (c k : ℕ) → c / 8 ≡ k → getD counts k c ≤ c → (getD counts k c ≡ unusedBelow c) × (getD counts k c ≤ c)
+unfolding unusedBelow
+unused-at c k e l = (rw e, l)
+
+pub unused-above : (c : ℕ) → NoneBelow 11 (c / 8) → (c ≡ unusedBelow c) × (c ≤ c)
+unfolding unusedBelow
+unused-above c h = (sym (List·getD-eq-default counts c {n = c / 8} (from-on 11 (c / 8) h)), omega arith)
+
+abbrev coded : ℕ → Row → Bool
+coded c r = eqb (r .opcode) c
+
+-- An opcode stands first, and in the table, where the code looks for it.
+placed : Row → Bool
+placed r =
+    let i = r .opcode - unusedBelow (r .opcode) in
+    eqb (place (coded (r .opcode)) table) i && (ltb i 50 && eqb (rowAt i .opcode) (r .opcode))
+
+-- So does each.
+opcodes-placed : each placed table ≡ true
+unfolding each placed place unusedBelow table row
+opcodes-placed = refl
+
+-- The row where an opcode is looked for has it: it is the one.
+pub opcode-found : (c i : ℕ) → i ≡ c - unusedBelow c → i < 50 → getD opcodeNumbers i 0 ≡ c → rowCoded c ≡ some (rowAt i)
+unfolding placed rowCoded
+opcode-found c i s l e =
+    let o : rowAt i .opcode ≡ c = sym (opcode-at i) ∙ e in
+    let t = rw o at (each-at placed table i noRow (rw fifty l) opcodes-placed) in
+    let p : place (coded c) table ≡ i = eqb-true _ _ (and-eq-true-iff _ _ .0 t .0) ∙ sym s in
+    find-at (coded c) noRow table (rw (p, fifty) l) ∙ rw p
+
+-- It has another, or there is none: no row has the opcode.
+pub opcode-missing : (c i : ℕ) → i ≡ c - unusedBelow c → (i < 50 → getD opcodeNumbers i 0 ≡ c → ⊥) → rowCoded c ≡ none
+unfolding placed rowCoded
+opcode-missing c i s n =
+    find-none (coded c) placed (λ r t. ne-eqb (r .opcode) c (λ e.
+    let (p, q) = and-eq-true-iff (eqb (place (coded c) table) i) (ltb i 50 && eqb (rowAt i .opcode) c) .0 (rw (e, ← s) at t) in
+    let (l, o) = and-eq-true-iff (ltb i 50) (eqb (rowAt i .opcode) c) .0 q in
+    n (ltb-true i 50 l) (opcode-at i ∙ eqb-true _ _ o))) table opcodes-placed
+
+-- ---- by its place
+
 -- A test holds of all numbers below another.
-unfoldable pub allBelow : (ℕ → Bool) → ℕ → Bool
+unfoldable allBelow : (ℕ → Bool) → ℕ → Bool
 allBelow p zero = true
 allBelow p (suc n) = elim (p n) [ true ↦ allBelow p n | false ↦ false ]
 
@@ -156,36 +212,6 @@ below-all p zero i h l = absurd (omega arith)
 below-all p (suc n) i h l =
     let (a, b) = both (p n) (allBelow p n) h in
     by-test (eqb i n) (λ t. rw (eqb-true i n t) a) (λ t. let m = eqb-false i n t in below-all p n i b (omega (arith, m)))
-
-abbrev coded : ℕ → Row → Bool
-coded c r = eqb (r .opcode) c
-
--- So many opcodes from one on stand in the table so much before their numbers.
-unfoldable pub runs : (low count less : ℕ) → Bool
-runs low count less = allBelow (λ i. eqb (place (coded (low + i)) table) (low + i - less) && ltb (low + i - less) 50) count
-
-pub coded-run : (low count less c i : ℕ) → runs low count less ≡ true → i ≡ c - less → low ≤ c → c < low + count → (i < 50) × (rowCoded c ≡ some (rowAt i))
-unfolding runs rowCoded
-coded-run low count less c i h n l m =
-    let e : low + (c - low) ≡ c = omega arith in
-    let k = below-all (λ i. eqb (place (coded (low + i)) table) (low + i - less) && ltb (low + i - less) 50) count (c - low) h (omega arith) in
-    let (p, q) = and-eq-true-iff (eqb (place (coded c) table) (c - less)) (ltb (c - less) 50) .0 (rw e at k) in
-    let s : place (coded c) table ≡ i = eqb-true _ _ p ∙ sym n in
-    let t : i < 50 = rw n (ltb-true (c - less) 50 q) in
-    (t, find-at (coded c) (record { mnemonic = []; opcode = 0; form = System }) table (rw (s, fifty) t) ∙ rw s)
-
--- No opcode of the table is in a gap.
-unfoldable pub gap : (low end : ℕ) → Bool
-gap low end = each (λ r. ltb (r .opcode) low || leb end (r .opcode)) table
-
-pub coded-gap : (low end c : ℕ) → gap low end ≡ true → low ≤ c → c < end → rowCoded c ≡ none
-unfolding gap rowCoded
-coded-gap low end c h l m =
-    find-none (coded c) (λ r. ltb (r .opcode) low || leb end (r .opcode))
-    (λ r k. ne-eqb (r .opcode) c (λ e. or-elim (ltb (r .opcode) low) (leb end (r .opcode)) k
-    (λ t. omega (arith, ltb-true (r .opcode) low t)) (λ t. omega (arith, leb-true end (r .opcode) t)))) table h
-
--- ---- by its place
 
 named : ℕ → Row → Bool
 named i r = same (r .mnemonic) (rowAt i .mnemonic)
@@ -200,11 +226,4 @@ pub row-in-table : (i : ℕ) → i < 50 → InTable (rowAt i)
 unfolding named rowNamed
 row-in-table i h =
     let s : place (named i) table ≡ i = eqb-true _ _ (below-all (λ i. eqb (place (named i) table) i) 50 i named-places h) in
-    find-at (named i) (record { mnemonic = []; opcode = 0; form = System }) table (rw (s, fifty) h) ∙ rw s
-
--- Places below fifty have different rows.
-pub row-tells : (i j : ℕ) → i < 50 → j < 50 → rowAt i ≡ rowAt j → i ≡ j
-unfolding named
-row-tells i j h k e =
-    let s = below-all (λ i. eqb (place (named i) table) i) 50 in
-    sym (eqb-true _ _ (s i named-places h)) ∙ ap (λ (r : Row). place (λ q. same (q .mnemonic) (r .mnemonic)) table) e ∙ eqb-true _ _ (s j named-places k)
+    find-at (named i) noRow table (rw (s, fifty) h) ∙ rw s

@@ -9,11 +9,11 @@ use Rattle.spelling.specs.Contracts.{wholeMeant}
 use Rattle.instruction.specs.Table.{Place, reg, num, comma-place, opening-place, closing-place, Form, R, I, Shift, Load, Store, Branch, Jump, System, places, Row}
 use Rattle.instruction.specs.Operands.{Instruction as Meant}
 use Rattle.instruction.specs.Words.{wordOf, instructionOf}
-use Rattle.instruction.specs.Contracts.{rowAt, registersFor, numberFor, registersOf, partsOf, instructionMeant}
+use Rattle.instruction.specs.Contracts.{rowFor, registersFor, numberFor, registersOf, partsOf, instructionMeant}
 use Rattle.instruction.specs.declared.instruction.Instruction.{Instruction}
 use Rattle.instruction.specs.Fits.{placesOf, Regs, numberField, hasNumber, Fits, reducedTo}
-use Rattle.instruction.proofs.Parts.{row-below, register-below}
-use Rattle.instruction.proofs.Lookup.{row-in-table, row-tells}
+use Rattle.instruction.proofs.Rows.{named-row}
+use Rattle.instruction.proofs.Parts.{row-of, register-below}
 use Rattle.instruction.proofs.Decoding.{decode-encode, encode-decode}
 
 -- ---- it fits
@@ -41,24 +41,24 @@ number-fits (closing-place ∷ ps) z = number-fits ps z
 -- The meaning of an instruction fits.
 pub meant-fits : (i : Instruction) → Fits (instructionMeant i)
 meant-fits i =
-    let p = partsOf i in
+    let r = rowFor (partsOf i .mnemonic) in
+    let o = partsOf i .operands in
     record {
-      in-table = row-in-table (p .row) (row-below i);
-      registers = registers-fit (rowAt (p .row) .form) _ _ _ (register-below (p .operands .first)) (register-below (p .operands .second)) (register-below (p .operands .third));
-      number = number-fits (placesOf (rowAt (p .row))) _;
+      in-table = named-row (partsOf i .mnemonic) r (row-of i) .0;
+      registers = registers-fit (r .form) _ _ _ (register-below (o .first)) (register-below (o .second)) (register-below (o .third));
+      number = number-fits (placesOf r) _;
     }
 
 -- ---- what it tells
 
--- Instructions that mean the same stand in one row of the table, and have the same registers and the same number, where their form
--- has a place for them.
-pub meant-tells : (i j : Instruction) → instructionMeant i ≡ instructionMeant j → let ps = placesOf (rowAt (partsOf i .row)) in
-    (partsOf i .row ≡ partsOf j .row)
+-- Instructions that mean the same have one mnemonic, and the same registers and the same number, where their form has a place for them.
+pub meant-tells : (i j : Instruction) → instructionMeant i ≡ instructionMeant j → let ps = placesOf (rowFor (partsOf i .mnemonic)) in
+    (partsOf i .mnemonic ≡ partsOf j .mnemonic)
     × (registersFor ps (registersOf (partsOf i .operands)) ≡ registersFor ps (registersOf (partsOf j .operands)))
     × (numberFor ps (wholeMeant (partsOf i .operands .number)) ≡ numberFor ps (wholeMeant (partsOf j .operands .number)))
 meant-tells i j e =
     let r = ap (λ (x : Meant). x .row) e in (
-      row-tells (partsOf i .row) (partsOf j .row) (row-below i) (row-below j) r,
+      sym (named-row (partsOf i .mnemonic) _ (row-of i) .1) ∙ ap (λ (x : Row). x .mnemonic) r ∙ named-row (partsOf j .mnemonic) _ (row-of j) .1,
       ap (λ (x : Meant). x .registers) e ∙ ap (λ (x : Row). registersFor (placesOf x) (registersOf (partsOf j .operands))) (sym r),
       ap (λ (x : Meant). x .number) e ∙ ap (λ (x : Row). numberFor (placesOf x) (wholeMeant (partsOf j .operands .number))) (sym r),
     )

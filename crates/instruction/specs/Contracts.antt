@@ -1,5 +1,6 @@
 -- What the code's values mean in terms of the definitions, and what its functions promise.
-use Prim.Native.Nat.{ℕ, zero, suc, _%_, _<_}
+use Prim.Native.Nat.{ℕ, zero, suc, _/_, _%_, _<_}
+use Prim.Native.String.{String}
 use mathlib.Core.Path.{_≡_}
 use mathlib.Core.Bool.{true, false}
 use mathlib.Core.Option.{Option, none, some}
@@ -7,24 +8,31 @@ use mathlib.Core.List.{List, [], _∷_, map}
 use lib.ListN.{getD}
 use lib.Dec.{eqb}
 use lib.IntN.{ℤ}
+use Rattle.spelling.specs.Bytes.{bytes}
 use Rattle.spelling.specs.Contracts.{keyOf, indexOf, wholeMeant}
 use Rattle.spelling.specs.declared.register.Register.{Register}
 use Rattle.spelling.specs.declared.register.Register.the-variants.{R0}
 use Rattle.spelling.specs.declared.number.Whole.{Whole}
-use Rattle.instruction.specs.Table.{Place, reg, num, comma-place, opening-place, closing-place, Form, R, I, Shift, Load, Store, Branch, Jump, System, places, Row, table}
+use Rattle.instruction.specs.Table.{Place, reg, num, comma-place, opening-place, closing-place, Form, R, I, Shift, Load, Store, Branch, Jump, System, places, Row, table, rowNamed}
 use Rattle.instruction.specs.Operands.{Instruction as Meant, Operands as MeantOperands}
 use Rattle.instruction.specs.declared.instruction.Instruction.{Instruction}
 use Rattle.instruction.specs.declared.instruction.Instruction.the-variants.{Add, Sub, Mul, Mulh, Divu, Remu, Div, Rem, Addi, And, Or, Xor, Andi, Ori, Xori, Sll, Srl, Sra, Slli, Srli, Srai, Sltu, Sgeu, Slt, Sge, Seq, Sne, Cmov, Cmovz, Cmovnz, Lb, Lbu, Lh, Lhu, Lw, Ld, Sb, Sh, Sw, Sd, Beq, Bne, Blt, Bge, Bltu, Bgeu, Jal, Jalr, Ecall, Ebreak}
 use Rattle.instruction.specs.declared.instruction.Operands.{Operands}
-use Rattle.instruction.specs.declared.instruction.Parts.{Parts}
 use Rattle.instruction.specs.declared.opcode.Row.{Row as Looked}
 use Rattle.instruction.specs.declared.opcode.Row.the-variants.{At, Missing}
 
 -- ---- the table
 
--- A row of the table by its place in it.
+-- What a place or a spelling without a row stands for.
+abbrev pub noRow : Row
+noRow = record { mnemonic = []; opcode = 0; form = System }
+
+-- A row of the table by its place in it, and by its mnemonic.
 abbrev pub rowAt : ℕ → Row
-rowAt i = getD table i (record { mnemonic = []; opcode = 0; form = System })
+rowAt i = getD table i noRow
+
+unfoldable pub rowFor : List ℕ → Row
+rowFor s = elim (rowNamed s) [ some r ↦ r | none ↦ noRow ]
 
 -- A form by its number.
 abbrev pub formAt : ℕ → Form
@@ -63,6 +71,11 @@ slotRowsFrom residue (suc n) = slotRow residue mnemonicKeys ∷ slotRowsFrom (su
 unfoldable pub slotRows : List ℕ
 slotRows = slotRowsFrom 0 293
 
+-- How many numbers below an opcode are no opcodes, as the code counts them: the same for all opcodes among eight numbers. From 88 on
+-- there are no opcodes.
+unfoldable pub unusedBelow : ℕ → ℕ
+unusedBelow c = getD (0 ∷ 0 ∷ 7 ∷ 9 ∷ 11 ∷ 11 ∷ 18 ∷ 20 ∷ 24 ∷ 26 ∷ 32 ∷ []) (c / 8) c
+
 -- A row that was looked for: where it stands in the table.
 abbrev pub IsRow : Looked → Option Row → Type 0
 IsRow (At i) o = (i < 50) × (o ≡ some (rowAt i))
@@ -76,61 +89,66 @@ noNumber = record { negative = false; magnitude = 0 }
 abbrev pub operands : Register → Register → Register → Whole → Operands
 operands a b c n = record { first = a; second = b; third = c; number = n }
 
-abbrev pub parts : ℕ → Register → Register → Register → Whole → Parts
-parts i a b c n = record { row = i; operands = operands a b c n }
+-- A mnemonic and operands.
+pub record Named : Type 0 where
+  pub mnemonic : List ℕ
+  pub operands : Operands
 
--- An instruction's place in the table, and its registers and number in operand order.
-abbrev pub partsOf : Instruction → Parts
-partsOf (Add d a b) = parts 0 d a b noNumber
-partsOf (Sub d a b) = parts 1 d a b noNumber
-partsOf (Mul d a b) = parts 2 d a b noNumber
-partsOf (Mulh d a b) = parts 3 d a b noNumber
-partsOf (Divu d a b) = parts 4 d a b noNumber
-partsOf (Remu d a b) = parts 5 d a b noNumber
-partsOf (Div d a b) = parts 6 d a b noNumber
-partsOf (Rem d a b) = parts 7 d a b noNumber
-partsOf (Addi d a n) = parts 8 d a R0 n
-partsOf (And d a b) = parts 9 d a b noNumber
-partsOf (Or d a b) = parts 10 d a b noNumber
-partsOf (Xor d a b) = parts 11 d a b noNumber
-partsOf (Andi d a n) = parts 12 d a R0 n
-partsOf (Ori d a n) = parts 13 d a R0 n
-partsOf (Xori d a n) = parts 14 d a R0 n
-partsOf (Sll d a b) = parts 15 d a b noNumber
-partsOf (Srl d a b) = parts 16 d a b noNumber
-partsOf (Sra d a b) = parts 17 d a b noNumber
-partsOf (Slli d a n) = parts 18 d a R0 n
-partsOf (Srli d a n) = parts 19 d a R0 n
-partsOf (Srai d a n) = parts 20 d a R0 n
-partsOf (Sltu d a b) = parts 21 d a b noNumber
-partsOf (Sgeu d a b) = parts 22 d a b noNumber
-partsOf (Slt d a b) = parts 23 d a b noNumber
-partsOf (Sge d a b) = parts 24 d a b noNumber
-partsOf (Seq d a b) = parts 25 d a b noNumber
-partsOf (Sne d a b) = parts 26 d a b noNumber
-partsOf (Cmov d a b) = parts 27 d a b noNumber
-partsOf (Cmovz d a b) = parts 28 d a b noNumber
-partsOf (Cmovnz d a b) = parts 29 d a b noNumber
-partsOf (Lb d a n) = parts 30 d a R0 n
-partsOf (Lbu d a n) = parts 31 d a R0 n
-partsOf (Lh d a n) = parts 32 d a R0 n
-partsOf (Lhu d a n) = parts 33 d a R0 n
-partsOf (Lw d a n) = parts 34 d a R0 n
-partsOf (Ld d a n) = parts 35 d a R0 n
-partsOf (Sb a b n) = parts 36 b a R0 n
-partsOf (Sh a b n) = parts 37 b a R0 n
-partsOf (Sw a b n) = parts 38 b a R0 n
-partsOf (Sd a b n) = parts 39 b a R0 n
-partsOf (Beq a b n) = parts 40 a b R0 n
-partsOf (Bne a b n) = parts 41 a b R0 n
-partsOf (Blt a b n) = parts 42 a b R0 n
-partsOf (Bge a b n) = parts 43 a b R0 n
-partsOf (Bltu a b n) = parts 44 a b R0 n
-partsOf (Bgeu a b n) = parts 45 a b R0 n
-partsOf (Jal d n) = parts 46 d R0 R0 n
-partsOf (Jalr d a n) = parts 47 d a R0 n
-partsOf Ecall = parts 48 R0 R0 R0 noNumber
-partsOf Ebreak = parts 49 R0 R0 R0 noNumber
+abbrev pub of : String → Register → Register → Register → Whole → Named
+of s a b c n = record { mnemonic = bytes s; operands = operands a b c n }
+
+-- An instruction's mnemonic, and its registers and number in operand order; R0 and 0 where it has none.
+abbrev pub partsOf : Instruction → Named
+partsOf (Add d a b) = of "add" d a b noNumber
+partsOf (Sub d a b) = of "sub" d a b noNumber
+partsOf (Mul d a b) = of "mul" d a b noNumber
+partsOf (Mulh d a b) = of "mulh" d a b noNumber
+partsOf (Divu d a b) = of "divu" d a b noNumber
+partsOf (Remu d a b) = of "remu" d a b noNumber
+partsOf (Div d a b) = of "div" d a b noNumber
+partsOf (Rem d a b) = of "rem" d a b noNumber
+partsOf (Addi d a n) = of "addi" d a R0 n
+partsOf (And d a b) = of "and" d a b noNumber
+partsOf (Or d a b) = of "or" d a b noNumber
+partsOf (Xor d a b) = of "xor" d a b noNumber
+partsOf (Andi d a n) = of "andi" d a R0 n
+partsOf (Ori d a n) = of "ori" d a R0 n
+partsOf (Xori d a n) = of "xori" d a R0 n
+partsOf (Sll d a b) = of "sll" d a b noNumber
+partsOf (Srl d a b) = of "srl" d a b noNumber
+partsOf (Sra d a b) = of "sra" d a b noNumber
+partsOf (Slli d a n) = of "slli" d a R0 n
+partsOf (Srli d a n) = of "srli" d a R0 n
+partsOf (Srai d a n) = of "srai" d a R0 n
+partsOf (Sltu d a b) = of "sltu" d a b noNumber
+partsOf (Sgeu d a b) = of "sgeu" d a b noNumber
+partsOf (Slt d a b) = of "slt" d a b noNumber
+partsOf (Sge d a b) = of "sge" d a b noNumber
+partsOf (Seq d a b) = of "seq" d a b noNumber
+partsOf (Sne d a b) = of "sne" d a b noNumber
+partsOf (Cmov d a b) = of "cmov" d a b noNumber
+partsOf (Cmovz d a b) = of "cmovz" d a b noNumber
+partsOf (Cmovnz d a b) = of "cmovnz" d a b noNumber
+partsOf (Lb d a n) = of "lb" d a R0 n
+partsOf (Lbu d a n) = of "lbu" d a R0 n
+partsOf (Lh d a n) = of "lh" d a R0 n
+partsOf (Lhu d a n) = of "lhu" d a R0 n
+partsOf (Lw d a n) = of "lw" d a R0 n
+partsOf (Ld d a n) = of "ld" d a R0 n
+partsOf (Sb a b n) = of "sb" b a R0 n
+partsOf (Sh a b n) = of "sh" b a R0 n
+partsOf (Sw a b n) = of "sw" b a R0 n
+partsOf (Sd a b n) = of "sd" b a R0 n
+partsOf (Beq a b n) = of "beq" a b R0 n
+partsOf (Bne a b n) = of "bne" a b R0 n
+partsOf (Blt a b n) = of "blt" a b R0 n
+partsOf (Bge a b n) = of "bge" a b R0 n
+partsOf (Bltu a b n) = of "bltu" a b R0 n
+partsOf (Bgeu a b n) = of "bgeu" a b R0 n
+partsOf (Jal d n) = of "jal" d R0 R0 n
+partsOf (Jalr d a n) = of "jalr" d a R0 n
+partsOf Ecall = of "ecall" R0 R0 R0 noNumber
+partsOf Ebreak = of "ebreak" R0 R0 R0 noNumber
 
 -- The operands that a form has a place for; R0 and 0 for the others.
 abbrev pub keep : Form → Operands → Operands
@@ -168,14 +186,20 @@ registersOf o = indexOf (o .first) ∷ indexOf (o .second) ∷ indexOf (o .third
 abbrev pub operandsMeant : List Place → Operands → MeantOperands
 operandsMeant ps o = record { registers = registersFor ps (registersOf o); number = numberFor ps (wholeMeant (o .number)) }
 
-abbrev pub partsMeant : Parts → Meant
-partsMeant p =
-    record {
-      row = rowAt (p .row);
-      registers = registersFor (places (rowAt (p .row) .form)) (registersOf (p .operands));
-      number = numberFor (places (rowAt (p .row) .form)) (wholeMeant (p .operands .number));
-    }
+-- A row of the table with operands of the code's.
+abbrev pub rowMeant : Row → Operands → Meant
+rowMeant r o =
+    record { row = r; registers = registersFor (places (r .form)) (registersOf o); number = numberFor (places (r .form)) (wholeMeant (o .number)) }
 
--- The instruction of the definitions that the code's means. Whether a 0 has a sign is not looked at: -0 means 0.
+-- The same by the row's place in the table.
+pub record Parts : Type 0 where
+  pub row : ℕ
+  pub operands : Operands
+
+abbrev pub partsMeant : Parts → Meant
+partsMeant p = rowMeant (rowAt (p .row)) (p .operands)
+
+-- The instruction of the definitions that the code's means: the row is the one that its mnemonic names. Whether a 0 has a sign is not
+-- looked at: -0 means 0.
 abbrev pub instructionMeant : Instruction → Meant
-instructionMeant i = partsMeant (partsOf i)
+instructionMeant i = rowMeant (rowFor (partsOf i .mnemonic)) (partsOf i .operands)

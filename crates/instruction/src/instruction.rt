@@ -2,8 +2,8 @@
 ghost use mathlib.Core.Path.{_≡_};
 ghost use Prim.Native.Nat.{_<_};
 ghost use mathlib.Core.Bool.{false};
-ghost use Rattle.instruction.specs.Contracts.{rowAt, parts, keep, noNumber, partsOf, instructionMeant, partsMeant};
-ghost use Rattle.spelling.specs.declared.register.Register.the-variants.{R0};
+ghost use Rattle.instruction.specs.Contracts.{rowAt, keep, partsOf, instructionMeant, partsMeant};
+use crate::opcode;
 use spelling::number::Whole;
 use spelling::register::Register;
 
@@ -261,18 +261,12 @@ pub enum Instruction {
     Ebreak,
 }
 
-// Registers and number in operand order. What a form has no place for is not looked at; `to_parts` gives R0 and 0 there.
+// Registers and number in operand order. What a form has no place for is not looked at.
 pub struct Operands {
     pub first: Register,
     pub second: Register,
     pub third: Register,
     pub number: Whole,
-}
-
-// An instruction by its row of the table and its operands.
-pub struct Parts {
-    pub row: usize,
-    pub operands: Operands,
 }
 
 pub fn no_number() -> Whole
@@ -284,101 +278,11 @@ pub fn no_number() -> Whole
     }
 }
 
-// Three registers, and no number.
-fn of_registers(row: usize, first: Register, second: Register, third: Register) -> Parts
-    ensures { λ r. ⌜ r ≡ parts row first second third noNumber ⌝ }
-{
-    let number = no_number();
-    Parts {
-        row,
-        operands: Operands {
-            first,
-            second,
-            third,
-            number,
-        },
-    }
-}
-
-// Two registers and a number.
-fn of_number(row: usize, first: Register, second: Register, number: Whole) -> Parts
-    ensures { λ r. ⌜ r ≡ parts row first second R0 number ⌝ }
-{
-    let third = Register::R0;
-    Parts {
-        row,
-        operands: Operands {
-            first,
-            second,
-            third,
-            number,
-        },
-    }
-}
-
 impl Instruction {
-    // The row of the table and the operands.
-    pub fn to_parts(self) -> Parts
-        ensures { λ r. ⌜ r ≡ partsOf self ⌝ ∗ ⌜ r .row < 50 ⌝ }
-    {
-        match self {
-            Instruction::Add { rd, rs1, rs2 } => of_registers(0, rd, rs1, rs2),
-            Instruction::Sub { rd, rs1, rs2 } => of_registers(1, rd, rs1, rs2),
-            Instruction::Mul { rd, rs1, rs2 } => of_registers(2, rd, rs1, rs2),
-            Instruction::Mulh { rd, rs1, rs2 } => of_registers(3, rd, rs1, rs2),
-            Instruction::Divu { rd, rs1, rs2 } => of_registers(4, rd, rs1, rs2),
-            Instruction::Remu { rd, rs1, rs2 } => of_registers(5, rd, rs1, rs2),
-            Instruction::Div { rd, rs1, rs2 } => of_registers(6, rd, rs1, rs2),
-            Instruction::Rem { rd, rs1, rs2 } => of_registers(7, rd, rs1, rs2),
-            Instruction::Addi { rd, rs1, imm } => of_number(8, rd, rs1, imm),
-            Instruction::And { rd, rs1, rs2 } => of_registers(9, rd, rs1, rs2),
-            Instruction::Or { rd, rs1, rs2 } => of_registers(10, rd, rs1, rs2),
-            Instruction::Xor { rd, rs1, rs2 } => of_registers(11, rd, rs1, rs2),
-            Instruction::Andi { rd, rs1, imm } => of_number(12, rd, rs1, imm),
-            Instruction::Ori { rd, rs1, imm } => of_number(13, rd, rs1, imm),
-            Instruction::Xori { rd, rs1, imm } => of_number(14, rd, rs1, imm),
-            Instruction::Sll { rd, rs1, rs2 } => of_registers(15, rd, rs1, rs2),
-            Instruction::Srl { rd, rs1, rs2 } => of_registers(16, rd, rs1, rs2),
-            Instruction::Sra { rd, rs1, rs2 } => of_registers(17, rd, rs1, rs2),
-            Instruction::Slli { rd, rs1, shamt } => of_number(18, rd, rs1, shamt),
-            Instruction::Srli { rd, rs1, shamt } => of_number(19, rd, rs1, shamt),
-            Instruction::Srai { rd, rs1, shamt } => of_number(20, rd, rs1, shamt),
-            Instruction::Sltu { rd, rs1, rs2 } => of_registers(21, rd, rs1, rs2),
-            Instruction::Sgeu { rd, rs1, rs2 } => of_registers(22, rd, rs1, rs2),
-            Instruction::Slt { rd, rs1, rs2 } => of_registers(23, rd, rs1, rs2),
-            Instruction::Sge { rd, rs1, rs2 } => of_registers(24, rd, rs1, rs2),
-            Instruction::Seq { rd, rs1, rs2 } => of_registers(25, rd, rs1, rs2),
-            Instruction::Sne { rd, rs1, rs2 } => of_registers(26, rd, rs1, rs2),
-            Instruction::Cmov { rd, rs1, rs2 } => of_registers(27, rd, rs1, rs2),
-            Instruction::Cmovz { rd, rs1, rs2 } => of_registers(28, rd, rs1, rs2),
-            Instruction::Cmovnz { rd, rs1, rs2 } => of_registers(29, rd, rs1, rs2),
-            Instruction::Lb { rd, rs1, imm } => of_number(30, rd, rs1, imm),
-            Instruction::Lbu { rd, rs1, imm } => of_number(31, rd, rs1, imm),
-            Instruction::Lh { rd, rs1, imm } => of_number(32, rd, rs1, imm),
-            Instruction::Lhu { rd, rs1, imm } => of_number(33, rd, rs1, imm),
-            Instruction::Lw { rd, rs1, imm } => of_number(34, rd, rs1, imm),
-            Instruction::Ld { rd, rs1, imm } => of_number(35, rd, rs1, imm),
-            Instruction::Sb { rs1, rs2, imm } => of_number(36, rs2, rs1, imm),
-            Instruction::Sh { rs1, rs2, imm } => of_number(37, rs2, rs1, imm),
-            Instruction::Sw { rs1, rs2, imm } => of_number(38, rs2, rs1, imm),
-            Instruction::Sd { rs1, rs2, imm } => of_number(39, rs2, rs1, imm),
-            Instruction::Beq { rs1, rs2, offset } => of_number(40, rs1, rs2, offset),
-            Instruction::Bne { rs1, rs2, offset } => of_number(41, rs1, rs2, offset),
-            Instruction::Blt { rs1, rs2, offset } => of_number(42, rs1, rs2, offset),
-            Instruction::Bge { rs1, rs2, offset } => of_number(43, rs1, rs2, offset),
-            Instruction::Bltu { rs1, rs2, offset } => of_number(44, rs1, rs2, offset),
-            Instruction::Bgeu { rs1, rs2, offset } => of_number(45, rs1, rs2, offset),
-            Instruction::Jal { rd, offset } => of_number(46, rd, Register::R0, offset),
-            Instruction::Jalr { rd, rs1, imm } => of_number(47, rd, rs1, imm),
-            Instruction::Ecall => of_registers(48, Register::R0, Register::R0, Register::R0),
-            Instruction::Ebreak => of_registers(49, Register::R0, Register::R0, Register::R0),
-        }
-    }
-
-    // The instruction of a row of the table with operands.
+    // The instruction of a row of the table with operands. Rows are named as in the table; the last of them is Ebreak's.
     pub fn from_parts(row: usize, operands: Operands) -> Instruction
         requires { ⌜ row < 50 ⌝ }
-        ensures { λ r. ⌜ partsOf r ≡ record { row = row; operands = keep (rowAt row .form) operands } ⌝ ∗ ⌜ instructionMeant r ≡ partsMeant (record { row = row; operands = operands }) ⌝ }
+        ensures { λ r. ⌜ partsOf r ≡ record { mnemonic = rowAt row .mnemonic; operands = keep (rowAt row .form) operands } ⌝ ∗ ⌜ instructionMeant r ≡ partsMeant (record { row = row; operands = operands }) ⌝ }
     {
         let first = operands.first;
         let second = operands.second;
@@ -386,246 +290,246 @@ impl Instruction {
         let number = operands.number;
         // Each case returns by itself: a result that all fifty share costs its proof a third more.
         match row {
-            0 => return Instruction::Add {
+            opcode::ADD => return Instruction::Add {
                 rd: first,
                 rs1: second,
                 rs2: third,
             },
-            1 => return Instruction::Sub {
+            opcode::SUB => return Instruction::Sub {
                 rd: first,
                 rs1: second,
                 rs2: third,
             },
-            2 => return Instruction::Mul {
+            opcode::MUL => return Instruction::Mul {
                 rd: first,
                 rs1: second,
                 rs2: third,
             },
-            3 => return Instruction::Mulh {
+            opcode::MULH => return Instruction::Mulh {
                 rd: first,
                 rs1: second,
                 rs2: third,
             },
-            4 => return Instruction::Divu {
+            opcode::DIVU => return Instruction::Divu {
                 rd: first,
                 rs1: second,
                 rs2: third,
             },
-            5 => return Instruction::Remu {
+            opcode::REMU => return Instruction::Remu {
                 rd: first,
                 rs1: second,
                 rs2: third,
             },
-            6 => return Instruction::Div {
+            opcode::DIV => return Instruction::Div {
                 rd: first,
                 rs1: second,
                 rs2: third,
             },
-            7 => return Instruction::Rem {
+            opcode::REM => return Instruction::Rem {
                 rd: first,
                 rs1: second,
                 rs2: third,
             },
-            8 => return Instruction::Addi {
+            opcode::ADDI => return Instruction::Addi {
                 rd: first,
                 rs1: second,
                 imm: number,
             },
-            9 => return Instruction::And {
+            opcode::AND => return Instruction::And {
                 rd: first,
                 rs1: second,
                 rs2: third,
             },
-            10 => return Instruction::Or {
+            opcode::OR => return Instruction::Or {
                 rd: first,
                 rs1: second,
                 rs2: third,
             },
-            11 => return Instruction::Xor {
+            opcode::XOR => return Instruction::Xor {
                 rd: first,
                 rs1: second,
                 rs2: third,
             },
-            12 => return Instruction::Andi {
+            opcode::ANDI => return Instruction::Andi {
                 rd: first,
                 rs1: second,
                 imm: number,
             },
-            13 => return Instruction::Ori {
+            opcode::ORI => return Instruction::Ori {
                 rd: first,
                 rs1: second,
                 imm: number,
             },
-            14 => return Instruction::Xori {
+            opcode::XORI => return Instruction::Xori {
                 rd: first,
                 rs1: second,
                 imm: number,
             },
-            15 => return Instruction::Sll {
+            opcode::SLL => return Instruction::Sll {
                 rd: first,
                 rs1: second,
                 rs2: third,
             },
-            16 => return Instruction::Srl {
+            opcode::SRL => return Instruction::Srl {
                 rd: first,
                 rs1: second,
                 rs2: third,
             },
-            17 => return Instruction::Sra {
+            opcode::SRA => return Instruction::Sra {
                 rd: first,
                 rs1: second,
                 rs2: third,
             },
-            18 => return Instruction::Slli {
+            opcode::SLLI => return Instruction::Slli {
                 rd: first,
                 rs1: second,
                 shamt: number,
             },
-            19 => return Instruction::Srli {
+            opcode::SRLI => return Instruction::Srli {
                 rd: first,
                 rs1: second,
                 shamt: number,
             },
-            20 => return Instruction::Srai {
+            opcode::SRAI => return Instruction::Srai {
                 rd: first,
                 rs1: second,
                 shamt: number,
             },
-            21 => return Instruction::Sltu {
+            opcode::SLTU => return Instruction::Sltu {
                 rd: first,
                 rs1: second,
                 rs2: third,
             },
-            22 => return Instruction::Sgeu {
+            opcode::SGEU => return Instruction::Sgeu {
                 rd: first,
                 rs1: second,
                 rs2: third,
             },
-            23 => return Instruction::Slt {
+            opcode::SLT => return Instruction::Slt {
                 rd: first,
                 rs1: second,
                 rs2: third,
             },
-            24 => return Instruction::Sge {
+            opcode::SGE => return Instruction::Sge {
                 rd: first,
                 rs1: second,
                 rs2: third,
             },
-            25 => return Instruction::Seq {
+            opcode::SEQ => return Instruction::Seq {
                 rd: first,
                 rs1: second,
                 rs2: third,
             },
-            26 => return Instruction::Sne {
+            opcode::SNE => return Instruction::Sne {
                 rd: first,
                 rs1: second,
                 rs2: third,
             },
-            27 => return Instruction::Cmov {
+            opcode::CMOV => return Instruction::Cmov {
                 rd: first,
                 rs1: second,
                 rs2: third,
             },
-            28 => return Instruction::Cmovz {
+            opcode::CMOVZ => return Instruction::Cmovz {
                 rd: first,
                 rs1: second,
                 rs2: third,
             },
-            29 => return Instruction::Cmovnz {
+            opcode::CMOVNZ => return Instruction::Cmovnz {
                 rd: first,
                 rs1: second,
                 rs2: third,
             },
-            30 => return Instruction::Lb {
+            opcode::LB => return Instruction::Lb {
                 rd: first,
                 rs1: second,
                 imm: number,
             },
-            31 => return Instruction::Lbu {
+            opcode::LBU => return Instruction::Lbu {
                 rd: first,
                 rs1: second,
                 imm: number,
             },
-            32 => return Instruction::Lh {
+            opcode::LH => return Instruction::Lh {
                 rd: first,
                 rs1: second,
                 imm: number,
             },
-            33 => return Instruction::Lhu {
+            opcode::LHU => return Instruction::Lhu {
                 rd: first,
                 rs1: second,
                 imm: number,
             },
-            34 => return Instruction::Lw {
+            opcode::LW => return Instruction::Lw {
                 rd: first,
                 rs1: second,
                 imm: number,
             },
-            35 => return Instruction::Ld {
+            opcode::LD => return Instruction::Ld {
                 rd: first,
                 rs1: second,
                 imm: number,
             },
-            36 => return Instruction::Sb {
+            opcode::SB => return Instruction::Sb {
                 rs1: second,
                 rs2: first,
                 imm: number,
             },
-            37 => return Instruction::Sh {
+            opcode::SH => return Instruction::Sh {
                 rs1: second,
                 rs2: first,
                 imm: number,
             },
-            38 => return Instruction::Sw {
+            opcode::SW => return Instruction::Sw {
                 rs1: second,
                 rs2: first,
                 imm: number,
             },
-            39 => return Instruction::Sd {
+            opcode::SD => return Instruction::Sd {
                 rs1: second,
                 rs2: first,
                 imm: number,
             },
-            40 => return Instruction::Beq {
+            opcode::BEQ => return Instruction::Beq {
                 rs1: first,
                 rs2: second,
                 offset: number,
             },
-            41 => return Instruction::Bne {
+            opcode::BNE => return Instruction::Bne {
                 rs1: first,
                 rs2: second,
                 offset: number,
             },
-            42 => return Instruction::Blt {
+            opcode::BLT => return Instruction::Blt {
                 rs1: first,
                 rs2: second,
                 offset: number,
             },
-            43 => return Instruction::Bge {
+            opcode::BGE => return Instruction::Bge {
                 rs1: first,
                 rs2: second,
                 offset: number,
             },
-            44 => return Instruction::Bltu {
+            opcode::BLTU => return Instruction::Bltu {
                 rs1: first,
                 rs2: second,
                 offset: number,
             },
-            45 => return Instruction::Bgeu {
+            opcode::BGEU => return Instruction::Bgeu {
                 rs1: first,
                 rs2: second,
                 offset: number,
             },
-            46 => return Instruction::Jal {
+            opcode::JAL => return Instruction::Jal {
                 rd: first,
                 offset: number,
             },
-            47 => return Instruction::Jalr {
+            opcode::JALR => return Instruction::Jalr {
                 rd: first,
                 rs1: second,
                 imm: number,
             },
-            48 => return Instruction::Ecall,
+            opcode::ECALL => return Instruction::Ecall,
             _ => return Instruction::Ebreak,
         }
     }

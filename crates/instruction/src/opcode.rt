@@ -1,12 +1,113 @@
 // The table of the fifty mnemonics: mnemonic, opcode and form, by ascending opcode. A caller asks for the arrays once and lends
 // them, since a constant array is built anew wherever it stands.
 ghost use mathlib.Core.Path.{_≡_};
-ghost use Prim.Native.Nat.{_<_};
+ghost use Prim.Native.Nat.{_≤_};
 ghost use lib.Dec.{eqb};
 ghost use Rattle.spelling.specs.Bytes.{find};
 ghost use Rattle.spelling.specs.Contracts.{keyOf};
 ghost use Rattle.instruction.specs.Table.{table, rowCoded};
-ghost use Rattle.instruction.specs.Contracts.{mnemonicKeys, slotRows, opcodeNumbers, formNumbers, IsRow};
+ghost use Rattle.instruction.specs.Contracts.{mnemonicKeys, slotRows, opcodeNumbers, formNumbers, unusedBelow, IsRow};
+
+// The rows of the table by their mnemonics: where an entry stands in each column.
+pub const ADD: usize = 0;
+
+pub const SUB: usize = 1;
+
+pub const MUL: usize = 2;
+
+pub const MULH: usize = 3;
+
+pub const DIVU: usize = 4;
+
+pub const REMU: usize = 5;
+
+pub const DIV: usize = 6;
+
+pub const REM: usize = 7;
+
+pub const ADDI: usize = 8;
+
+pub const AND: usize = 9;
+
+pub const OR: usize = 10;
+
+pub const XOR: usize = 11;
+
+pub const ANDI: usize = 12;
+
+pub const ORI: usize = 13;
+
+pub const XORI: usize = 14;
+
+pub const SLL: usize = 15;
+
+pub const SRL: usize = 16;
+
+pub const SRA: usize = 17;
+
+pub const SLLI: usize = 18;
+
+pub const SRLI: usize = 19;
+
+pub const SRAI: usize = 20;
+
+pub const SLTU: usize = 21;
+
+pub const SGEU: usize = 22;
+
+pub const SLT: usize = 23;
+
+pub const SGE: usize = 24;
+
+pub const SEQ: usize = 25;
+
+pub const SNE: usize = 26;
+
+pub const CMOV: usize = 27;
+
+pub const CMOVZ: usize = 28;
+
+pub const CMOVNZ: usize = 29;
+
+pub const LB: usize = 30;
+
+pub const LBU: usize = 31;
+
+pub const LH: usize = 32;
+
+pub const LHU: usize = 33;
+
+pub const LW: usize = 34;
+
+pub const LD: usize = 35;
+
+pub const SB: usize = 36;
+
+pub const SH: usize = 37;
+
+pub const SW: usize = 38;
+
+pub const SD: usize = 39;
+
+pub const BEQ: usize = 40;
+
+pub const BNE: usize = 41;
+
+pub const BLT: usize = 42;
+
+pub const BGE: usize = 43;
+
+pub const BLTU: usize = 44;
+
+pub const BGEU: usize = 45;
+
+pub const JAL: usize = 46;
+
+pub const JALR: usize = 47;
+
+pub const ECALL: usize = 48;
+
+pub const EBREAK: usize = 49;
 
 // A mnemonic as its key: the letters, the first lowest, with a 1 behind them.
 const MNEMONICS: [u64; 50] = [
@@ -63,56 +164,56 @@ const MNEMONICS: [u64; 50] = [
 ];
 
 const OPCODES: [u8; 50] = [
-    0x00,
-    0x01,
-    0x02,
-    0x03,
-    0x04,
-    0x05,
-    0x06,
-    0x07,
-    0x08,
-    0x10,
-    0x11,
-    0x12,
-    0x13,
-    0x14,
-    0x15,
-    0x18,
-    0x19,
-    0x1A,
-    0x1B,
-    0x1C,
-    0x1D,
-    0x20,
-    0x21,
-    0x22,
-    0x23,
-    0x24,
-    0x25,
-    0x26,
-    0x27,
-    0x28,
-    0x30,
-    0x31,
-    0x32,
-    0x33,
-    0x34,
-    0x35,
-    0x38,
-    0x39,
-    0x3A,
-    0x3B,
-    0x40,
-    0x41,
-    0x42,
-    0x43,
-    0x44,
-    0x45,
-    0x48,
-    0x49,
-    0x50,
-    0x51,
+    0x00, // add
+    0x01, // sub
+    0x02, // mul
+    0x03, // mulh
+    0x04, // divu
+    0x05, // remu
+    0x06, // div
+    0x07, // rem
+    0x08, // addi
+    0x10, // and
+    0x11, // or
+    0x12, // xor
+    0x13, // andi
+    0x14, // ori
+    0x15, // xori
+    0x18, // sll
+    0x19, // srl
+    0x1A, // sra
+    0x1B, // slli
+    0x1C, // srli
+    0x1D, // srai
+    0x20, // sltu
+    0x21, // sgeu
+    0x22, // slt
+    0x23, // sge
+    0x24, // seq
+    0x25, // sne
+    0x26, // cmov
+    0x27, // cmovz
+    0x28, // cmovnz
+    0x30, // lb
+    0x31, // lbu
+    0x32, // lh
+    0x33, // lhu
+    0x34, // lw
+    0x35, // ld
+    0x38, // sb
+    0x39, // sh
+    0x3A, // sw
+    0x3B, // sd
+    0x40, // beq
+    0x41, // bne
+    0x42, // blt
+    0x43, // bge
+    0x44, // bltu
+    0x45, // bgeu
+    0x48, // jal
+    0x49, // jalr
+    0x50, // ecall
+    0x51, // ebreak
 ];
 
 // A form by its number: R, I, shift, load, store, branch, jump, system.
@@ -511,21 +612,42 @@ pub fn find_mnemonic(key: u64, mnemonics: &[u64; 50], slots: &[u8; 293]) -> Row
     Row::Missing
 }
 
-// The row with an opcode: the fifty opcodes are nine runs of numbers.
-pub fn find_opcode(opcode: u32) -> Row
+// How many numbers below an opcode are no opcodes: as many for each opcode among eight numbers. From 88 on there are no opcodes.
+fn unused_below(opcode: u32) -> u32
+    ensures { λ r. ⌜ r ≡ unusedBelow opcode ⌝ ∗ ⌜ r ≤ opcode ⌝ }
+{
+    match opcode / 8 {
+        0 => 0,
+        1 => 0,
+        2 => 7,
+        3 => 9,
+        4 => 11,
+        5 => 11,
+        6 => 18,
+        7 => 20,
+        8 => 24,
+        9 => 26,
+        10 => 32,
+        _ => opcode,
+    }
+}
+
+fn wide(x: u8) -> u32
+    ensures { λ r. ⌜ r ≡ x ⌝ }
+{
+    x as u32
+}
+
+// The row with an opcode: the one where it would stand, if the column has it there.
+pub fn find_opcode(opcode: u32, opcodes: &[u8; 50]) -> Row
+    requires { ⌜ now opcodes ≡ opcodeNumbers ⌝ }
     ensures { λ r. ⌜ IsRow r (rowCoded opcode) ⌝ }
 {
-    let code = opcode as usize;
-    match code {
-        0x00..=0x08 => Row::At(code),
-        0x10..=0x15 => Row::At(code - 7),
-        0x18..=0x1D => Row::At(code - 9),
-        0x20..=0x28 => Row::At(code - 11),
-        0x30..=0x35 => Row::At(code - 18),
-        0x38..=0x3B => Row::At(code - 20),
-        0x40..=0x45 => Row::At(code - 24),
-        0x48..=0x49 => Row::At(code - 26),
-        0x50..=0x51 => Row::At(code - 32),
-        _ => Row::Missing,
+    let row = (opcode - unused_below(opcode)) as usize;
+    if row < 50 {
+        if wide(opcodes[row]) == opcode {
+            return Row::At(row);
+        }
     }
+    Row::Missing
 }

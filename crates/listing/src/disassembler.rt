@@ -5,7 +5,7 @@ ghost use Prim.Native.Nat.{ℕ, _+_, _≤_};
 ghost use lib.ListN.{length, drop};
 ghost use Rattle.spelling.specs.Numbers.{decimal};
 ghost use Rattle.instruction.specs.Words.{instructionOf};
-ghost use Rattle.instruction.specs.Contracts.{mnemonicKeys, formNumbers};
+ghost use Rattle.instruction.specs.Contracts.{mnemonicKeys, opcodeNumbers, formNumbers};
 ghost use Rattle.coding.specs.Contracts.{Written};
 ghost use Rattle.image.specs.Listing.{wordsOf, lineText, settingsText, wordText, isUsual};
 ghost use Rattle.image.specs.Contracts.{settingsMeant, headerMeant};
@@ -59,27 +59,37 @@ fn is_usual(header: ProgramHeader) -> bool
 }
 
 // The length of a word's line: 30, 31.
-fn word_length(word: u32, mnemonics: &[u64; 50], forms: &[u8; 50]) -> WordLength
-    requires { ⌜ now mnemonics ≡ mnemonicKeys ⌝ ∗ ⌜ now forms ≡ formNumbers ⌝ }
+fn word_length(word: u32, mnemonics: &[u64; 50], opcodes: &[u8; 50], forms: &[u8; 50]) -> WordLength
+    requires { ⌜ now mnemonics ≡ mnemonicKeys ⌝ ∗ ⌜ now opcodes ≡ opcodeNumbers ⌝ ∗ ⌜ now forms ≡ formNumbers ⌝ }
     ensures { λ r. ⌜ lengthMeant r ≡ lineLength (instructionOf word) ⌝ ∗ ⌜ ((n : ℕ) → r ≡ WordLength.Is n → n ≤ 40) ⌝ }
 {
-    match coding::encoder::decode(word, forms) {
+    match coding::encoder::decode(word, opcodes, forms) {
         Decoded::Refused(n) => WordLength::Refused(n),
         Decoded::Is(instruction) => WordLength::Is(
-            1 + coding::display::instruction_length(instruction, mnemonics, forms),
+            1 + writing::display::instruction_length(instruction, mnemonics),
         ),
     }
 }
 
 // The lengths of the lines of all words, added.
-fn words_length(image: &[u8], mnemonics: &[u64; 50], forms: &[u8; 50]) -> Measured
-    requires { ⌜ WholeWords (now image) ⌝ ∗ ⌜ now mnemonics ≡ mnemonicKeys ⌝ ∗ ⌜ now forms ≡ formNumbers ⌝ }
+fn words_length(
+    image: &[u8],
+    mnemonics: &[u64; 50],
+    opcodes: &[u8; 50],
+    forms: &[u8; 50],
+) -> Measured
+    requires { ⌜ WholeWords (now image) ⌝ ∗ ⌜ now mnemonics ≡ mnemonicKeys ⌝ ∗ ⌜ now opcodes ≡ opcodeNumbers ⌝ ∗ ⌜ now forms ≡ formNumbers ⌝ }
     ensures { λ r. ⌜ Measures (wordsOf (drop 32 (now (image .entry)))) r ⌝ }
 {
     let mut length = 0;
     let mut at = 32;
     while at < image.len() {
-        match word_length(image::program::read_u32(image, at), mnemonics, forms) {
+        match word_length(
+            image::program::read_u32(image, at),
+            mnemonics,
+            opcodes,
+            forms,
+        ) {
             WordLength::Refused(number) => {
                 return Measured::Faulty {
                     number,
@@ -139,15 +149,16 @@ fn write_word(
     at: usize,
     word: u32,
     mnemonics: &[u64; 50],
+    opcodes: &[u8; 50],
     forms: &[u8; 50],
 ) -> usize
-    requires { ⌜ at + length (wordText word) ≤ length (now text) ⌝ ∗ ⌜ now mnemonics ≡ mnemonicKeys ⌝ ∗ ⌜ now forms ≡ formNumbers ⌝ }
+    requires { ⌜ at + length (wordText word) ≤ length (now text) ⌝ ∗ ⌜ now mnemonics ≡ mnemonicKeys ⌝ ∗ ⌜ now opcodes ≡ opcodeNumbers ⌝ ∗ ⌜ now forms ≡ formNumbers ⌝ }
     ensures { λ r. ⌜ Written (now (text .entry)) at (wordText word) r (now (text .exit)) ⌝ }
 {
-    match coding::encoder::decode(word, forms) {
+    match coding::encoder::decode(word, opcodes, forms) {
         Decoded::Refused(_) => at,
         Decoded::Is(instruction) => {
-            let end = coding::display::write_instruction(text, at, instruction, mnemonics, forms);
+            let end = writing::display::write_instruction(text, at, instruction, mnemonics);
             text[end] = b'\n';
             end + 1
         }
@@ -159,16 +170,17 @@ fn write_words(
     from: usize,
     image: &[u8],
     mnemonics: &[u64; 50],
+    opcodes: &[u8; 50],
     forms: &[u8; 50],
 ) -> usize
-    requires { ⌜ WholeWords (now image) ⌝ ∗ ⌜ from + length (flatMap wordText (wordsOf (drop 32 (now image)))) ≤ length (now text) ⌝ ∗ ⌜ now mnemonics ≡ mnemonicKeys ⌝ ∗ ⌜ now forms ≡ formNumbers ⌝ }
+    requires { ⌜ WholeWords (now image) ⌝ ∗ ⌜ from + length (flatMap wordText (wordsOf (drop 32 (now image)))) ≤ length (now text) ⌝ ∗ ⌜ now mnemonics ≡ mnemonicKeys ⌝ ∗ ⌜ now opcodes ≡ opcodeNumbers ⌝ ∗ ⌜ now forms ≡ formNumbers ⌝ }
     ensures { λ r. ⌜ Written (now (text .entry)) from (flatMap wordText (wordsOf (drop 32 (now (image .entry))))) r (now (text .exit)) ⌝ }
 {
     let mut place = from;
     let mut at = 32;
     while at < image.len() {
         let word = image::program::read_u32(image, at);
-        place = write_word(text, place, word, mnemonics, forms);
+        place = write_word(text, place, word, mnemonics, opcodes, forms);
         at += 4;
     }
     place
@@ -196,8 +208,9 @@ fn list_words(image: &[u8], config: Config, text: &mut [u8]) -> Listing
     ensures { λ r. ⌜ Lists (now (image .entry)) (now (text .entry)) (now (text .exit)) r ⌝ }
 {
     let mnemonics = instruction::opcode::mnemonics();
+    let opcodes = instruction::opcode::opcodes();
     let forms = instruction::opcode::forms();
-    match words_length(image, &mnemonics, &forms) {
+    match words_length(image, &mnemonics, &opcodes, &forms) {
         Measured::Faulty { number, index } => Listing::Faulty { number, index },
         Measured::Is(length) => {
             let needed = settings_length(config) + length;
@@ -205,7 +218,7 @@ fn list_words(image: &[u8], config: Config, text: &mut [u8]) -> Listing
                 return Listing::TooShort(needed);
             }
             let place = write_settings(text, config);
-            write_words(text, place, image, &mnemonics, &forms);
+            write_words(text, place, image, &mnemonics, &opcodes, &forms);
             Listing::Is(needed)
         }
     }

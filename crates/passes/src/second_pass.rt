@@ -5,7 +5,7 @@ ghost use Prim.Native.Nat.{_+_, _≤_, _<_};
 ghost use lib.ListN.{length};
 ghost use Rattle.spelling.specs.Numbers.{little};
 ghost use Rattle.instruction.specs.Words.{wordOf};
-ghost use Rattle.instruction.specs.Contracts.{opcodeNumbers, formNumbers, partsMeant};
+ghost use Rattle.instruction.specs.Contracts.{opcodeNumbers, partsMeant};
 ghost use Rattle.coding.specs.Contracts.{Written};
 ghost use Rattle.image.specs.Contracts.{settingsMeant};
 ghost use Rattle.image.specs.declared.config.Checked.the-variants.{Good};
@@ -50,12 +50,12 @@ struct CodedLine {
 }
 
 // The word of an instruction by its row and operands.
-fn word_of(row: usize, operands: Operands, opcodes: &[u8; 50], forms: &[u8; 50]) -> u32
-    requires { ⌜ row < 50 ⌝ ∗ ⌜ now opcodes ≡ opcodeNumbers ⌝ ∗ ⌜ now forms ≡ formNumbers ⌝ }
+fn word_of(row: usize, operands: Operands, opcodes: &[u8; 50]) -> u32
+    requires { ⌜ row < 50 ⌝ ∗ ⌜ now opcodes ≡ opcodeNumbers ⌝ }
     ensures { λ r. ⌜ r ≡ wordOf (partsMeant (record { row = row; operands = operands })) ⌝ }
 {
     let instruction = Instruction::from_parts(row, operands);
-    coding::encoder::encode(instruction, opcodes, forms)
+    encoding::encoder::encode(instruction, opcodes)
 }
 
 // The line that begins at `at`, where the settings are these.
@@ -76,7 +76,7 @@ fn code_line(
     let effect = read.effect;
     match effect {
         Effect::Codes { row, operands } => CodedLine {
-            coded: Coded::Word(word_of(row, operands, opcodes, forms)),
+            coded: Coded::Word(word_of(row, operands, opcodes)),
             config,
             end,
         },

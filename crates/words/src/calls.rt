@@ -28,13 +28,13 @@ pub(crate) fn read(text: &[u8], from: usize, place: usize) -> Parsed
 
 pub(crate) fn encode(instruction: Instruction) -> u32 {
     let opcodes = instruction::opcode::opcodes();
-    let forms = instruction::opcode::forms();
-    coding::encoder::encode(instruction, &opcodes, &forms)
+    encoding::encoder::encode(instruction, &opcodes)
 }
 
 pub(crate) fn decode(word: u32) -> Decoded {
+    let opcodes = instruction::opcode::opcodes();
     let forms = instruction::opcode::forms();
-    coding::encoder::decode(word, &forms)
+    coding::encoder::decode(word, &opcodes, &forms)
 }
 
 // Writes an instruction's text into the room, behind eight bytes that it leaves. The promises are what `&room[..end]` asks for.
@@ -44,8 +44,7 @@ pub(crate) fn write(instruction: Instruction, room: &mut [u8]) -> Text
     ensures { λ r. ⌜ r .end ≡ length (take (r .end) (now (room .exit))) ⌝ }
 {
     let mnemonics = instruction::opcode::mnemonics();
-    let forms = instruction::opcode::forms();
-    let length = coding::display::instruction_length(instruction, &mnemonics, &forms);
-    let end = coding::display::write_instruction(room, 8, instruction, &mnemonics, &forms);
+    let length = writing::display::instruction_length(instruction, &mnemonics);
+    let end = writing::display::write_instruction(room, 8, instruction, &mnemonics);
     Text { length, end }
 }

@@ -5,7 +5,6 @@ use borrow.Author.Needs.{needs}
 use Rattle.instruction.specs.Table.{rowCoded}
 use Rattle.instruction.specs.Contracts.{IsRow, instructionMeant}
 use Rattle.instruction.specs.declared.opcode.Row.the-variants.{At}
-use Rattle.instruction.proofs.Columns.{form-below}
 use Rattle.coding.proofs.Coding.{word-unknown, word-unused, word-taken}
 use Rattle.coding.proofs.encoder.decode.Statement.{statement}
 use Rattle.coding.proofs.encoder.decode.Tie as tie
@@ -30,9 +29,7 @@ element-copy-out-form : tie.Need-element-copy-out-form
 element-copy-out-form c = found (c .before) .0
 
 is-clear-requires : tie.Need-is-clear-requires
-is-clear-requires c κs =
-    let r = c .before .before in
-    rw (r .before .before .before .pre) (form-below (r .row .given .0 .0) (found r .0))
+is-clear-requires c κs = search needs
 
 operands-of-requires : tie.Need-operands-of-requires
 operands-of-requires c κs = search needs
@@ -45,7 +42,7 @@ returns-2 c =
     let t = c .before .before in
     let r = t .before .before .before .before in
     let s = r .before .before .before in
-    word-taken (s .args .word) (r .row .given .0 .0) (s .args .forms .now) (s .pre) (found r .0) (found r .1)
+    word-taken (s .args .word) (r .row .given .0 .0) (s .args .forms .now) (s .pre .1) (found r .0) (found r .1)
     (instructionMeant (c .from-parts .result)) (c .before .operands-of .result)
     (sym (t .if1 .taken) ∙ t .before .is-clear .ensures) (c .before .operands-of .ensures) (c .from-parts .ensures .1)
 
@@ -53,7 +50,7 @@ returns-3 : tie.Need-returns-3
 returns-3 c =
     let r = c .before .before .before .before in
     let s = r .before .before .before in
-    word-unused (s .args .word) (r .row .given .0 .0) (s .args .forms .now) (s .pre) (found r .0) (found r .1)
+    word-unused (s .args .word) (r .row .given .0 .0) (s .args .forms .now) (s .pre .1) (found r .0) (found r .1)
     (sym (c .if1 .left) ∙ c .before .is-clear .ensures)
 
 pub decode-spec : {M : Type 1} → statement M

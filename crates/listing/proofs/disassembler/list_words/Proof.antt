@@ -20,6 +20,9 @@ use Rattle.listing.proofs.disassembler.list_words.Tie as tie
 mnemonics-requires : tie.Need-mnemonics-requires
 mnemonics-requires c κs = search needs
 
+opcodes-requires : tie.Need-opcodes-requires
+opcodes-requires c κs = search needs
+
 forms-requires : tie.Need-forms-requires
 forms-requires c κs = search needs
 
@@ -36,19 +39,19 @@ settings-length-requires : tie.Need-settings-length-requires
 settings-length-requires c κs = search needs
 
 -- what was measured
-measured : (c : tie.After-length) → Measures (wordsOf (drop 32 (c .before .before .before .before .before .before .before .before .before .args .image .now))) (Is (c .length .given .0 .0))
+measured : (c : tie.After-length) → Measures (wordsOf (drop 32 (c .before .before .before .before .before .before .before .before .before .before .before .args .image .now))) (Is (c .length .given .0 .0))
 measured c = rw (c .length .given .1) at (c .before .before .words-length .ensures)
 
 -- so the image has a text,
-good : (c : tie.After-length) → listingFault (c .before .before .before .before .before .before .before .before .before .args .image .now) ≡ none
-good c = usual-fault (c .before .before .before .before .before .before .before .before .before .pre) ∙ measured c .0
+good : (c : tie.After-length) → listingFault (c .before .before .before .before .before .before .before .before .before .before .before .args .image .now) ≡ none
+good c = usual-fault (c .before .before .before .before .before .before .before .before .before .before .before .pre) ∙ measured c .0
 
 -- and the length that is needed is its length
 needed : (c : tie.After-settings-length) → let l = c .before .before in
-    c .settings-length .result + l .length .given .0 .0 ≡ length (textOf (l .before .before .before .before .before .before .before .before .before .args .image .now))
+    c .settings-length .result + l .length .given .0 .0 ≡ length (textOf (l .before .before .before .before .before .before .before .before .before .before .before .args .image .now))
 needed c =
     let l = c .before .before in
-    let s = l .before .before .before .before .before .before .before .before .before in
+    let s = l .before .before .before .before .before .before .before .before .before .before .before in
     omega (
       arith,
       ap length (usual-text (s .pre)),
@@ -60,14 +63,14 @@ needed c =
 add-needed : tie.Need-add-needed
 add-needed c =
     let l = c .before .before in
-    let s = l .before .before .before .before .before .before .before .before .before in
+    let s = l .before .before .before .before .before .before .before .before .before .before .before in
     omega (arith, c .settings-length .ensures .1, measured l .2, whole-words (s .args .image .now) (s .pre .coded))
 
 returns : tie.Need-returns
 returns c =
     let n = c .before in
     let l = n .before .before in
-    let a = l .before .before .before .before .before .before .before .before .before .args in
+    let a = l .before .before .before .before .before .before .before .before .before .before .before .args in
     lists-short (a .image .now) (a .text .now) (good l) _ (needed n) (c .if1 .taken)
 
 write-settings-requires : tie.Need-write-settings-requires
@@ -75,19 +78,19 @@ write-settings-requires c κs = search needs
 
 write-words-requires : tie.Need-write-words-requires
 write-words-requires c κs =
-    let p = c .before .before .before .before .before in
+    let p = c .before .before .before .before .before .before in
     let e = p .before .before in
-    let f = e .before .before .before .before .before .before .before .before in
-    let s = f .before .before .before .before in
+    let f = e .before .before .before .before .before .before .before .before .before in
+    let s = f .before .before .before .before .before in
     let r = room-behind (p .write-settings .ensures) (flatMap wordText (wordsOf (drop 32 (s .args .image .now)))) (omega (arith, needed (e .before), ap length (usual-text (s .pre)), e .if1 .left)) in
-    (s .pre .coded, (r, (f .before .mnemonics .ensures, f .forms .ensures)))
+    (s .pre .coded, (r, (f .before .before .mnemonics .ensures, (f .before .opcodes .ensures, f .forms .ensures))))
 
 returns-2 : tie.Need-returns-2
 unfolding refusal
 returns-2 c =
     let n = c .before in
     let w = n .before .before in
-    let s = w .before .before .before .before .before .before .before in
+    let s = w .before .before .before .before .before .before .before .before .before in
     lists-not (s .args .image .now) (s .args .text .now) (refusal (n .number .given .0 .0) (some (n .number .given .0 .1 .0)) none) (Faulty (n .number .given .0 .0) (n .number .given .0 .1 .0))
     (usual-fault (s .pre) ∙ rw (n .number .given .1) at (w .words-length .ensures)) refl
 
@@ -97,11 +100,11 @@ same-length c = search needs
 returns-3 : tie.Need-returns-3
 returns-3 c =
     let w = c .before .before in
-    let p = w .before .before .before .before .before .before in
+    let p = w .before .before .before .before .before .before .before in
     let e = p .before .before in
     let n = e .before in
     let l = n .before .before in
-    let s = l .before .before .before .before .before .before .before .before .before in
+    let s = l .before .before .before .before .before .before .before .before .before .before .before in
     lists-text (s .args .image .now) (s .args .text .now) (good l) _ (needed n) (w .write-words .last .0) (e .if1 .left)
     (rw (usual-text (s .pre)) (written-over (written-append (p .write-settings .ensures) (omega arith) (w .write-words .ensures))))
 
@@ -110,6 +113,7 @@ list-words-spec =
     tie.close
     (tie.spec
     mnemonics-requires
+    opcodes-requires
     forms-requires
     words-length-requires
     enum-known-number

@@ -25,8 +25,8 @@ enum-known-instruction c = search needs
 instruction-length-requires : tie.Need-instruction-length-requires
 instruction-length-requires c κs = search needs
 
-add-t9 : tie.Need-add-t9
-add-t9 c = search needs
+add-t10 : tie.Need-add-t10
+add-t10 c = search needs
 
 returns : tie.Need-returns
 unfolding lineLength
@@ -52,6 +52,6 @@ word-length-spec =
     enum-known-n
     enum-known-instruction
     instruction-length-requires
-    add-t9
+    add-t10
     returns
     returns-2)

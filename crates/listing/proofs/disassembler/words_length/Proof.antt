@@ -12,10 +12,10 @@ use Rattle.listing.proofs.disassembler.words_length.Statement.{statemen
 use Rattle.listing.proofs.disassembler.words_length.Tie as tie
 
 abbrev Inv-loop : tie.InvT-loop
-Inv-loop image mnemonics forms length₀ at₀ n at = Measuring image n at
+Inv-loop image mnemonics opcodes forms length₀ at₀ n at = Measuring image n at
 
 abbrev μ-loop : tie.MeasureT-loop
-μ-loop image mnemonics forms length₀ at₀ n at = length image - at
+μ-loop image mnemonics opcodes forms length₀ at₀ n at = length image - at
 
 loop-holds : tie.Need-loop-holds Inv-loop μ-loop
 loop-holds c = measuring-none (c .before .args .image .now) (c .before .pre .0)
@@ -36,8 +36,8 @@ line : (c : tie.After-word-length Inv-loop μ-loop) → let k = c .before .befor
     lengthMeant (c .word-length .result) ≡ lineLength (instructionOf (numberAt (k .loop .at) 4 (k .before .before .args .image .now)))
 line c = c .word-length .ensures .0 ∙ ap (λ (w : ℕ). lineLength (instructionOf w)) (c .before .read-u32 .ensures)
 
-sub-t12 : tie.Need-sub-t12 Inv-loop μ-loop
-sub-t12 c = omega (arith, c .before .before .before .before .before .before .loop .inv .stands .place)
+sub-t13 : tie.Need-sub-t13 Inv-loop μ-loop
+sub-t13 c = omega (arith, c .before .before .before .before .before .before .loop .inv .stands .place)
 
 returns : tie.Need-returns Inv-loop μ-loop
 returns c =
@@ -91,7 +91,7 @@ words-length-spec =
     read-u32-requires
     word-length-requires
     enum-known-number
-    sub-t12
+    sub-t13
     returns
     enum-known-n
     add-length

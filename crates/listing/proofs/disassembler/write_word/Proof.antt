@@ -41,7 +41,7 @@ write-instruction-requires : tie.Need-write-instruction-requires
 write-instruction-requires c κs =
     let i = c .before .before in
     let s = i .before .before .before .before in
-    (s .pre .1 .0, (s .pre .1 .1, fits i))
+    (s .pre .1 .0, fits i)
 
 -- the line's end has room
 behind : (c : tie.After-write-instruction) → c .write-instruction .result < length (c .write-instruction .last .0)

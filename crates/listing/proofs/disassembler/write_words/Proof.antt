@@ -7,10 +7,10 @@ use Rattle.listing.proofs.disassembler.write_words.Statement.{statement
 use Rattle.listing.proofs.disassembler.write_words.Tie as tie
 
 abbrev Inv-loop : tie.InvT-loop
-Inv-loop text₀ from image mnemonics forms place₀ at₀ text place at = Lined text₀ from image text place at
+Inv-loop text₀ from image mnemonics opcodes forms place₀ at₀ text place at = Lined text₀ from image text place at
 
 abbrev μ-loop : tie.MeasureT-loop
-μ-loop text₀ from image mnemonics forms place₀ at₀ text place at = length image - at
+μ-loop text₀ from image mnemonics opcodes forms place₀ at₀ text place at = length image - at
 
 loop-holds : tie.Need-loop-holds Inv-loop μ-loop
 loop-holds c =

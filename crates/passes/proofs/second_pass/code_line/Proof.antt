@@ -22,7 +22,7 @@ word-of-requires c κs =
     let e = c .before in
     let r = e .before .before in
     let b = r .before .before in
-    (rw (e .effect .given .1) at (r .read-line .ensures .in-table), (b .pre .1 .1, b .pre .1 .0 .form-column))
+    (rw (e .effect .given .1) at (r .read-line .ensures .in-table), b .pre .1 .1)
 
 enum-known-effect-2 : tie.Need-enum-known-effect-2
 enum-known-effect-2 c = search needs

@@ -16,17 +16,14 @@ parted end room h = (h, sym (length-take-le _ room h))
 mnemonics-requires : tie.Need-mnemonics-requires
 mnemonics-requires c κs = search needs
 
-forms-requires : tie.Need-forms-requires
-forms-requires c κs = search needs
-
 instruction-length-requires : tie.Need-instruction-length-requires
 instruction-length-requires c κs = search needs
 
 write-instruction-requires : tie.Need-write-instruction-requires
 write-instruction-requires c κs =
-    let m = c .before .before .before in
-    let f = m .before .before .before in
-    (f .before .mnemonics .ensures, (f .forms .ensures, omega (arith, m .instruction-length .ensures .0, m .instruction-length .ensures .1, f .before .before .before .pre)))
+    let m = c .before .before in
+    let f = m .before .before in
+    (f .mnemonics .ensures, omega (arith, m .instruction-length .ensures .0, m .instruction-length .ensures .1, f .before .before .pre))
 
 same-length : tie.Need-same-length
 same-length c = search needs
@@ -39,7 +36,6 @@ write-spec =
     tie.close
     (tie.spec
     mnemonics-requires
-    forms-requires
     instruction-length-requires
     write-instruction-requires
     same-length

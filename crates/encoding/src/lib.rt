@@ -1,0 +1,2 @@
+// The instruction layer, encoding: the word of each of the fifty cases.
+pub mod encoder;
