@@ -29,6 +29,10 @@ decimal n = decimalIn n n
 unfoldable pub countText : ℕ → List ℕ → List ℕ
 countText n what = decimal n ++ what
 
+-- The same, and there the line ends.
+abbrev pub countLine : ℕ → List ℕ → List ℕ
+countLine n what = countText n (what ++ (10 ∷ []))
+
 -- The line of a record that differs; nothing for one that agrees.
 unfoldable pub verdictText : ℕ → Bool → List ℕ
 verdictText n true = []

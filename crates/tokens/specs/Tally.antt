@@ -1,12 +1,8 @@
 -- The text of the counts.
-use mathlib.Core.List.{List, [], _∷_, _++_}
+use mathlib.Core.List.{List, _++_}
 use Prim.Native.Nat.{ℕ}
-use Rattle.replay.specs.Report.{bytes, countText}
+use Rattle.replay.specs.Report.{bytes, countText, countLine}
 use Rattle.tokens.specs.declared.tally.Tally.{Tally}
-
--- A count, and a line's end after what it counts.
-abbrev pub countLine : ℕ → List ℕ → List ℕ
-countLine n what = countText n (what ++ (10 ∷ []))
 
 unfoldable pub tallyText : Tally → List ℕ
 tallyText t =
