@@ -1,2 +1,4 @@
 pub mod List
+pub mod Every
 pub mod Tally
+pub mod Report

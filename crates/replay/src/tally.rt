@@ -1,7 +1,10 @@
-// Counts, and how they are written. A function that writes promises nothing: no contract can say what the C library moves.
+// Counts.
 ghost use mathlib.Core.Path.{_≡_};
 ghost use lib.ListN.{replicate};
 ghost use Rattle.replay.specs.Tally.{oneMore, counted};
+ghost use Rattle.replay.specs.Report.{refusalsText, Put};
+use crate::report::put;
+use crate::report::put_count;
 use std::num::wrapping_add_u64;
 
 // No run counts to 2^64.
@@ -9,17 +12,6 @@ pub fn more(n: u64) -> u64
     ensures { λ r. ⌜ r ≡ oneMore n ⌝ }
 {
     wrapping_add_u64(n, 1)
-}
-
-pub fn write_count(n: u64, what: &[u8]) {
-    io::print_decimal(1, n);
-    io::write_all(1, what);
-}
-
-// Says which record differs, counted from 1.
-pub fn write_difference(record: u64) {
-    io::write_all(1, b"differs: record ");
-    write_count(record, b"\n");
 }
 
 // How often each refusal was met.
@@ -46,16 +38,20 @@ impl Refusals {
         self
     }
 
-    // Those that were met.
-    pub fn write(self) {
+    // A line for each refusal that was met, put into a room as `put` does.
+    pub fn put(self, room: &mut [u8], at: usize) -> usize
+        ensures { λ r. ⌜ Put (now (room .entry)) at (refusalsText (self .counts)) r (now (room .exit)) ⌝ }
+    {
         let counts = self.counts;
+        let mut place = put(room, at, b"");
         let mut number: usize = 0;
         while number < 33 {
             if 0 < counts[number] {
-                write_count(counts[number], b" refused by ");
-                write_count(number as u64, b"\n");
+                place = put_count(room, place, counts[number], b" refused by ");
+                place = put_count(room, place, number as u64, b"\n");
             }
             number += 1;
         }
+        place
     }
 }

@@ -1,6 +1,8 @@
 // How much was compared: lines, those that differ, and tokens by kind.
+ghost use Rattle.replay.specs.Report.{Put};
+ghost use Rattle.tokens.specs.Tally.{tallyText};
+use replay::report::put_count;
 use replay::tally::more;
-use replay::tally::write_count;
 use text::lexer::Kind;
 use text::parser::Line;
 
@@ -74,12 +76,11 @@ impl Tally {
         tally
     }
 
-    // One line more. Where it differs, the number of its record is written.
+    // One line more.
     pub(crate) fn with_line(mut self, line: Line, agrees: bool) -> Tally {
         self.lines = more(self.lines);
         if !agrees {
             self.differences = more(self.differences);
-            replay::tally::write_difference(self.lines);
         }
         if line.bad {
             self.bad = more(self.bad);
@@ -87,20 +88,23 @@ impl Tally {
         self.with_tokens(line)
     }
 
-    pub(crate) fn write(self) {
-        write_count(self.lines, b" lines, ");
-        write_count(self.differences, b" differences\n");
-        write_count(self.bad, b" bad lines\n");
-        write_count(self.identifiers, b" identifiers\n");
-        write_count(self.registers, b" registers\n");
-        write_count(self.numbers, b" numbers\n");
-        write_count(self.negatives, b" negative numbers\n");
-        write_count(self.hexes, b" hex numbers\n");
-        write_count(self.binaries, b" binary numbers\n");
-        write_count(self.directives, b" directives\n");
-        write_count(self.commas, b" commas\n");
-        write_count(self.colons, b" colons\n");
-        write_count(self.openings, b" opening parentheses\n");
-        write_count(self.closings, b" closing parentheses\n");
+    // The counts, put into a room.
+    pub(crate) fn put(self, room: &mut [u8], at: usize) -> usize
+        ensures { λ r. ⌜ Put (now (room .entry)) at (tallyText self) r (now (room .exit)) ⌝ }
+    {
+        let at = put_count(room, at, self.lines, b" lines, ");
+        let at = put_count(room, at, self.differences, b" differences\n");
+        let at = put_count(room, at, self.bad, b" bad lines\n");
+        let at = put_count(room, at, self.identifiers, b" identifiers\n");
+        let at = put_count(room, at, self.registers, b" registers\n");
+        let at = put_count(room, at, self.numbers, b" numbers\n");
+        let at = put_count(room, at, self.negatives, b" negative numbers\n");
+        let at = put_count(room, at, self.hexes, b" hex numbers\n");
+        let at = put_count(room, at, self.binaries, b" binary numbers\n");
+        let at = put_count(room, at, self.directives, b" directives\n");
+        let at = put_count(room, at, self.commas, b" commas\n");
+        let at = put_count(room, at, self.colons, b" colons\n");
+        let at = put_count(room, at, self.openings, b" opening parentheses\n");
+        put_count(room, at, self.closings, b" closing parentheses\n")
     }
 }

@@ -1,9 +1,14 @@
-// What is called of the crates under test, and its answers as the list has them.
+// What is called of the crates under test, and whether it answers as the list has it.
 ghost use Prim.Native.Nat.{_≤_};
+ghost use mathlib.Core.Path.{_≡_};
+ghost use Rattle.vectors.specs.Given.{answerGiven, headerGiven, textGiven};
 use crate::answer::Answer;
 use crate::answer::Header;
 use crate::answer::Text;
-use crate::record::Label;
+use crate::record::Asking;
+use crate::table::ENTRIES;
+use crate::table::blank_table;
+use crate::table::has_labels;
 use image::config::Config;
 use image::program::Opened;
 use image::program::ProgramHeader;
@@ -11,11 +16,18 @@ use labels::label::Label as Entry;
 use listing::disassembler::Listing;
 use passes::second_pass::Assembled;
 
-// What stands in an entry of the table before it is lent: no start, length or address of a label.
-const FILLER: u64 = 0xA5A5A5A5A5A5A5A5;
+// Which function assembles: the library's, or an exported one, of which one is made for long sources.
+pub enum Assembler {
+    Library,
+    Export,
+    LongExport,
+}
 
-// How many entries the table has; eight of them are never lent.
-const ENTRIES: usize = 1032;
+// Which function lists.
+pub enum Lister {
+    Library,
+    Export,
+}
 
 // What assembling answers, and the whole table afterwards.
 struct Asked {
@@ -23,25 +35,37 @@ struct Asked {
     table: [Entry; 1032],
 }
 
-fn long(x: u32) -> u64 {
+// The number that an exported function returns, and the whole table afterwards.
+struct Returned {
+    number: u32,
+    table: [Entry; 1032],
+}
+
+fn long(x: u32) -> u64
+    ensures { λ r. ⌜ r ≡ x ⌝ }
+{
     x as u64
 }
 
-fn accepted(words: usize, labels: usize, config: Config) -> Answer {
+fn accepted(words: usize, labels: usize, config: Config) -> Answer
+    ensures { λ r. ⌜ r ≡ answerGiven (Assembled.Is words labels config) ⌝ }
+{
     Answer {
         number: 0,
-        rust_line: 0,
-        line: 0,
-        labels: labels as u64,
-        needed: 0,
         words: words as u64,
+        labels: labels as u64,
         limb_bits: replay::list::wide(config.limb_bits),
         data_limbs: replay::list::wide(config.data_limbs),
         addr_limbs: replay::list::wide(config.addr_limbs),
+        rust_line: 0,
+        line: 0,
+        needed: 0,
     }
 }
 
-fn answer_of(assembled: Assembled) -> Answer {
+fn answer_of(assembled: Assembled) -> Answer
+    ensures { λ r. ⌜ r ≡ answerGiven assembled ⌝ }
+{
     match assembled {
         Assembled::Is {
             words,
@@ -70,47 +94,6 @@ fn answer_of(assembled: Assembled) -> Answer {
     }
 }
 
-// What an entry has to hold: the list's label, if so many were entered, otherwise what it held before.
-fn entry_at(list: &[u8], at: usize, is_entered: bool) -> Label {
-    if is_entered {
-        return crate::record::label_at(list, at);
-    }
-    Label {
-        start: FILLER,
-        length: FILLER,
-        address: FILLER,
-        next: at,
-    }
-}
-
-// Whether the table has the first `count` labels of the list at `at`, and nothing else was entered.
-fn has_labels(table: [Entry; 1032], list: &[u8], at: usize, count: u64) -> bool {
-    let mut next = at;
-    let mut i: usize = 0;
-    while i < ENTRIES {
-        let held = table[i];
-        let entry = entry_at(list, next, (i as u64) < count);
-        if held.start as u64 != entry.start
-            || held.length as u64 != entry.length
-            || held.address != entry.address
-        {
-            return false;
-        }
-        next = entry.next;
-        i += 1;
-    }
-    true
-}
-
-fn blank_table() -> [Entry; 1032] {
-    let blank = Entry {
-        start: FILLER as usize,
-        length: FILLER as usize,
-        address: FILLER,
-    };
-    [blank; 1032]
-}
-
 // Assembles with the first `room` entries of a table.
 fn ask(source: &[u8], room: usize, image: &mut [u8]) -> Asked
     requires { ⌜ room ≤ 1032 ⌝ }
@@ -120,28 +103,84 @@ fn ask(source: &[u8], room: usize, image: &mut [u8]) -> Asked
     Asked { assembled, table }
 }
 
-// Whether a source is answered so with a table of `room` entries, and the table then has the list's labels from `at` on.
-pub(crate) fn is_assembled(
-    source: &[u8],
-    room: usize,
-    image: &mut [u8],
-    wanted: Answer,
-    list: &[u8],
-    at: usize,
-) -> bool {
-    if ENTRIES < room {
-        return false;
-    }
-    let asked = ask(source, room, image);
-    let assembled = asked.assembled;
-    let table = asked.table;
-    answer_of(assembled).is(wanted) && has_labels(table, list, at, wanted.labels)
+// The same by an exported function, which writes its answer over an array.
+fn ask_export(source: &[u8], room: usize, image: &mut [u8], answer: &mut [u64; 8]) -> Returned
+    requires { ⌜ room ≤ 1032 ⌝ }
+{
+    let mut table = blank_table();
+    let number = capi::zkasm_assemble(source, &mut table[..room], image, answer);
+    Returned { number, table }
 }
 
-fn header_of(header: ProgramHeader) -> Header {
+fn ask_long_export(source: &[u8], room: usize, image: &mut [u8], answer: &mut [u64; 8]) -> Returned
+    requires { ⌜ room ≤ 1032 ⌝ }
+{
+    let mut table = blank_table();
+    let number = capi::zkasm_assemble_long(source, &mut table[..room], image, answer);
+    Returned { number, table }
+}
+
+// Whether a source is answered so by the library, and the table then has the list's labels.
+fn library_agrees(source: &[u8], asking: Asking, image: &mut [u8], list: &[u8]) -> bool
+    requires { ⌜ asking .table ≤ 1032 ⌝ }
+{
+    let wanted = asking.answer;
+    let asked = ask(source, asking.table, image);
+    let assembled = asked.assembled;
+    let table = asked.table;
+    wanted.is(answer_of(assembled)) && has_labels(table, list, asking.labels_at, wanted.labels)
+}
+
+// The same of the exported function for all sources.
+fn export_agrees(source: &[u8], asking: Asking, image: &mut [u8], list: &[u8]) -> bool
+    requires { ⌜ asking .table ≤ 1032 ⌝ }
+{
+    let wanted = asking.answer;
+    let mut values = [0u64; 8];
+    let returned = ask_export(source, asking.table, image, &mut values);
+    let table = returned.table;
+    wanted.has(long(returned.number), &values)
+        && has_labels(table, list, asking.labels_at, wanted.labels)
+}
+
+// The same of the exported function that is made for long ones.
+fn long_export_agrees(source: &[u8], asking: Asking, image: &mut [u8], list: &[u8]) -> bool
+    requires { ⌜ asking .table ≤ 1032 ⌝ }
+{
+    let wanted = asking.answer;
+    let mut values = [0u64; 8];
+    let returned = ask_long_export(source, asking.table, image, &mut values);
+    let table = returned.table;
+    wanted.has(long(returned.number), &values)
+        && has_labels(table, list, asking.labels_at, wanted.labels)
+}
+
+// Whether a source is answered so by the function that is asked.
+pub(crate) fn is_assembled(
+    assembler: Assembler,
+    source: &[u8],
+    asking: Asking,
+    image: &mut [u8],
+    list: &[u8],
+) -> bool {
+    if ENTRIES < asking.table {
+        return false;
+    }
+    match assembler {
+        Assembler::Library => library_agrees(source, asking, image, list),
+        Assembler::Export => export_agrees(source, asking, image, list),
+        Assembler::LongExport => long_export_agrees(source, asking, image, list),
+    }
+}
+
+fn header_of(header: ProgramHeader, code_end: usize) -> Header
+    ensures { λ r. ⌜ r ≡ headerGiven (Opened.Is header «code_end») ⌝ }
+{
     let config = header.config;
     Header {
         number: 0,
+        magic: long(header.magic),
+        version: long(header.version),
         limb_bits: replay::list::wide(config.limb_bits),
         data_limbs: replay::list::wide(config.data_limbs),
         addr_limbs: replay::list::wide(config.addr_limbs),
@@ -151,44 +190,75 @@ fn header_of(header: ProgramHeader) -> Header {
         data_size: long(header.data_size),
         bss: long(header.bss_size),
         stack: long(header.stack_size),
+        code_end: code_end as u64,
     }
 }
 
-// Whether an image is opened so. The code ends where its size says, and magic and version are those that every image has.
+fn opened_header(opened: Opened) -> Header
+    ensures { λ r. ⌜ r ≡ headerGiven opened ⌝ }
+{
+    match opened {
+        Opened::Refused(number) => Header::refused(replay::list::wide(number)),
+        Opened::Is { header, code_end } => header_of(header, code_end),
+    }
+}
+
+// Whether an image is opened so, by the exported function too.
 pub(crate) fn is_opened(image: &[u8], wanted: Header) -> bool {
-    match image::program::open(image) {
-        Opened::Refused(number) => Header::refused(replay::list::wide(number)).is(wanted),
-        Opened::Is { header, code_end } => {
-            header_of(header).is(wanted)
-                && header.magic == 0x52494B5A
-                && header.version == 0x00030004
-                && code_end as u64 == std::num::wrapping_add_u64(32, wanted.code_size)
-        }
+    let opened = image::program::open(image);
+    if !wanted.is(opened_header(opened)) {
+        return false;
+    }
+    let mut values = [0u64; 12];
+    let number = capi::zkasm_open(image, &mut values);
+    wanted.has(long(number), &values)
+}
+
+fn listed_text(listing: Listing) -> Text
+    ensures { λ r. ⌜ r ≡ textGiven listing ⌝ }
+{
+    match listing {
+        Listing::Is(length) => Text {
+            number: 0,
+            length: length as u64,
+            index: 0,
+            needed: 0,
+        },
+        Listing::Refused(number) => Text {
+            number: replay::list::wide(number),
+            length: 0,
+            index: 0,
+            needed: 0,
+        },
+        Listing::Faulty { number, index } => Text {
+            number: replay::list::wide(number),
+            length: 0,
+            index: index as u64,
+            needed: 0,
+        },
+        Listing::TooShort(needed) => Text {
+            number: 32,
+            length: 0,
+            index: 0,
+            needed: needed as u64,
+        },
     }
 }
 
 // What listing answers.
 pub(crate) fn listed(image: &[u8], text: &mut [u8]) -> Text {
-    match listing::disassembler::list(image, text) {
-        Listing::Is(length) => Text {
-            number: 0,
-            index: 0,
-            length: length as u64,
-        },
-        Listing::Refused(number) => Text {
-            number: replay::list::wide(number),
-            index: 0,
-            length: 0,
-        },
-        Listing::Faulty { number, index } => Text {
-            number: replay::list::wide(number),
-            index: index as u64,
-            length: 0,
-        },
-        Listing::TooShort(needed) => Text {
-            number: 32,
-            index: 0,
-            length: needed as u64,
-        },
+    let listing = listing::disassembler::list(image, text);
+    listed_text(listing)
+}
+
+// Whether listing answers so by the function that is asked.
+pub(crate) fn is_listed(lister: Lister, image: &[u8], text: &mut [u8], wanted: Text) -> bool {
+    match lister {
+        Lister::Library => wanted.is(listed(image, text)),
+        Lister::Export => {
+            let mut values = [0u64; 3];
+            let number = capi::zkasm_list(image, text, &mut values);
+            wanted.has(long(number), &values)
+        }
     }
 }

@@ -2,15 +2,24 @@
 use crate::answer::Answer;
 use crate::answer::Header;
 use crate::answer::Text;
+use crate::calls::Lister;
+use crate::record::Asking;
 use crate::room;
 
-// Whether listing with a buffer of `lent` bytes answers so, and the buffer then has the text, or nothing new where it is refused.
-fn is_listed(image: &[u8], lent: usize, wanted: Text, text: &[u8], buffer: &mut [u8]) -> bool {
+// Whether listing by one of the functions with a buffer of `lent` bytes answers so, and the buffer then has the text, or nothing new
+// where it is refused.
+fn is_listed_by(
+    lister: Lister,
+    image: &[u8],
+    lent: usize,
+    wanted: Text,
+    text: &[u8],
+    buffer: &mut [u8],
+) -> bool {
     let end = room::guarded(lent);
     room::fill(buffer, end);
     let n = room::part(buffer, lent);
-    let answer = crate::calls::listed(image, &mut buffer[..n]);
-    if !answer.is(wanted) {
+    if !crate::calls::is_listed(lister, image, &mut buffer[..n], wanted) {
         return false;
     }
     if wanted.number == 0 {
@@ -19,22 +28,27 @@ fn is_listed(image: &[u8], lent: usize, wanted: Text, text: &[u8], buffer: &mut 
     room::holds(buffer, b"", end)
 }
 
-fn too_short(wanted: Text) -> Text {
-    Text {
-        number: 32,
-        index: 0,
-        length: wanted.length,
+// By the library, and by the exported function.
+fn is_listed(image: &[u8], lent: usize, wanted: Text, text: &[u8], buffer: &mut [u8]) -> bool {
+    if !is_listed_by(Lister::Library, image, lent, wanted, text, buffer) {
+        return false;
     }
+    is_listed_by(Lister::Export, image, lent, wanted, text, buffer)
 }
 
 // With a buffer that is one byte short, and with none.
-fn is_too_short(image: &[u8], wanted: Text, buffer: &mut [u8]) -> bool {
-    let needed = wanted.length as usize;
-    let short = std::num::wrapping_sub_usize(needed, 1);
-    if !is_listed(image, short, too_short(wanted), b"", buffer) {
+fn is_too_short(image: &[u8], needed: u64, buffer: &mut [u8]) -> bool {
+    let wanted = Text {
+        number: 32,
+        length: 0,
+        index: 0,
+        needed,
+    };
+    let short = std::num::wrapping_sub_usize(needed as usize, 1);
+    if !is_listed(image, short, wanted, b"", buffer) {
         return false;
     }
-    is_listed(image, 0, too_short(wanted), b"", buffer)
+    is_listed(image, 0, wanted, b"", buffer)
 }
 
 // With buffers of all lengths that matter: where an image is listed, just enough, one more, one less and none; where its text is
@@ -42,7 +56,7 @@ fn is_too_short(image: &[u8], wanted: Text, buffer: &mut [u8]) -> bool {
 fn is_listed_in_all(image: &[u8], wanted: Text, text: &[u8], buffer: &mut [u8]) -> bool {
     let number = wanted.number;
     if number == 32 {
-        return is_too_short(image, wanted, buffer);
+        return is_too_short(image, wanted.needed, buffer);
     }
     if number != 0 {
         return is_listed(image, 0, wanted, b"", buffer);
@@ -60,23 +74,28 @@ fn is_listed_in_all(image: &[u8], wanted: Text, text: &[u8], buffer: &mut [u8]) 
     ) {
         return false;
     }
-    is_too_short(image, wanted, buffer)
+    is_too_short(image, wanted.length, buffer)
 }
 
 // Whether a text is assembled to its image, with no table and with an image buffer that is just long enough.
 fn comes_back(text: &[u8], header: Header, image: &[u8], buffer: &mut [u8]) -> bool {
-    let wanted = Answer {
-        number: 0,
-        rust_line: 0,
-        line: 0,
-        labels: 0,
-        needed: 0,
-        words: header.code_size / 4,
-        limb_bits: header.limb_bits,
-        data_limbs: header.data_limbs,
-        addr_limbs: header.addr_limbs,
+    let asking = Asking {
+        table: 0,
+        room: image.len(),
+        answer: Answer {
+            number: 0,
+            words: header.code_size / 4,
+            labels: 0,
+            limb_bits: header.limb_bits,
+            data_limbs: header.data_limbs,
+            addr_limbs: header.addr_limbs,
+            rust_line: 0,
+            line: 0,
+            needed: 0,
+        },
+        labels_at: 0,
     };
-    crate::sources::is_assembled(text, 0, image.len(), wanted, b"", 0, image, buffer)
+    crate::sources::is_assembled(text, asking, b"", image, buffer)
 }
 
 // Whether an image has this header and, listed with a buffer of `lent` bytes, this answer and text.

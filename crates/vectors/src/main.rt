@@ -1,5 +1,8 @@
-// Reads sources and images with the oracle's answers, and compares what `image` answers: the answer, every entry and every byte
-// lent. Writes the number of each record that differs, then counts.
+// Reads sources and images with the oracle's answers, and compares what the library and the exported functions answer: the answer,
+// every entry and every byte lent. Writes the number of each record that differs, then counts.
+ghost use Prim.Native.Nat.{_≤_};
+ghost use lib.ListN.{length, take};
+ghost use mathlib.Core.Path.{_≡_};
 
 mod answer;
 mod calls;
@@ -8,11 +11,14 @@ mod pieces;
 mod record;
 mod room;
 mod sources;
+mod table;
 mod tally;
 
 use replay::list::has_tag;
+use replay::report::put_verdict;
 use tally::Outcome;
 use tally::Tally;
+use tally::agrees;
 
 fn source_outcome(
     list: &[u8],
@@ -23,7 +29,8 @@ fn source_outcome(
     text_buffer: &mut [u8],
 ) -> Outcome {
     let record = record::source_at(list, at, source, image);
-    let answer = record.answer;
+    let asking = record.asking;
+    let answer = asking.answer;
     if !record.is_whole {
         return Outcome::Differs;
     }
@@ -87,22 +94,30 @@ fn outcome(
     image_outcome(list, at, source, image, image_buffer, text_buffer)
 }
 
+// Compares each record, and puts the report into the room. The promises are what `&room[..end]` asks for.
 fn compare(
     list: &[u8],
     source: &mut [u8],
     image: &mut [u8],
     image_buffer: &mut [u8],
     text_buffer: &mut [u8],
-) -> Tally {
+    room: &mut [u8],
+) -> usize
+    ensures { λ r. ⌜ r ≤ length (now (room .exit)) ⌝ }
+    ensures { λ r. ⌜ r ≡ length (take r (now (room .exit))) ⌝ }
+{
     let mut tally = Tally::new();
+    let mut end = 0;
     let mut at = 0;
     while at < list.len() {
         at = replay::list::next_record(list, at);
         if at < list.len() {
-            tally = tally.with(outcome(list, at, source, image, image_buffer, text_buffer));
+            let outcome = outcome(list, at, source, image, image_buffer, text_buffer);
+            tally = tally.with(outcome);
+            end = put_verdict(room, end, tally.records, agrees(outcome));
         }
     }
-    tally
+    tally.put(room, end)
 }
 
 // Room for the list.
@@ -115,14 +130,19 @@ fn source_room() -> [u8; 1048640] {
     [0; 1048640]
 }
 
-// Room for an image of one word too many, and what is looked at behind it.
+// Room for an image of one word too many, and what is looked at after it.
 fn image_room() -> [u8; 131328] {
     [0; 131328]
 }
 
-// Room for the text of 32,768 words, and what is looked at behind it.
+// Room for the text of 32,768 words, and what is looked at after it.
 fn text_room() -> [u8; 721152] {
     [0; 721152]
+}
+
+// Room for a report in which every record differs.
+fn report_room() -> [u8; 131072] {
+    [0; 131072]
 }
 
 fn main() {
@@ -132,11 +152,14 @@ fn main() {
     let mut image = image_room();
     let mut image_buffer = image_room();
     let mut text_buffer = text_room();
-    compare(
+    let mut report = report_room();
+    let end = compare(
         &list[..n],
         &mut source,
         &mut image,
         &mut image_buffer,
         &mut text_buffer,
-    ).write();
+        &mut report,
+    );
+    io::write_all(1, &report[..end]);
 }

@@ -1,4 +1,6 @@
 // Reading a record: what is asked, what is lent, and the answer. Nothing here calls a crate under test.
+ghost use mathlib.Core.Path.{_≡_};
+ghost use Rattle.vectors.specs.Tables.{labelAt};
 use crate::answer::Answer;
 use crate::answer::Header;
 use crate::answer::Text;
@@ -7,7 +9,7 @@ use replay::list::number_at;
 use std::num::wrapping_add_u64;
 use std::num::wrapping_add_usize;
 
-// A label of the table, and the place behind its line.
+// A label of the table, and the place after its line.
 pub struct Label {
     pub start: u64,
     pub length: u64,
@@ -15,15 +17,21 @@ pub struct Label {
     pub next: usize,
 }
 
-// A source's record: how long source and image are, the table and the buffer lent, the answer, and where the labels stand.
-pub struct Source {
-    pub is_whole: bool,
-    pub length: usize,
-    pub image: usize,
+// What assembling is asked with, and has to answer: how much of the table and of the buffer is lent, the answer, and where the list
+// has the labels.
+pub struct Asking {
     pub table: usize,
     pub room: usize,
     pub answer: Answer,
     pub labels_at: usize,
+}
+
+// A source's record: how long source and image are, and what is asked.
+pub struct Source {
+    pub is_whole: bool,
+    pub length: usize,
+    pub image: usize,
+    pub asking: Asking,
 }
 
 // An image's record: how long the image is, how much of a room its text fills, the buffer lent, and the answers.
@@ -81,14 +89,14 @@ fn accepted_at(list: &[u8], at: usize) -> AnswerLine {
     AnswerLine {
         answer: Answer {
             number: 0,
-            rust_line: 0,
-            line: 0,
-            labels: labels.value,
-            needed: 0,
             words: words.value,
+            labels: labels.value,
             limb_bits: limb_bits.value,
             data_limbs: data_limbs.value,
             addr_limbs: addr_limbs.value,
+            rust_line: 0,
+            line: 0,
+            needed: 0,
         },
         next: addr_limbs.next,
     }
@@ -122,7 +130,9 @@ fn answer_at(list: &[u8], at: usize) -> AnswerLine {
 }
 
 // `l START LENGTH ADDRESS`
-pub(crate) fn label_at(list: &[u8], at: usize) -> Label {
+pub(crate) fn label_at(list: &[u8], at: usize) -> Label
+    ensures { λ r. ⌜ r ≡ labelAt (now (list .entry)) at ⌝ }
+{
     let start = number_at(list, wrapping_add_usize(at, 2));
     let length = number_at(list, start.next);
     let address = number_at(list, length.next);
@@ -181,14 +191,17 @@ pub(crate) fn source_at(list: &[u8], at: usize, source: &mut [u8], image: &mut [
         is_whole: bytes.length as u64 == wanted && replay::list::is_record_end(list, bytes.next),
         length,
         image: bytes.length,
-        table: table.value,
-        room: room.value,
-        answer,
-        labels_at: line.next,
+        asking: Asking {
+            table: table.value,
+            room: room.value,
+            answer,
+            labels_at: line.next,
+        },
     }
 }
 
-// `o LIMB_BITS DATA_LIMBS ADDR_LIMBS FLAGS ENTRY CODE_SIZE DATA_SIZE BSS STACK`
+// `o LIMB_BITS DATA_LIMBS ADDR_LIMBS FLAGS ENTRY CODE_SIZE DATA_SIZE BSS STACK`. Magic and version are those that every image has,
+// and the code ends where its size says.
 fn opened_at(list: &[u8], at: usize) -> HeaderLine {
     let limb_bits = number_at(list, wrapping_add_usize(at, 2));
     let data_limbs = number_at(list, limb_bits.next);
@@ -202,6 +215,8 @@ fn opened_at(list: &[u8], at: usize) -> HeaderLine {
     HeaderLine {
         header: Header {
             number: 0,
+            magic: 0x52494B5A,
+            version: 0x00030004,
             limb_bits: limb_bits.value,
             data_limbs: data_limbs.value,
             addr_limbs: addr_limbs.value,
@@ -211,6 +226,7 @@ fn opened_at(list: &[u8], at: usize) -> HeaderLine {
             data_size: data_size.value,
             bss: bss.value,
             stack: stack.value,
+            code_end: wrapping_add_u64(32, code_size.value),
         },
         next: stack.next,
     }
@@ -240,8 +256,9 @@ fn text_at(list: &[u8], at: usize) -> TextLine {
         return TextLine {
             text: Text {
                 number: 0,
-                index: 0,
                 length: first.value,
+                index: 0,
+                needed: 0,
             },
             next: first.next,
         };
@@ -256,8 +273,9 @@ fn text_at(list: &[u8], at: usize) -> TextLine {
     TextLine {
         text: Text {
             number: named,
+            length: 0,
             index: index.value,
-            length: needed.value,
+            needed: needed.value,
         },
         next: needed.next,
     }

@@ -2,14 +2,17 @@
 ghost use Prim.Native.Nat.{_≤_};
 ghost use lib.ListN.{length, take};
 ghost use mathlib.Core.Path.{_≡_};
+ghost use Rattle.vectors.specs.Rooms.{fillerAt, bufferByte, holdsBytes};
 use std::num::wrapping_add_usize;
 
 // What stands at a place of a buffer before it is lent: no byte of a text, and none that is the same at each place.
-fn filler(at: usize) -> u8 {
+fn filler(at: usize) -> u8
+    ensures { λ r. ⌜ r ≡ fillerAt at ⌝ }
+{
     128 + (at % 127) as u8
 }
 
-// How many bytes are looked at: what is lent, and 64 behind it.
+// How many bytes are looked at: what is lent, and the 64 after it.
 pub(crate) fn guarded(lent: usize) -> usize {
     let end = wrapping_add_usize(lent, 64);
     if end < lent { lent } else { end }
@@ -35,15 +38,26 @@ pub(crate) fn fill(room: &mut [u8], count: usize) {
     }
 }
 
+// What has to stand at a place of a buffer that has these bytes and is as it was filled after them.
+fn wanted_at(bytes: &[u8], i: usize) -> u8
+    ensures { λ r. ⌜ r ≡ bufferByte (now (bytes .entry)) i ⌝ }
+{
+    if i < bytes.len() { bytes[i] } else { filler(i) }
+}
+
 // Whether a buffer has these bytes, and then what it was filled with, up to `count`.
-pub(crate) fn holds(room: &[u8], bytes: &[u8], count: usize) -> bool {
-    if room.len() < count || count < bytes.len() {
+pub(crate) fn holds(room: &[u8], bytes: &[u8], count: usize) -> bool
+    ensures { λ r. ⌜ r ≡ holdsBytes (now (room .entry)) (now (bytes .entry)) count ⌝ }
+{
+    if room.len() < count {
+        return false;
+    }
+    if count < bytes.len() {
         return false;
     }
     let mut i = 0;
-    while i < count && i < room.len() {
-        let wanted = if i < bytes.len() { bytes[i] } else { filler(i) };
-        if room[i] != wanted {
+    while i < count {
+        if room[i] != wanted_at(bytes, i) {
             return false;
         }
         i += 1;

@@ -1,7 +1,10 @@
 // How much was compared: records, those that differ, and of the others what was answered.
+ghost use mathlib.Core.Path.{_≡_};
+ghost use Rattle.replay.specs.Report.{Put};
+ghost use Rattle.vectors.specs.Tally.{agreed, tallied, tallyText};
+use replay::report::put_count;
 use replay::tally::Refusals;
 use replay::tally::more;
-use replay::tally::write_count;
 
 // What comparing a record gave.
 pub enum Outcome {
@@ -9,6 +12,18 @@ pub enum Outcome {
     Assembled,
     Listed,
     Refused(u64),
+}
+
+// Whether a record agrees.
+pub(crate) fn agrees(outcome: Outcome) -> bool
+    ensures { λ r. ⌜ r ≡ agreed outcome ⌝ }
+{
+    match outcome {
+        Outcome::Differs => false,
+        Outcome::Assembled => true,
+        Outcome::Listed => true,
+        Outcome::Refused(_) => true,
+    }
 }
 
 pub struct Tally {
@@ -30,14 +45,13 @@ impl Tally {
         }
     }
 
-    // One record more. Where it differs, its number is written.
-    pub(crate) fn with(mut self, outcome: Outcome) -> Tally {
+    // One record more.
+    pub(crate) fn with(mut self, outcome: Outcome) -> Tally
+        ensures { λ r. ⌜ r ≡ tallied self outcome ⌝ }
+    {
         self.records = more(self.records);
         match outcome {
-            Outcome::Differs => {
-                self.differences = more(self.differences);
-                replay::tally::write_difference(self.records);
-            }
+            Outcome::Differs => self.differences = more(self.differences),
             Outcome::Assembled => self.assembled = more(self.assembled),
             Outcome::Listed => self.listed = more(self.listed),
             Outcome::Refused(number) => {
@@ -48,12 +62,15 @@ impl Tally {
         self
     }
 
-    pub(crate) fn write(self) {
-        write_count(self.records, b" records, ");
-        write_count(self.differences, b" differences\n");
-        write_count(self.assembled, b" sources assembled\n");
-        write_count(self.listed, b" images listed\n");
+    // The counts, put into a room.
+    pub(crate) fn put(self, room: &mut [u8], at: usize) -> usize
+        ensures { λ r. ⌜ Put (now (room .entry)) at (tallyText self) r (now (room .exit)) ⌝ }
+    {
+        let at = put_count(room, at, self.records, b" records, ");
+        let at = put_count(room, at, self.differences, b" differences\n");
+        let at = put_count(room, at, self.assembled, b" sources assembled\n");
+        let at = put_count(room, at, self.listed, b" images listed\n");
         let refusals = self.refusals;
-        refusals.write();
+        refusals.put(room, at)
     }
 }

@@ -1,65 +1,26 @@
 // Reads lines of one instruction with the oracle's words and texts for them, and words alone, and compares what
 // `instruction`, `coding`, `encoding`, `writing` and `reading` make of them. Writes the number of each record that differs, then counts.
-ghost use Prim.Native.Nat.{_<_};
-ghost use lib.ListN.{length};
+ghost use Prim.Native.Nat.{_≤_, _<_};
+ghost use lib.ListN.{length, take};
 ghost use mathlib.Core.Path.{_≡_};
 
 mod calls;
+mod list;
 mod tally;
 
-use calls::Text;
 use coding::encoder::Decoded;
 use instruction::instruction::Instruction;
+use list::after_text;
+use list::has_text;
+use list::refusal;
 use reading::assembler::Parsed;
 use replay::list::byte_at;
 use replay::list::has_tag;
+use replay::report::put_verdict;
 use std::num::wrapping_add_usize;
 use tally::Outcome;
 use tally::Tally;
-
-// Whether a room of `$` has the list's text behind its first eight bytes, and nothing else.
-fn holds(room: &[u8], count: usize, list: &[u8], at: usize) -> bool {
-    let end = wrapping_add_usize(at, count);
-    let mut next = at;
-    let mut i: usize = 0;
-    while i < room.len() {
-        let mut wanted = b'$';
-        if 8 <= i && next != end {
-            wanted = byte_at(list, next);
-            next = wrapping_add_usize(next, 1);
-        }
-        if room[i] != wanted {
-            return false;
-        }
-        i += 1;
-    }
-    next == end && byte_at(list, end) == b'\n'
-}
-
-// The refusal, if it is what the list has at `at` and nothing follows.
-fn refusal(number: u8, list: &[u8], at: usize) -> Outcome {
-    let wanted = replay::list::number_at(list, wrapping_add_usize(at, 2));
-    if has_tag(list, at, b'r')
-        && wanted.value == replay::list::wide(number)
-        && replay::list::is_record_end(list, wanted.next)
-    {
-        return Outcome::Refused(number);
-    }
-    Outcome::Differs
-}
-
-// Whether the room has an instruction's text, said to be as long as it is, and the list's line at `at` has it under this tag.
-fn has_text(room: &[u8], text: Text, tag: u8, list: &[u8], at: usize) -> bool {
-    let length = text.length;
-    text.end == wrapping_add_usize(8, length)
-        && has_tag(list, at, tag)
-        && holds(room, length, list, wrapping_add_usize(at, 2))
-}
-
-// Where the list goes on behind a line with a text.
-fn behind_text(at: usize, text: Text) -> usize {
-    wrapping_add_usize(wrapping_add_usize(at, 3), text.length)
-}
+use tally::agrees;
 
 // Whether the text behind the first eight bytes is read as an instruction that has this word.
 fn reads(text: &[u8], word: u32) -> bool {
@@ -82,7 +43,7 @@ fn is_decoded(instruction: Instruction, word: u32, list: &[u8], at: usize, room:
     is_read_again
         && calls::encode(instruction) == word
         && has_text(room, text, b'l', list, at)
-        && replay::list::is_record_end(list, behind_text(at, text))
+        && replay::list::is_record_end(list, after_text(at, text))
 }
 
 // A word, of eight digits, and its text or refusal.
@@ -111,7 +72,7 @@ fn word_outcome(list: &[u8], at: usize) -> Outcome {
 fn instruction_outcome(instruction: Instruction, list: &[u8], at: usize) -> Outcome {
     let mut room = [b'$'; 96];
     let text = calls::write(instruction, &mut room);
-    let next = behind_text(at, text);
+    let next = after_text(at, text);
     let word = replay::list::hex_at(list, wrapping_add_usize(next, 2));
     if !has_text(&room, text, b'u', list, at) || word.value != calls::encode(instruction) as u64 {
         return Outcome::Differs;
@@ -154,20 +115,29 @@ fn outcome(list: &[u8], at: usize) -> Outcome {
     line_outcome(list, at, &mut room)
 }
 
-fn compare(list: &[u8]) -> Tally {
+// Compares each record, and puts the report into the room. The promises are what `&room[..end]` asks for.
+fn compare(list: &[u8], room: &mut [u8]) -> usize
+    ensures { λ r. ⌜ r ≤ length (now (room .exit)) ⌝ }
+    ensures { λ r. ⌜ r ≡ length (take r (now (room .exit))) ⌝ }
+{
     let mut tally = Tally::new();
+    let mut end = 0;
     let mut at = 0;
     while at < list.len() {
         at = replay::list::next_record(list, at);
         if at < list.len() {
-            tally = tally.with(outcome(list, at));
+            let outcome = outcome(list, at);
+            tally = tally.with(outcome);
+            end = put_verdict(room, end, tally.records, agrees(outcome));
         }
     }
-    tally
+    tally.put(room, end)
 }
 
 fn main() {
     let mut list = [0u8; 524288];
     let n = io::read_full(0, &mut list);
-    compare(&list[..n]).write();
+    let mut report = [0u8; 131072];
+    let end = compare(&list[..n], &mut report);
+    io::write_all(1, &report[..end]);
 }

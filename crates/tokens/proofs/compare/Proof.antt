@@ -1,15 +1,16 @@
--- `tokens::compare` is safe and ends: each turn goes on to a later record.
+-- `tokens::compare` meets its contract, and ends: each turn goes on to a later record.
 use Prim.Native.Nat.{_-_}
-use borrow.Author.Needs.{needs}
+use mathlib.Core.Path.{_≡_}
 use lib.ListN.{length}
+use borrow.Author.Needs.{needs}
 use Rattle.tokens.proofs.compare.Statement.{statement}
 use Rattle.tokens.proofs.compare.Tie as tie
 
 abbrev Inv-loop : tie.InvT-loop
-Inv-loop list tally₀ at₀ tally at = Unit
+Inv-loop list room₀ tally₀ end₀ at₀ room tally end at = length room ≡ length room₀
 
 abbrev μ-loop : tie.MeasureT-loop
-μ-loop list tally₀ at₀ tally at = length list - at
+μ-loop list room₀ tally₀ end₀ at₀ room tally end at = length list - at
 
 new-requires : tie.Need-new-requires Inv-loop μ-loop
 new-requires c κs = search needs
@@ -20,8 +21,14 @@ loop-holds c = search needs
 next-record-requires : tie.Need-next-record-requires Inv-loop μ-loop
 next-record-requires c κs = search needs
 
-with-record-requires : tie.Need-with-record-requires Inv-loop μ-loop
-with-record-requires c κs = search needs
+outcome-requires : tie.Need-outcome-requires Inv-loop μ-loop
+outcome-requires c κs = search needs
+
+with-line-requires : tie.Need-with-line-requires Inv-loop μ-loop
+with-line-requires c κs = search needs
+
+put-verdict-requires : tie.Need-put-verdict-requires Inv-loop μ-loop
+put-verdict-requires c κs = search needs
 
 loop-less : tie.Need-loop-less Inv-loop μ-loop
 loop-less c = search needs
@@ -35,6 +42,12 @@ loop-less-2 c = search needs
 loop-again-2 : tie.Need-loop-again-2 Inv-loop μ-loop
 loop-again-2 c = search needs
 
+put-requires : tie.Need-put-requires Inv-loop μ-loop
+put-requires c κs = search needs
+
+same-length : tie.Need-same-length Inv-loop μ-loop
+same-length c = search needs
+
 returns : tie.Need-returns Inv-loop μ-loop
 returns c = search needs
 
@@ -47,9 +60,13 @@ compare-spec =
     new-requires
     loop-holds
     next-record-requires
-    with-record-requires
+    outcome-requires
+    with-line-requires
+    put-verdict-requires
     loop-less
     loop-again
     loop-less-2
     loop-again-2
+    put-requires
+    same-length
     returns)

@@ -56,10 +56,10 @@ use Rattle.assembling.proofs.assembler.assemble.Symbol.{name as #assembling}
 use Rattle.assembling.proofs.assembler.assemble.Met as assembling-thm
 use Rattle.vectors.proofs.calls.Asked as T
 use Rattle.vectors.proofs.calls.Asked.Laws as T′
-use Rattle.vectors.proofs.calls.blank_table as blank
-use Rattle.vectors.proofs.calls.blank_table.Symbol as blank-def
-use Rattle.vectors.proofs.calls.blank_table.Symbol.{name as #blank}
-use Rattle.vectors.proofs.calls.blank_table.Met as blank-thm
+use Rattle.vectors.proofs.table.blank_table as blank
+use Rattle.vectors.proofs.table.blank_table.Symbol as blank-def
+use Rattle.vectors.proofs.table.blank_table.Symbol.{name as #blank}
+use Rattle.vectors.proofs.table.blank_table.Met as blank-thm
 use Rattle.vectors.proofs.calls.ask.Key.{name as #ask}
 use Rattle.vectors.proofs.calls.ask as ask
 use Rattle.vectors.proofs.calls.ask.Statement as stated
@@ -193,5 +193,5 @@ ask-spec 𝓤 H 𝓜 𝓖 𝓡 =
     entered 𝓤 H (tripleOf 𝓤 H (𝓖 .A) ask.signature (ask.spec 𝓤 H (𝓖 .A) (𝓜 .mem) (𝓡 .run)))
     (tables 𝓤 H 𝓜 𝓡 code.env .C) (tables 𝓤 H 𝓜 𝓡 code.env .Λ) #ask code.function (code.unfolded 𝓤 H 𝓜 𝓡)
     (meets 𝓤 H (𝓖 .A) (𝓜 .mem) (𝓡 .run) (givenOf 𝓤 H 𝓜 𝓖) (tablesOf 𝓤 H 𝓜 (tables 𝓤 H 𝓜 𝓡 code.env))
-    (cited 𝓤 H (Blank 𝓤 H (𝓖 .A) (𝓜 .mem) (𝓡 .run)) 𝓜 𝓡 code.env #blank blank-def.routine code.calls-vectors·calls·blank-table (blank-thm.met 𝓤 H 𝓜 𝓖 𝓡))
+    (cited 𝓤 H (Blank 𝓤 H (𝓖 .A) (𝓜 .mem) (𝓡 .run)) 𝓜 𝓡 code.env #blank blank-def.routine code.calls-vectors·table·blank-table (blank-thm.met 𝓤 H 𝓜 𝓖 𝓡))
     (cited 𝓤 H (Lends 𝓤 H (𝓖 .A) (𝓜 .mem) (𝓡 .run)) 𝓜 𝓡 code.env #assembling assembling-def.routine code.calls-assembling·assembler·assemble (assembling-thm.met 𝓤 H 𝓜 𝓖 𝓡)))

@@ -1,0 +1,13 @@
+-- `vectors::answer::Header::refused` meets its contract.
+use mathlib.Core.Path.{refl}
+use Rattle.vectors.specs.Answers.{refusedHeader}
+use borrow.Author.Needs.{needs}
+use Rattle.vectors.proofs.answer.Header.refused.Statement.{statement}
+use Rattle.vectors.proofs.answer.Header.refused.Tie as tie
+
+returns : tie.Need-returns
+unfolding refusedHeader
+returns c = refl
+
+pub refused-spec : {M : Type 1} → statement M
+refused-spec = tie.close (tie.spec returns)

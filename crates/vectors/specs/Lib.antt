@@ -1,0 +1,5 @@
+pub mod Answers
+pub mod Tables
+pub mod Rooms
+pub mod Given
+pub mod Tally
