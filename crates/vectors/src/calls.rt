@@ -16,11 +16,10 @@ use labels::label::Label as Entry;
 use listing::disassembler::Listing;
 use passes::second_pass::Assembled;
 
-// Which function assembles: the library's, or an exported one, of which one is made for long sources.
+// Which function assembles: the library's, or the exported one.
 pub enum Assembler {
     Library,
     Export,
-    LongExport,
 }
 
 // Which function lists.
@@ -103,20 +102,12 @@ fn ask(source: &[u8], room: usize, image: &mut [u8]) -> Asked
     Asked { assembled, table }
 }
 
-// The same by an exported function, which writes its answer over an array.
+// The same by the exported function, which writes its answer over an array.
 fn ask_export(source: &[u8], room: usize, image: &mut [u8], answer: &mut [u64; 8]) -> Returned
     requires { ⌜ room ≤ 1032 ⌝ }
 {
     let mut table = blank_table();
     let number = capi::zkasm_assemble(source, &mut table[..room], image, answer);
-    Returned { number, table }
-}
-
-fn ask_long_export(source: &[u8], room: usize, image: &mut [u8], answer: &mut [u64; 8]) -> Returned
-    requires { ⌜ room ≤ 1032 ⌝ }
-{
-    let mut table = blank_table();
-    let number = capi::zkasm_assemble_long(source, &mut table[..room], image, answer);
     Returned { number, table }
 }
 
@@ -131,25 +122,13 @@ fn library_agrees(source: &[u8], asking: Asking, image: &mut [u8], list: &[u8]) 
     wanted.is(answer_of(assembled)) && has_labels(table, list, asking.labels_at, wanted.labels)
 }
 
-// The same of the exported function for all sources.
+// The same of the exported function.
 fn export_agrees(source: &[u8], asking: Asking, image: &mut [u8], list: &[u8]) -> bool
     requires { ⌜ asking .table ≤ 1032 ⌝ }
 {
     let wanted = asking.answer;
     let mut values = [0u64; 8];
     let returned = ask_export(source, asking.table, image, &mut values);
-    let table = returned.table;
-    wanted.has(long(returned.number), &values)
-        && has_labels(table, list, asking.labels_at, wanted.labels)
-}
-
-// The same of the exported function that is made for long ones.
-fn long_export_agrees(source: &[u8], asking: Asking, image: &mut [u8], list: &[u8]) -> bool
-    requires { ⌜ asking .table ≤ 1032 ⌝ }
-{
-    let wanted = asking.answer;
-    let mut values = [0u64; 8];
-    let returned = ask_long_export(source, asking.table, image, &mut values);
     let table = returned.table;
     wanted.has(long(returned.number), &values)
         && has_labels(table, list, asking.labels_at, wanted.labels)
@@ -169,7 +148,6 @@ pub(crate) fn is_assembled(
     match assembler {
         Assembler::Library => library_agrees(source, asking, image, list),
         Assembler::Export => export_agrees(source, asking, image, list),
-        Assembler::LongExport => long_export_agrees(source, asking, image, list),
     }
 }
 

@@ -29,7 +29,7 @@ fn is_assembled_by(
     room::holds(buffer, b"", end)
 }
 
-// By the library, and by both exported functions.
+// By the library, and by the exported function.
 pub(crate) fn is_assembled(
     source: &[u8],
     asking: Asking,
@@ -40,10 +40,7 @@ pub(crate) fn is_assembled(
     if !is_assembled_by(Assembler::Library, source, asking, list, image, buffer) {
         return false;
     }
-    if !is_assembled_by(Assembler::Export, source, asking, list, image, buffer) {
-        return false;
-    }
-    is_assembled_by(Assembler::LongExport, source, asking, list, image, buffer)
+    is_assembled_by(Assembler::Export, source, asking, list, image, buffer)
 }
 
 // The same source asked with another table, and its answer.

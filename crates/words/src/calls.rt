@@ -12,18 +12,27 @@ pub struct Text {
     pub end: usize,
 }
 
+// What a line is read as: an instruction, or the number of its refusal.
+pub(crate) enum Line {
+    Is(Instruction),
+    Refused(u8),
+}
+
 // The instruction of the line that begins at `from`, its mnemonic the token at `place`.
-pub(crate) fn read(text: &[u8], from: usize, place: usize) -> Parsed
+pub(crate) fn read(text: &[u8], from: usize, place: usize) -> Line
     requires { ⌜ from ≤ length (now text) ⌝ ∗ ⌜ place ≤ 2 ⌝ }
 {
     let line = text::parser::tokenize(text, from);
     if line.bad {
-        return Parsed::Refused(3);
+        return Line::Refused(3);
     }
     let mnemonics = instruction::opcode::mnemonics();
     let forms = instruction::opcode::forms();
     let slots = instruction::opcode::slots();
-    reading::assembler::parse_instruction(text, line, place, &mnemonics, &forms, &slots)
+    match reading::assembler::parse_instruction(text, line, place, &mnemonics, &forms, &slots) {
+        Parsed::Refused(number) => Line::Refused(number),
+        Parsed::Is { row, operands } => Line::Is(Instruction::from_parts(row, operands)),
+    }
 }
 
 pub(crate) fn encode(instruction: Instruction) -> u32 {

@@ -13,7 +13,6 @@ use instruction::instruction::Instruction;
 use list::after_text;
 use list::has_text;
 use list::refusal;
-use reading::assembler::Parsed;
 use replay::list::byte_at;
 use replay::list::has_tag;
 use replay::report::put_verdict;
@@ -28,8 +27,8 @@ fn reads(text: &[u8], word: u32) -> bool {
         return false;
     }
     match calls::read(text, 8, 0) {
-        Parsed::Refused(_) => false,
-        Parsed::Is(instruction) => calls::encode(instruction) == word,
+        calls::Line::Refused(_) => false,
+        calls::Line::Is(instruction) => calls::encode(instruction) == word,
     }
 }
 
@@ -101,8 +100,8 @@ fn line_outcome(list: &[u8], at: usize, room: &mut [u8]) -> Outcome
         return Outcome::Differs;
     }
     match calls::read(room, from, place as usize) {
-        Parsed::Refused(number) => refusal(number, list, behind),
-        Parsed::Is(instruction) => instruction_outcome(instruction, list, behind),
+        calls::Line::Refused(number) => refusal(number, list, behind),
+        calls::Line::Is(instruction) => instruction_outcome(instruction, list, behind),
     }
 }
 

@@ -32,8 +32,20 @@ parse-instruction-requires c κs =
     let t = c .before .before .before .before .before .before .before in
     (kept t, search needs)
 
+enum-known-number : tie.Need-enum-known-number
+enum-known-number c = search needs
+
+enum-known-row : tie.Need-enum-known-row
+enum-known-row c = search needs
+
+from-parts-requires : tie.Need-from-parts-requires
+from-parts-requires c κs = let n = c in rw (n .row .given .1) at (n .before .before .parse-instruction .ensures .1)
+
 returns-2 : tie.Need-returns-2
 returns-2 c = search needs
+
+returns-3 : tie.Need-returns-3
+returns-3 c = search needs
 
 pub read-spec : {M : Type 1} → statement M
 read-spec =
@@ -45,4 +57,8 @@ read-spec =
     forms-requires
     slots-requires
     parse-instruction-requires
-    returns-2)
+    enum-known-number
+    enum-known-row
+    from-parts-requires
+    returns-2
+    returns-3)
