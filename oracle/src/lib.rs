@@ -2,6 +2,7 @@
 //! to ask it, and the lists of such answers.
 
 mod answer;
+pub mod falsified;
 pub mod gen;
 mod images;
 pub mod isa;

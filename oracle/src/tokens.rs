@@ -6,6 +6,7 @@ use logos::Logos;
 use zkir_assembler::lexer::Token;
 use zkir_assembler::parser::parse_register;
 
+use crate::falsified;
 use crate::gen::{self, Kind, Rng, ALPHABET, GOOD_NUMBERS, ODD_NUMBERS};
 use crate::isa::REGISTERS;
 use crate::list::escape;
@@ -24,7 +25,7 @@ pub fn token_list() -> String {
     let mut out = format!(
         "# Lines and the tokens that the Rust reference's lexer reads of them, for the program\n\
          # tokens. The format is described in oracle/README.md. Made by `make-list`: chosen lines,\n\
-         # then the lines of `gen` with seeds {} to {}.\n",
+         # then the lines of `gen` with seeds {} to {}, then falsified records.\n",
         SEEDS.start,
         SEEDS.end - 1
     );
@@ -35,6 +36,7 @@ pub fn token_list() -> String {
         out.push('\n');
         out += &answer(&line);
     }
+    out += &falsified::TOKENS.records(&out);
     out
 }
 

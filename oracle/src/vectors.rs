@@ -1,5 +1,7 @@
-//! The fixed list of sources and images with their answers: those by hand, then the made ones.
+//! The fixed list of sources and images with their answers: those by hand, the made ones, and the
+//! falsified ones.
 
+use crate::falsified;
 use crate::images::{self, write_images};
 use crate::sources::{self, write_sources};
 
@@ -13,7 +15,7 @@ pub fn vector_list() -> String {
          # oracle/README.md. Made by `make-list`: the records of lists/by_hand.txt; chosen sources and\n\
          # each kind of `gen` with seeds {} to {}, as the Rust reference answers; chosen images,\n\
          # images of programs with seeds {} to {} and damaged ones with seeds {} to {}, as `model`\n\
-         # answers, which follows document 01 alone.\n",
+         # answers, which follows document 01 alone; and falsified records.\n",
         sources::SEEDS.start,
         sources::SEEDS.end - 1,
         images::WHOLE.start,
@@ -26,5 +28,6 @@ pub fn vector_list() -> String {
     out += by_hand;
     write_sources(&mut out);
     write_images(&mut out);
+    out += &falsified::VECTORS.records(&out);
     out
 }

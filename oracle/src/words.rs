@@ -8,6 +8,7 @@ use zkir_assembler::lexer::Token;
 use zkir_assembler::parser::parse_register;
 
 use crate::answer::{answer, Answer};
+use crate::falsified;
 use crate::gen::Rng;
 use crate::images::field_words;
 use crate::isa::{Form, Place, Row, REGISTERS, ROWS};
@@ -38,7 +39,8 @@ pub fn word_list() -> String {
         "# Lines of one instruction, what the Rust reference answers, and words and the texts that\n\
          # `model` reads of them, for the program words. The format is described in\n\
          # oracle/README.md. Made by `make-list`: the sources of crates/vectors that are one line\n\
-         # and read as an instruction, chosen lines, chosen words, {RANDOM_WORDS} words with seed {SEED}.\n"
+         # and read as an instruction, chosen lines, chosen words, {RANDOM_WORDS} words with seed {SEED};\n\
+         # and falsified records.\n"
     );
     for (line, place) in WITHOUT {
         write_line(&mut out, line, place);
@@ -51,6 +53,7 @@ pub fn word_list() -> String {
         out.push('\n');
         write_word(&mut out, word);
     }
+    out += &falsified::WORDS.records(&out);
     out
 }
 

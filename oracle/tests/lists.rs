@@ -2,6 +2,7 @@
 
 use std::collections::{BTreeMap, BTreeSet};
 
+use oracle::falsified::{self, Falsified};
 use oracle::isa::ROWS;
 use oracle::list::{answer_lines, image_lines, read, read_image, Record, USUAL_TABLE};
 use oracle::{answer, answer_within, model, token_list, vector_list, word_list};
@@ -10,6 +11,15 @@ const BY_HAND: &str = include_str!("../lists/by_hand.txt");
 const VECTORS: &str = include_str!("../../crates/vectors/stdin");
 const TOKENS: &str = include_str!("../../crates/tokens/stdin");
 const WORDS: &str = include_str!("../../crates/words/stdin");
+
+/// The lists without their falsified records.
+fn true_vectors() -> &'static str {
+    falsified::VECTORS.true_part(VECTORS)
+}
+
+fn true_tokens() -> &'static str {
+    falsified::TOKENS.true_part(TOKENS)
+}
 
 #[test]
 fn the_made_lists_are_made_again() {
@@ -28,15 +38,52 @@ fn the_made_lists_are_made_again() {
     );
 }
 
+/// What a program has to write of a list: just the falsified records differ, and they are no others.
+fn notices(list: &str, falsified: &Falsified, written: &str) {
+    let all = list.split("\n\n").count() - 1;
+    let honest: Vec<&str> = falsified.true_part(list).split("\n\n").skip(1).collect();
+    let numbers: Vec<usize> = written
+        .lines()
+        .map_while(|line| line.strip_prefix("differs: record ")?.parse().ok())
+        .collect();
+    assert!(numbers.into_iter().eq(honest.len() + 1..=all));
+    assert!(all > honest.len() + 10, "only {all} records");
+    for record in falsified.records(list).split("\n\n") {
+        assert!(
+            !honest.iter().any(|it| it.trim_end() == record.trim()),
+            "{record}"
+        );
+    }
+}
+
+#[test]
+fn the_programs_notice_the_falsified_records_and_no_others() {
+    notices(
+        VECTORS,
+        &falsified::VECTORS,
+        include_str!("../../crates/vectors/stdout"),
+    );
+    notices(
+        TOKENS,
+        &falsified::TOKENS,
+        include_str!("../../crates/tokens/stdout"),
+    );
+    notices(
+        WORDS,
+        &falsified::WORDS,
+        include_str!("../../crates/words/stdout"),
+    );
+}
+
 /// The records of images as they stand in the list; only they say how long a text buffer is.
 fn images() -> impl Iterator<Item = &'static str> {
-    let records = VECTORS.split("\n\n").skip(1);
+    let records = true_vectors().split("\n\n").skip(1);
     records.filter(|record| record.lines().any(|line| line.starts_with("n ")))
 }
 
 /// The records of sources, those by hand first.
 fn sources() -> Vec<Record> {
-    let mut records = read(VECTORS);
+    let mut records = read(true_vectors());
     records.truncate(records.len() - images().count());
     records
 }
@@ -158,7 +205,7 @@ fn listings_assemble_to_their_images() {
 
 #[test]
 fn the_list_of_lines_covers_every_kind() {
-    let records = read(TOKENS);
+    let records = read(true_tokens());
     assert!(records.len() >= 1500, "only {} lines", records.len());
     // What the program `tokens` has room for.
     assert!(TOKENS.len() < 131_072, "{} bytes", TOKENS.len());
@@ -174,7 +221,7 @@ fn the_list_of_lines_covers_every_kind() {
 /// A line as a source is refused by 3 exactly where the list says that it is bad.
 #[test]
 fn bad_lines_are_those_that_the_reference_refuses() {
-    for record in read(TOKENS) {
+    for record in read(true_tokens()) {
         let lines = answer_lines(&answer(&record.source));
         assert_eq!(record.answer == ["b"], lines[0].starts_with("r 3 "));
     }
@@ -183,7 +230,7 @@ fn bad_lines_are_those_that_the_reference_refuses() {
 /// The places count from the line's first byte, and the spelling there is of the token's kind.
 #[test]
 fn tokens_stand_where_the_list_says() {
-    for (line, kind, start, length) in tokens(&read(TOKENS)) {
+    for (line, kind, start, length) in tokens(&read(true_tokens())) {
         let spelling = &line[start..start + length];
         assert!(match kind {
             b'i' | b'r' => spelling[0].is_ascii_alphabetic() || spelling[0] == b'_',

@@ -5,9 +5,14 @@ use std::collections::BTreeSet;
 
 use oracle::isa::{Form, Place, ROWS};
 use oracle::list::{read, Record};
-use oracle::{answer, Answer};
+use oracle::{answer, falsified, Answer};
 
 const WORDS: &str = include_str!("../../crates/words/stdin");
+
+/// The records but the falsified ones.
+fn records() -> Vec<Record> {
+    read(falsified::WORDS.true_part(WORDS))
+}
 
 /// What stands in a record's line with this tag.
 fn line<'a>(record: &'a Record, tag: &str) -> Option<&'a str> {
@@ -31,7 +36,7 @@ fn word_of(source: &str) -> Result<u32, u32> {
 fn the_program_has_room_for_it() {
     assert!(WORDS.len() < 524_288, "{} bytes", WORDS.len());
     let mut seen = BTreeSet::new();
-    for record in read(WORDS) {
+    for record in records() {
         assert!(record.source.len() < 509 && !record.source.contains(&b'\n'));
         assert!(seen.insert((record.source, record.answer)), "twice");
     }
@@ -40,7 +45,7 @@ fn the_program_has_room_for_it() {
 
 #[test]
 fn every_refusal_of_an_instruction_and_of_a_word_is_met() {
-    let numbers: BTreeSet<u32> = read(WORDS)
+    let numbers: BTreeSet<u32> = records()
         .iter()
         .filter_map(|record| line(record, "r")?.parse().ok())
         .collect();
@@ -52,7 +57,7 @@ fn every_refusal_of_an_instruction_and_of_a_word_is_met() {
 #[test]
 fn every_mnemonic_is_spelled_in_each_case_and_behind_a_label() {
     let mut spellings = BTreeSet::new();
-    for record in read(WORDS)
+    for record in records()
         .iter()
         .filter(|record| line(record, "u").is_some())
     {
@@ -85,10 +90,7 @@ fn every_mnemonic_is_spelled_in_each_case_and_behind_a_label() {
 #[test]
 fn every_register_stands_in_each_place_of_each_form() {
     let mut found = BTreeSet::new();
-    for record in read(WORDS)
-        .iter()
-        .filter(|record| !record.source.is_empty())
-    {
+    for record in records().iter().filter(|record| !record.source.is_empty()) {
         let Some(text) = line(record, "l") else {
             continue;
         };
@@ -116,7 +118,7 @@ fn every_register_stands_in_each_place_of_each_form() {
 
 #[test]
 fn every_field_is_at_its_ends_and_beyond() {
-    let records = read(WORDS);
+    let records = records();
     let texts: BTreeSet<_> = records
         .iter()
         .filter_map(|record| line(record, "u"))
@@ -143,7 +145,7 @@ fn every_field_is_at_its_ends_and_beyond() {
 
 #[test]
 fn every_opcode_and_every_bit_stands_in_a_word_alone() {
-    let records = read(WORDS);
+    let records = records();
     let alone = records.iter().filter(|record| line(record, "m").is_none());
     let words: BTreeSet<u32> = alone.filter_map(word).collect();
     for opcode in 0..128 {
@@ -159,7 +161,7 @@ fn every_opcode_and_every_bit_stands_in_a_word_alone() {
 #[test]
 fn texts_assemble_to_their_words() {
     let mut beyond = 0;
-    for record in read(WORDS) {
+    for record in records() {
         if let Some(text) = line(&record, "l") {
             assert_eq!(word_of(text), Ok(word(&record).unwrap()), "{text}");
         }

@@ -120,7 +120,7 @@ fn write_base(out: &mut [u8], at: usize, register: Register) -> usize
     place + 1
 }
 
-// The mnemonic of a row, by its key: a byte is left while the key is more than the 1 after them.
+// How long the mnemonic of a row is, by its key: a letter is left while the key is more than the 1 after them.
 pub fn mnemonic_length(row: usize, mnemonics: &[u64; 50]) -> usize
     requires { ⌜ row < 50 ⌝ ∗ ⌜ now mnemonics ≡ mnemonicKeys ⌝ }
     ensures { λ r. ⌜ r ≡ length (rowAt row .mnemonic) ⌝ ∗ ⌜ r ≤ 7 ⌝ }
@@ -134,6 +134,7 @@ pub fn mnemonic_length(row: usize, mnemonics: &[u64; 50]) -> usize
     length
 }
 
+// Writes the mnemonic of a row, the letters as they are taken off its key.
 pub fn write_mnemonic(out: &mut [u8], at: usize, row: usize, mnemonics: &[u64; 50]) -> usize
     requires { ⌜ row < 50 ⌝ ∗ ⌜ now mnemonics ≡ mnemonicKeys ⌝ ∗ ⌜ at + length (rowAt row .mnemonic) ≤ length (now out) ⌝ }
     ensures { λ r. ⌜ Written (now (out .entry)) at (rowAt row .mnemonic) r (now (out .exit)) ⌝ }
@@ -157,7 +158,7 @@ fn write_pair(out: &mut [u8], at: usize, first: Register, second: Register) -> u
     write_next(out, place, second)
 }
 
-// The text of `rd, rs1, rs2` after its mnemonic.
+// How long the text of a mnemonic and `rd, rs1, rs2` is.
 pub fn r_type_length(
     row: usize,
     mnemonics: &[u64; 50],
@@ -172,6 +173,7 @@ pub fn r_type_length(
     mnemonic_length(row, mnemonics) + operands
 }
 
+// Writes a mnemonic and `rd, rs1, rs2`.
 pub fn write_r_type(
     out: &mut [u8],
     at: usize,
@@ -189,7 +191,7 @@ pub fn write_r_type(
     write_register(out, last, rs2)
 }
 
-// The text of two registers and a number after their mnemonic. `rd, rs1, n` and `rd, n(rs1)` are equally long.
+// How long the text of a mnemonic, two registers and a number is: `rd, rs1, n` and `rd, n(rs1)` take the same.
 pub fn i_type_length(
     row: usize,
     mnemonics: &[u64; 50],
@@ -204,7 +206,7 @@ pub fn i_type_length(
     mnemonic_length(row, mnemonics) + operands
 }
 
-// `rd, rs1, n`, of shifts too; `rs1, rs2, n` of branches.
+// Writes a mnemonic and `rd, rs1, n`; a branch's `rs1, rs2, n` has the same shape.
 pub fn write_i_type(
     out: &mut [u8],
     at: usize,
@@ -222,7 +224,7 @@ pub fn write_i_type(
     write_number(out, last, number)
 }
 
-// `rd, n(rs1)` of loads, `rs2, n(rs1)` of stores.
+// Writes a mnemonic and a load's `rd, n(rs1)` or a store's `rs2, n(rs1)`.
 pub fn write_memory(
     out: &mut [u8],
     at: usize,
@@ -241,7 +243,7 @@ pub fn write_memory(
     write_base(out, last, base)
 }
 
-// The text of `rd, n` after its mnemonic.
+// How long the text of a mnemonic and `rd, n` is.
 pub fn j_type_length(row: usize, mnemonics: &[u64; 50], rd: Register, offset: Whole) -> usize
     requires { ⌜ row < 50 ⌝ ∗ ⌜ now mnemonics ≡ mnemonicKeys ⌝ }
     ensures { λ r. ⌜ r ≡ length (formText Jump row (indexOf rd ∷ []) (some (wholeMeant offset))) ⌝ ∗ ⌜ r ≤ 39 ⌝ }
@@ -250,6 +252,7 @@ pub fn j_type_length(row: usize, mnemonics: &[u64; 50], rd: Register, offset: Wh
     mnemonic_length(row, mnemonics) + operands
 }
 
+// Writes a mnemonic and `rd, n`.
 pub fn write_j_type(
     out: &mut [u8],
     at: usize,

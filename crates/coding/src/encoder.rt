@@ -137,7 +137,7 @@ pub enum Decoded {
     Refused(u8),
 }
 
-// Whether a word has no bit set above its form's fields.
+// Whether a word has no bit set above its form's fields. A form from 7 on has none.
 fn is_clear(form: u8, word: u32) -> bool
     ensures { λ r. ⌜ r ≡ ltb word (2 ^ unusedFrom (places (formAt form))) ⌝ }
 {

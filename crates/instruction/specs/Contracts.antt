@@ -27,7 +27,7 @@ use Rattle.instruction.specs.declared.opcode.Row.the-variants.{At, Missi
 abbrev pub noRow : Row
 noRow = record { mnemonic = []; opcode = 0; form = System }
 
--- A row of the table by its place in it, and by its mnemonic.
+-- A row of the table by its place in it, and by its mnemonic. (The mnemonic of each case names one: `row-of`.)
 abbrev pub rowAt : ℕ → Row
 rowAt i = getD table i noRow
 
@@ -71,8 +71,8 @@ slotRowsFrom residue (suc n) = slotRow residue mnemonicKeys ∷ slotRowsFrom (su
 unfoldable pub slotRows : List ℕ
 slotRows = slotRowsFrom 0 293
 
--- How many numbers below an opcode are no opcodes, as the code counts them: the same for all opcodes among eight numbers. From 88 on
--- there are no opcodes.
+-- How many numbers below an opcode are no opcodes, as the code counts them: the same for all opcodes among eight numbers, and from 88 on
+-- any number. No public contract cites it.
 unfoldable pub unusedBelow : ℕ → ℕ
 unusedBelow c = getD (0 ∷ 0 ∷ 7 ∷ 9 ∷ 11 ∷ 11 ∷ 18 ∷ 20 ∷ 24 ∷ 26 ∷ 32 ∷ []) (c / 8) c
 

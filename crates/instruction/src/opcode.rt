@@ -612,7 +612,8 @@ pub fn find_mnemonic(key: u64, mnemonics: &[u64; 50], slots: &[u8; 293]) -> Row
     Row::Missing
 }
 
-// How many numbers below an opcode are no opcodes: as many for each opcode among eight numbers. From 88 on there are no opcodes.
+// How many numbers below an opcode are no opcodes: the same for all opcodes among eight numbers. From 88 on there are no opcodes, and any
+// answer will do.
 fn unused_below(opcode: u32) -> u32
     ensures { λ r. ⌜ r ≡ unusedBelow opcode ⌝ ∗ ⌜ r ≤ opcode ⌝ }
 {

@@ -17,7 +17,7 @@ use coding::display::write_r_type;
 use instruction::instruction::Instruction;
 use instruction::opcode::*;
 
-// How many bytes an instruction's text has: each case's by its form, with the mnemonic that the table has in its row.
+// How many bytes an instruction's text has. Each case is measured by its form, with the mnemonic that the table has in its row.
 pub fn instruction_length(instruction: Instruction, mnemonics: &[u64; 50]) -> usize
     requires { ⌜ now mnemonics ≡ mnemonicKeys ⌝ }
     ensures { λ r. ⌜ r ≡ length (instructionText (instructionMeant instruction)) ⌝ ∗ ⌜ r ≤ 39 ⌝ }
@@ -86,7 +86,7 @@ pub fn instruction_length(instruction: Instruction, mnemonics: &[u64; 50]) -> us
     }
 }
 
-// An instruction's text, in the same way; answered is the place after it. A store names rs2 before rs1.
+// Writes an instruction's text, each case by its form, and answers the place after it. A store names rs2 before rs1.
 pub fn write_instruction(
     out: &mut [u8],
     at: usize,
