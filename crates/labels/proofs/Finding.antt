@@ -27,7 +27,7 @@ use Rattle.labels.specs.Contracts.{InText, spelled, noLabel, anyNamed, i
 use Rattle.labels.specs.Tree.{plain, unlinked, held, link, raised, linked, hashOf, firstTurns, turned, wayOf, keyOf, entryFor, hits, slotOf, rootOf, plantedAt, planted, span, begunAt, begun, visited, gapOf, foundOf, Finds, here, there, Rootable, Tree, TreeBehind, Enterable, joined, addressed, Gaps, Finding, Visitable}
 use Rattle.labels.proofs.Hashing.{slot-inside, parity, held-odd, raised-odd, held-even, raised-even, link-low, linked-low, link-high, linked-high, visited-hit, visited-last, visited-on}
 use Rattle.labels.proofs.Roots.{planted-long, planted-new, planted-kept, planted-rooted}
-use Rattle.labels.proofs.Named.{spelled-long, index-at, index-none, any-index, enters-known, enters-new, enters-full}
+use Rattle.labels.proofs.Named.{spelled-long, index-at, index-none, index-names, any-index, enters-known, enters-new, enters-full}
 
 -- ---- entries
 
@@ -575,6 +575,13 @@ module _ (s : List ℕ) (t : List Label) (roots : List ℕ) (n start long : ℕ)
         index-is = sym (index-missing s t roots n (span start long) tree ok q k ended y);
         gap = λ g e a h. subst (λ (x : Gap). Gaps s t roots n (record { start = start; length = long; address = a }) (addressed x n a)) (gap-same e) (placed y a h);
       })
+
+-- What is found is one of the n, and no other has its spelling (`Tree.distinct`).
+pub found-there : {s : List ℕ} {t : List Label} {roots : List ℕ} {n start long i : ℕ} → Finding s t roots n start long (At i) → (i < n) × (spelled s (plain (getD t i noLabel)) ≡ spelled s (span start long))
+found-there {s} {t} {roots} {n} {start} {long} {i} x =
+    let h = index-names s (spelled s (span start long)) (take n (unlinked n t)) i (sym (x .index-is)) in
+    let less : i < n = omega (arith, length-take n (unlinked n t), h .0) in
+    (less, ap (spelled s) (sym (getD-take n (unlinked n t) i noLabel less ∙ unlinked-at n t i less)) ∙ h .1)
 
 -- ---- a label is entered
 

@@ -1,6 +1,6 @@
 -- Whether some labels have a spelling, and entering a label behind them.
 use Prim.Native.Nat.{ℕ, zero, suc, _+_, _-_, _<_}
-use mathlib.Core.Path.{_≡_, refl, ap, _∙_}
+use mathlib.Core.Path.{_≡_, refl, sym, ap, subst, _∙_}
 use mathlib.Core.Option.{Option, none, some}
 use native.Mathlib.Omega.{arith}
 use mathlib.Core.Bool.{Bool, true, false}
@@ -52,6 +52,26 @@ module _ (s u : List ℕ) where
   index-none [] f = refl
   index-none (l ∷ ls) f =
       by-test (same (spelled s l) u) (λ y. absurd (f 0 (omega arith) (same-eq _ _ y))) (λ n. rw (indexOf, n, index-none ls (λ i h e. f (suc i) (omega arith) e)))
+
+  -- The label at the index has it.
+  number : Option ℕ → ℕ
+  number none = 0
+  number (some i) = suc i
+
+  index-step : (x : Option ℕ) (i : ℕ) → _≡_ {A = Option ℕ} (elim x [ none ↦ none | some k ↦ some (suc k) ]) (some i) → (k : ℕ) × ((x ≡ some k) × (i ≡ suc k))
+  unfolding number
+  index-step none i e = let y : 0 ≡ suc i = ap number e in absurd (omega arith)
+  index-step (some k) i e = let y : suc (suc k) ≡ suc i = ap number e in (k, (refl, omega arith))
+
+  pub index-names : (ls : List Label) (i : ℕ) → indexOf s ls u ≡ some i → (i < length ls) × (spelled s (getD ls i noLabel) ≡ u)
+  unfolding indexOf number
+  index-names [] i e = let y : 0 ≡ suc i = ap number e in absurd (omega arith)
+  index-names (l ∷ ls) i e =
+      by-test (same (spelled s l) u)
+      (λ y. let z : 1 ≡ suc i = ap number (rw (indexOf, y) at e) in let w : 0 ≡ i = omega arith in
+      subst (λ (j : ℕ). (j < length (l ∷ ls)) × (spelled s (getD (l ∷ ls) j noLabel) ≡ u)) w (omega arith, same-eq _ _ y))
+      (λ n. let (k, (f, g)) = index-step (indexOf s ls u) i (rw (indexOf, n) at e) in let h = index-names ls k f in
+      subst (λ (j : ℕ). (j < length (l ∷ ls)) × (spelled s (getD (l ∷ ls) j noLabel) ≡ u)) (sym g) (omega (arith, h .0), h .1))
 
   -- Whether one of them does.
   some-later : (x : Option ℕ) → isSome x ≡ isSome {A = ℕ} (elim x [ none ↦ none | some i ↦ some (suc i) ])

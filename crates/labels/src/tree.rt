@@ -1,5 +1,5 @@
-// While labels are entered, their entries are the nodes of trees. A label's start, length and address are below 2^21. Above its start
-// and above its address an entry holds two numbers of 21 bits each, by which it leads to later entries in four ways, and above its
+// While labels are entered, their entries are the nodes of 4-way tries, one for each hash bucket. A label's start, length and address are
+// below 2^21. Above its start and above its address an entry holds two of its four children each, as numbers of 21 bits, and above its
 // length 43 bits of its spelling's hash.
 ghost use mathlib.Core.Path.{_≡_};
 ghost use Prim.Native.Nat.{_+_, _/_, _≤_, _<_};
@@ -16,15 +16,15 @@ pub(crate) struct Digest {
     pub(crate) second: u64,
 }
 
-// The turns that a spelling takes, two bits each: bits with a 1 behind the last, others behind these (none: 0), and how many of its
-// bytes have been used up.
+// The path bits of a spelling, two for each child that it takes: `bits`, with a 1 after the last, then `rest` (none: 0), then those of
+// its bytes, of which `used` have been used up.
 pub(crate) struct Turns {
     pub(crate) bits: u64,
     pub(crate) rest: u64,
     pub(crate) used: usize,
 }
 
-// A spelling that is looked for, from the root of a hash bucket on. `entry` is that of its label, behind `count` others; `parent` is the
+// A spelling that is looked for, from the root of a hash bucket on. `entry` is that of its label, after `count` others; `parent` is the
 // entry that is to lead to it, and stands at `last`: for a label that becomes a root, to which no entry leads, its own.
 pub(crate) struct Search {
     pub(crate) bucket: usize,
@@ -157,7 +157,7 @@ fn bits_of(byte: u8) -> u64
     256 + (byte as u64)
 }
 
-// The turns behind the next.
+// Advances to the next two path bits.
 fn turn(source: &[u8], label: Label, turns: Turns) -> Turns
     requires { ⌜ InText (now source) label ⌝ }
     ensures { λ r. ⌜ r ≡ turned (spelled (now (source .entry)) label) turns ⌝ }
@@ -281,7 +281,7 @@ pub(crate) fn begin(
     started(slot, true, root - 1, turns, count, entry)
 }
 
-// An empty bucket gets a root: the label that is entered behind `count` others.
+// An empty bucket gets a root: the label that is entered after `count` others.
 pub(crate) fn plant(roots: &mut [u32], bucket: usize, count: usize)
     requires { ⌜ bucket < length (now roots) ⌝ ∗ ⌜ count ≤ 1048576 ⌝ }
     ensures { λ r. ⌜ now (roots .exit) ≡ plantedAt (now (roots .entry)) count bucket ⌝ }
@@ -357,7 +357,7 @@ pub(crate) fn found(search: Search) -> Found
     })
 }
 
-// The gap of a label with an address, behind `count` others: a label that becomes a root is stored again as its own parent.
+// The gap of a label with an address, after `count` others: a label that becomes a root is stored again as its own parent.
 pub(crate) fn addressed(gap: Gap, count: usize, address: u64) -> Gap
     ensures { λ r. ⌜ r ≡ addressedAt gap count address ⌝ }
 {

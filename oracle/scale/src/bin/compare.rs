@@ -189,7 +189,7 @@ impl Run {
         }
         println!("\n{}", self.desk.tally);
         let calls = self.exported.tally.calls();
-        println!("the exported functions that assemble: {calls} calls");
+        println!("the exported function that assembles: {calls} calls");
         let mut missed = self.desk.tally.missed();
         missed.extend(self.exported.tally.missed_by(Call::Assembling));
         if !missed.is_empty() {
