@@ -1,5 +1,5 @@
--- `ask_export` and `ask_long_export` are safe: one walk of their MIR, which differs in the exported function that is called. The table is made by a call and lies in a local, of which the first entries are lent; the image and the answer's array are passed on for good.
---     function         their MIR: the generated MIR of either computes to it, at its callee.        Blank    the contract of what makes the table
+-- `ask_export` is safe: the walk of its MIR, over the exported function that is called. The table is made by a call and lies in a local, of which the first entries are lent; the image and the answer's array are passed on for good.
+--     function         its MIR: the generated MIR computes to it, at its callee.        Blank    the contract of what makes the table
 --     starts           from the first statement on.        walk-export      the function meets its contract
 use Prim.Native.Nat.{ℕ, _≤_, _<_, _^_}
 use native.Mathlib.Omega.{arith}
@@ -48,7 +48,7 @@ use Rattle.labels.proofs.Locals.{Locals, frees-all}
 use Rattle.labels.proofs.Owned.{Table, row-of, tval, table-tells, table-stored, TableIs, Front, lends-front, front-back}
 use Rattle.assembling.proofs.Shared.{Numbers, cells}
 use Rattle.capi.specs.Contracts.{AssembleCall}
-use Rattle.capi.proofs.zkasm_assemble_long as export
+use Rattle.capi.proofs.zkasm_assemble as export
 use Rattle.vectors.proofs.calls.Returned as T
 use Rattle.vectors.proofs.calls.Returned.Laws as T′
 use Rattle.vectors.proofs.table.blank_table as blank
