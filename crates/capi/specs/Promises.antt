@@ -14,7 +14,7 @@ use Rattle.labels.specs.declared.label.Label.{Label}
 use Rattle.guarantees.specs.Calls.{assemblingNumbers, openingNumbers, listingNumbers, OneOf}
 use Rattle.capi.specs.Contracts.{AssembleCall, OpenCall, ListCall}
 
--- After a call of `zkasm_assemble` or `zkasm_assemble_long`:
+-- After a call of `zkasm_assemble`:
 pub record AssemblePromise (source : List ℕ) (table : List Label) (image : List ℕ) (table′ : List Label) (image′ answer′ : List ℕ) (r : ℕ) : Type 0 where
   -- 0 is returned exactly where nothing is refused,
   pub zero : (r ≡ 0) ↔ Accepted present source (length table) (length image)
