@@ -20,7 +20,7 @@ const KEPT: usize = 9;
 /// The bytes that the ends of a line lose, 10 aside.
 const MARGINS: [u8; 5] = *b" \t\x0b\x0c\r";
 
-/// The text of `crates/tokens/stdin`.
+/// The text of `crates/test_tokens/stdin`.
 pub fn token_list() -> String {
     let mut out = format!(
         "# Lines and the tokens that the Rust reference's lexer reads of them, for the program\n\

@@ -8,7 +8,7 @@ use crate::sources::{self, write_sources};
 /// Sources with answers that the reference cannot give.
 const BY_HAND: &str = include_str!("../lists/by_hand.txt");
 
-/// The text of `crates/vectors/stdin`.
+/// The text of `crates/test_vectors/stdin`.
 pub fn vector_list() -> String {
     let mut out = format!(
         "# Sources and images with their answers, for the program vectors. The format is described in\n\

@@ -33,12 +33,12 @@ const PROGRAM: [&str; 4] = [
     "ecall",
 ];
 
-/// The text of `crates/words/stdin`.
+/// The text of `crates/test_words/stdin`.
 pub fn word_list() -> String {
     let mut out = format!(
         "# Lines of one instruction, what the Rust reference answers, and words and the texts that\n\
          # `model` reads of them, for the program words. The format is described in\n\
-         # oracle/README.md. Made by `make-list`: the sources of crates/vectors that are one line\n\
+         # oracle/README.md. Made by `make-list`: the sources of crates/test_vectors that are one line\n\
          # and read as an instruction, chosen lines, chosen words, {RANDOM_WORDS} words with seed {SEED};\n\
          # and falsified records.\n"
     );

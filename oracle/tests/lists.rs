@@ -8,9 +8,9 @@ use oracle::list::{answer_lines, image_lines, read, read_image, Record, USUAL_TA
 use oracle::{answer, answer_within, model, token_list, vector_list, word_list};
 
 const BY_HAND: &str = include_str!("../lists/by_hand.txt");
-const VECTORS: &str = include_str!("../../crates/vectors/stdin");
-const TOKENS: &str = include_str!("../../crates/tokens/stdin");
-const WORDS: &str = include_str!("../../crates/words/stdin");
+const VECTORS: &str = include_str!("../../crates/test_vectors/stdin");
+const TOKENS: &str = include_str!("../../crates/test_tokens/stdin");
+const WORDS: &str = include_str!("../../crates/test_words/stdin");
 
 /// The lists without their falsified records.
 fn true_vectors() -> &'static str {
@@ -26,15 +26,15 @@ fn the_made_lists_are_made_again() {
     // Not `assert_eq`, which would print both files.
     assert!(
         vector_list() == VECTORS,
-        "crates/vectors/stdin is not what make-list writes"
+        "crates/test_vectors/stdin is not what make-list writes"
     );
     assert!(
         token_list() == TOKENS,
-        "crates/tokens/stdin is not what make-list writes"
+        "crates/test_tokens/stdin is not what make-list writes"
     );
     assert!(
         word_list() == WORDS,
-        "crates/words/stdin is not what make-list writes"
+        "crates/test_words/stdin is not what make-list writes"
     );
 }
 
@@ -61,17 +61,17 @@ fn the_programs_notice_the_falsified_records_and_no_others() {
     notices(
         VECTORS,
         &falsified::VECTORS,
-        include_str!("../../crates/vectors/stdout"),
+        include_str!("../../crates/test_vectors/stdout"),
     );
     notices(
         TOKENS,
         &falsified::TOKENS,
-        include_str!("../../crates/tokens/stdout"),
+        include_str!("../../crates/test_tokens/stdout"),
     );
     notices(
         WORDS,
         &falsified::WORDS,
-        include_str!("../../crates/words/stdout"),
+        include_str!("../../crates/test_words/stdout"),
     );
 }
 

@@ -7,7 +7,7 @@ use oracle::isa::{Form, Place, ROWS};
 use oracle::list::{read, Record};
 use oracle::{answer, falsified, Answer};
 
-const WORDS: &str = include_str!("../../crates/words/stdin");
+const WORDS: &str = include_str!("../../crates/test_words/stdin");
 
 /// The records but the falsified ones.
 fn records() -> Vec<Record> {

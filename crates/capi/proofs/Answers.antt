@@ -5,12 +5,12 @@ use mathlib.Core.List.{List}
 use Rattle.image.specs.Opening.{opening}
 use Rattle.image.specs.Contracts.{openedMeant}
 use Rattle.image.specs.declared.program.Opened.{Opened}
-use Rattle.labels.specs.declared.label.Label.{Label}
-use Rattle.passes.specs.Contracts.{answerMeant}
-use Rattle.passes.specs.declared.second_pass.Assembled.{Assembled}
-use Rattle.assembling.specs.Contracts.{Assembles}
-use Rattle.listing.specs.Contracts.{listingMeant, Lists}
-use Rattle.listing.specs.declared.disassembler.Listing.{Listing}
+use Rattle.image_labels.specs.declared.label.Label.{Label}
+use Rattle.image_passes.specs.Contracts.{answerMeant}
+use Rattle.image_passes.specs.declared.second_pass.Assembled.{Assembled}
+use Rattle.image_assembler.specs.Contracts.{Assembles}
+use Rattle.image_listing.specs.Contracts.{listingMeant, Lists}
+use Rattle.image_listing.specs.declared.disassembler.Listing.{Listing}
 use Rattle.capi.specs.Contracts.{assembleNumber, assembleValues, Handed, AssembleCall, openNumber, openValues, OpenCall, listNumber, listValues, ListCall}
 
 pub handed-as : {a b : Assembled} → a ≡ b → Handed (answerMeant a) (assembleValues (answerMeant b)) (assembleNumber (answerMeant b))

@@ -9,8 +9,8 @@ use native.Mathlib.Omega.{arith}
 use lib.ListN.{length, getD}
 use lib.Dec.{leb, eqb}
 use borrow.Author.Tests.{le-leb}
-use Rattle.spelling.specs.Bytes.{value, refused}
-use Rattle.spelling.specs.Names.{present}
+use Rattle.text_lexical.specs.Bytes.{value, refused}
+use Rattle.text_lexical.specs.Names.{present}
 use Rattle.image.specs.Program.{header-size, imageLength}
 use Rattle.image.specs.Opening.{Opened as Parts, openingFault, opening}
 use Rattle.image.specs.Assembling.{Assembled as Reading, accepted, rejected, reading, fitted, assembling}

@@ -5,14 +5,14 @@ use mathlib.Core.Path.{_≡_}
 use mathlib.Core.Option.{Option, none, some}
 use mathlib.Core.List.{List, [], _∷_, map}
 use lib.ListN.{length}
-use Rattle.spelling.specs.Bytes.{Result, value, refused}
-use Rattle.spelling.specs.Names.{present}
+use Rattle.text_lexical.specs.Bytes.{Result, value, refused}
+use Rattle.text_lexical.specs.Names.{present}
 use Rattle.image.specs.Opening.{Opened, opening}
 use Rattle.image.specs.Assembling.{assembling}
 use Rattle.image.specs.Listing.{listing}
 use Rattle.image.specs.Lent.{over, Answer, assembled, refusal, answerOf, entered, imageAfter, ListAnswer, listed, unlisted, listAnswerOf, textAfter}
-use Rattle.labels.specs.Contracts.{entryOf}
-use Rattle.labels.specs.declared.label.Label.{Label}
+use Rattle.image_labels.specs.Contracts.{entryOf}
+use Rattle.image_labels.specs.declared.label.Label.{Label}
 
 abbrev pub orZero : Option ℕ → ℕ
 orZero none = 0

@@ -7,10 +7,10 @@ use mathlib.Core.Logic.{_↔_}
 use mathlib.Core.Option.{none}
 use mathlib.Core.List.{List, _∷_}
 use lib.ListN.{length, getD}
-use Rattle.spelling.specs.Names.{present}
+use Rattle.text_lexical.specs.Names.{present}
 use Rattle.image.specs.Opening.{openingFault}
 use Rattle.image.specs.Meaning.{Accepted, Listed}
-use Rattle.labels.specs.declared.label.Label.{Label}
+use Rattle.image_labels.specs.declared.label.Label.{Label}
 use Rattle.guarantees.specs.Calls.{assemblingNumbers, openingNumbers, listingNumbers, OneOf}
 use Rattle.capi.specs.Contracts.{AssembleCall, OpenCall, ListCall}
 

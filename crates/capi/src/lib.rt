@@ -1,11 +1,11 @@
 // The three operations for programs in C or Rust, which link this crate as a static library. Each returns the number of its refusal,
 // 0 where there is none, and writes the other values of its answer over a lent array.
-ghost use Rattle.passes.specs.Contracts.{answerMeant};
+ghost use Rattle.image_passes.specs.Contracts.{answerMeant};
 ghost use Rattle.capi.specs.Contracts.{Handed, AssembleCall, OpenCall, ListCall};
 use image::program::Opened;
-use labels::label::Label;
-use listing::disassembler::Listing;
-use passes::second_pass::Assembled;
+use image_labels::label::Label;
+use image_listing::disassembler::Listing;
+use image_passes::second_pass::Assembled;
 
 // An answer of assembling, handed on.
 fn write_assembled(assembled: Assembled, answer: &mut [u64; 8]) -> u32
@@ -55,7 +55,7 @@ pub extern "C" fn zkasm_assemble(
 ) -> u32
     ensures { λ r. ⌜ AssembleCall (now (source .entry)) (now (table .entry)) (now (image .entry)) (now (table .exit)) (now (image .exit)) (now (answer .exit)) r ⌝ }
 {
-    let assembled = assembling::assembler::assemble(source, table, image);
+    let assembled = image_assembler::assembler::assemble(source, table, image);
     write_assembled(assembled, answer)
 }
 
@@ -95,7 +95,7 @@ pub extern "C" fn zkasm_open(image: &[u8], answer: &mut [u64; 12]) -> u32
 pub extern "C" fn zkasm_list(image: &[u8], text: &mut [u8], answer: &mut [u64; 3]) -> u32
     ensures { λ r. ⌜ ListCall (now (image .entry)) (now (text .entry)) (now (text .exit)) (now (answer .exit)) r ⌝ }
 {
-    match listing::disassembler::list(image, text) {
+    match image_listing::disassembler::list(image, text) {
         Listing::Is(length) => {
             *answer = [length as u64, 0, 0];
             0

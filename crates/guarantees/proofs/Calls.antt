@@ -6,7 +6,7 @@ use mathlib.Core.Bool.{true, true≢false}
 use mathlib.Core.List.{List, [], map}
 use native.Mathlib.Omega.{arith}
 use lib.ListN.{length, take, length-map}
-use Rattle.spelling.specs.Names.{present}
+use Rattle.text_lexical.specs.Names.{present}
 use Rattle.instruction.specs.Words.{wordOf}
 use Rattle.image.specs.Settings.{Settings, settings}
 use Rattle.image.specs.Program.{header-size, imageLength}
@@ -15,14 +15,14 @@ use Rattle.image.specs.Listing.{textOf, Listing as Written, written, rejected a
 use Rattle.image.specs.Meaning.{instructionsOf, settingsOf, imageOf, isAccepted, Accepted, isWritten, Listed}
 use Rattle.image.specs.Lent.{over, Answer, assembled, answerOf, entered, imageAfter, ListAnswer, listed, listAnswerOf, textAfter}
 use Rattle.image.specs.declared.config.Config.{Config}
-use Rattle.labels.specs.Contracts.{entryOf}
-use Rattle.labels.specs.declared.label.Label.{Label as Entry}
-use Rattle.passes.specs.Contracts.{answerMeant}
-use Rattle.passes.specs.declared.second_pass.Assembled.{Assembled}
-use Rattle.passes.specs.declared.second_pass.Assembled.the-variants.{Is as IsAssembled}
-use Rattle.assembling.specs.Contracts.{Assembles}
-use Rattle.listing.specs.Contracts.{listingMeant, Lists}
-use Rattle.listing.specs.declared.disassembler.Listing.{Listing}
+use Rattle.image_labels.specs.Contracts.{entryOf}
+use Rattle.image_labels.specs.declared.label.Label.{Label as Entry}
+use Rattle.image_passes.specs.Contracts.{answerMeant}
+use Rattle.image_passes.specs.declared.second_pass.Assembled.{Assembled}
+use Rattle.image_passes.specs.declared.second_pass.Assembled.the-variants.{Is as IsAssembled}
+use Rattle.image_assembler.specs.Contracts.{Assembles}
+use Rattle.image_listing.specs.Contracts.{listingMeant, Lists}
+use Rattle.image_listing.specs.declared.disassembler.Listing.{Listing}
 use Rattle.image.proofs.Images.{image-length}
 use Rattle.image.proofs.Over.{take-over}
 use Rattle.image.proofs.Walking.{accepted-assembles}

@@ -1,9 +1,9 @@
 -- One name that opens every definition of the three layers: a theorem by computation says `unfolding computing`.
 use mathlib.Core.List.{flatMap}
-use Rattle.spelling.specs.Bytes.{bytes, between, letter, digit, hexDigit, binaryDigit, blank, edge, mark, nameStart, namePart, ascii, lower, every, oneOrMore, same, before, run, after, find, isSome, each, inside, margin}
-use Rattle.spelling.specs.Numbers.{digitValue, valueFrom, valueOf, minus, residue, meantBy, decimalIn, decimal, signedDecimal, little, unlittle}
-use Rattle.spelling.specs.Names.{name, named, numbered, conventional, present}
-use Rattle.spelling.specs.Contracts.{packed, keyOf}
+use Rattle.text_lexical.specs.Bytes.{bytes, between, letter, digit, hexDigit, binaryDigit, blank, edge, mark, nameStart, namePart, ascii, lower, every, oneOrMore, same, before, run, after, find, isSome, each, inside, margin}
+use Rattle.text_lexical.specs.Numbers.{digitValue, valueFrom, valueOf, minus, residue, meantBy, decimalIn, decimal, signedDecimal, little, unlittle}
+use Rattle.text_lexical.specs.Names.{name, named, numbered, conventional, present}
+use Rattle.text_lexical.specs.Contracts.{packed, keyOf}
 use Rattle.text.specs.Tokens.{isIdentifier, isRegister, isNumber, isPrefixed, isDirective, isMark, isIn, classes, classOf, longest, within, numberToken, patternToken, registerToken, markToken, tokenOf, sized, matched, front, infront, tokensPast, tokens}
 use Rattle.text.specs.Lines.{extended, lines, keptByte, trimEnd, trim, cut, content, indent, kept, lineOf, recordOf, readLine}
 use Rattle.text.specs.NameSets.{isNumbered}

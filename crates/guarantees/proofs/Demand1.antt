@@ -4,16 +4,16 @@ use mathlib.Core.Option.{Option, none, some}
 use mathlib.Core.Path.{_≡_, sym, ap, subst}
 use mathlib.Core.List.{List}
 use lib.ListN.{length}
-use Rattle.spelling.specs.Bytes.{Result, value, refused}
-use Rattle.spelling.specs.Names.{present}
+use Rattle.text_lexical.specs.Bytes.{Result, value, refused}
+use Rattle.text_lexical.specs.Names.{present}
 use Rattle.image.specs.Program.{header-size, headerOf, codeOf, dataOf}
 use Rattle.image.specs.Opening.{Opened, openingFault, opening}
 use Rattle.image.specs.Assembling.{Assembled as Reading, accepted, rejected, assembling}
 use Rattle.image.specs.Listing.{Listing as Written, written, rejected as unwritten, listing}
 use Rattle.image.specs.Lent.{Answer, answerOf, entered, imageAfter, ListAnswer, listAnswerOf, textAfter}
 use Rattle.image.specs.Contracts.{openedMeant}
-use Rattle.passes.specs.Contracts.{answerMeant}
-use Rattle.listing.specs.Contracts.{listingMeant}
+use Rattle.image_passes.specs.Contracts.{answerMeant}
+use Rattle.image_listing.specs.Contracts.{listingMeant}
 use Rattle.guarantees.specs.Calls.{assemblingNumbers, openingNumbers, OneOf, IsNumbered, IsOpening, IsListing, IsRefusal, IsUnlisted, labelCount, Demand1}
 use Rattle.guarantees.proofs.Numbered.{OfFault, OfAnswer, OfListing, assembling-numbered, opening-numbered, listing-numbered}
 

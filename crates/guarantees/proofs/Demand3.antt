@@ -9,9 +9,9 @@ use lib.ListN.{length, length-map}
 use lib.Dec.{leb, eqb}
 use lib.IntN.{ℤ}
 use borrow.Author.Tests.{leb-true, le-leb, eqb-true, not-true}
-use Rattle.spelling.specs.Bytes.{bytes, letter, digit, between, nameStart, namePart, every, same, isSome, each}
-use Rattle.spelling.specs.Names.{Name}
-use Rattle.spelling.proofs.Tests.{both, or-elim, no-both}
+use Rattle.text_lexical.specs.Bytes.{bytes, letter, digit, between, nameStart, namePart, every, same, isSome, each}
+use Rattle.text_lexical.specs.Names.{Name}
+use Rattle.text_lexical.proofs.Tests.{both, or-elim, no-both}
 use Rattle.text.specs.Tokens.{isIdentifier, isRegister}
 use Rattle.text.proofs.Lines.{visible}
 use Rattle.instruction.specs.Operands.{Instruction}

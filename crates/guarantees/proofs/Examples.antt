@@ -1,7 +1,7 @@
 -- The starred examples hold, by computation over the definitions.
 use mathlib.Core.Path.{_≡_, refl}
 use mathlib.Core.Bool.{true}
-use Rattle.spelling.specs.Bytes.{bytes, each}
+use Rattle.text_lexical.specs.Bytes.{bytes, each}
 use Rattle.image.specs.Zkasm.{programOutput}
 use Rattle.guarantees.specs.Examples.{settingsList, refusalList, meets, holds, gives, program, starred, unstarred, printed}
 use Rattle.guarantees.proofs.Computing.{computing}

@@ -7,7 +7,7 @@ use mathlib.Core.Option.{none}
 use mathlib.Core.List.{List, [], flatMap}
 use native.Mathlib.Omega.{arith}
 use lib.ListN.{length, length-append, replicate, length-replicate}
-use Rattle.spelling.specs.Bytes.{Result, value, refused}
+use Rattle.text_lexical.specs.Bytes.{Result, value, refused}
 use Rattle.instruction.specs.Operands.{Instruction}
 use Rattle.instruction.specs.Words.{instructionOf}
 use Rattle.image.specs.Settings.{Settings, begin}

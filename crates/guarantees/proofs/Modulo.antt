@@ -6,8 +6,8 @@ use mathlib.Core.Logic.{_↔_}
 use mathlib.Core.Option.{some}
 use mathlib.Core.List.{List}
 use lib.IntN.{ℤ, pos, _-ℤ_, _*ℤ_}
-use Rattle.spelling.specs.Numbers.{residue}
-use Rattle.spelling.proofs.Numbers.{residue-iff}
+use Rattle.text_lexical.specs.Numbers.{residue}
+use Rattle.text_lexical.proofs.Numbers.{residue-iff}
 use Rattle.instruction.specs.Words.{modulo}
 use Rattle.guarantees.specs.Promises.{bitsFor}
 

@@ -8,9 +8,9 @@ use mathlib.Core.List.{List, [], _∷_, _++_, map}
 use lib.ListN.{length, drop}
 use lib.Dec.{leb, ltb, eqb}
 use lib.IntN.{ℤ}
-use Rattle.spelling.specs.Bytes.{Result, value, refused, ascii, every, before, same, between, lower}
-use Rattle.spelling.specs.Numbers.{residue}
-use Rattle.spelling.specs.Names.{Name}
+use Rattle.text_lexical.specs.Bytes.{Result, value, refused, ascii, every, before, same, between, lower}
+use Rattle.text_lexical.specs.Numbers.{residue}
+use Rattle.text_lexical.specs.Names.{Name}
 use Rattle.text.specs.Tokens.{Token, identifier, register, number, hex, binary, directive, comma, colon, opening, closing}
 use Rattle.text.specs.Lines.{Line, lines, indent, readLine}
 use Rattle.instruction.specs.Table.{Place, reg, num, comma-place, opening-place, closing-place, Row, places, rowNamed, rowCoded}

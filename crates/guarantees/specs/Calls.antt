@@ -8,22 +8,22 @@ use mathlib.Core.Bool.{Bool, true, false}
 use mathlib.Core.List.{List, [], _∷_, _++_, map}
 use lib.ListN.{length, take}
 use lib.Dec.{eqb}
-use Rattle.spelling.specs.Bytes.{Result, value, refused}
-use Rattle.spelling.specs.Names.{present}
+use Rattle.text_lexical.specs.Bytes.{Result, value, refused}
+use Rattle.text_lexical.specs.Names.{present}
 use Rattle.image.specs.Assembling.{Label, assembling}
 use Rattle.image.specs.Opening.{opening, Opened as Parts}
 use Rattle.image.specs.Listing.{textOf}
 use Rattle.image.specs.Meaning.{instructionsOf, settingsOf, imageOf, Accepted, Listed}
 use Rattle.image.specs.Lent.{over, Answer, assembled, refusal, entered, ListAnswer, listed, unlisted}
 use Rattle.image.specs.Contracts.{openedMeant}
-use Rattle.labels.specs.Contracts.{entryOf}
-use Rattle.passes.specs.Contracts.{answerMeant}
-use Rattle.assembling.specs.Contracts.{Assembles}
-use Rattle.listing.specs.Contracts.{listingMeant, Lists}
-use Rattle.labels.specs.declared.label.Label.{Label as Entry}
-use Rattle.passes.specs.declared.second_pass.Assembled.{Assembled}
+use Rattle.image_labels.specs.Contracts.{entryOf}
+use Rattle.image_passes.specs.Contracts.{answerMeant}
+use Rattle.image_assembler.specs.Contracts.{Assembles}
+use Rattle.image_listing.specs.Contracts.{listingMeant, Lists}
+use Rattle.image_labels.specs.declared.label.Label.{Label as Entry}
+use Rattle.image_passes.specs.declared.second_pass.Assembled.{Assembled}
 use Rattle.image.specs.declared.program.Opened.{Opened}
-use Rattle.listing.specs.declared.disassembler.Listing.{Listing}
+use Rattle.image_listing.specs.declared.disassembler.Listing.{Listing}
 use Rattle.guarantees.specs.NameSets.{NameSet}
 use Rattle.guarantees.specs.Promises.{Agree, AreBytes}
 

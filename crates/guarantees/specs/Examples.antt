@@ -4,8 +4,8 @@ use Prim.Native.String.{String}
 use mathlib.Core.Bool.{Bool, false}
 use mathlib.Core.List.{List, [], _∷_, map}
 use lib.ListN.{length}
-use Rattle.spelling.specs.Bytes.{bytes, same}
-use Rattle.spelling.specs.Names.{present}
+use Rattle.text_lexical.specs.Bytes.{bytes, same}
+use Rattle.text_lexical.specs.Names.{present}
 use Rattle.instruction.specs.Words.{wordOf}
 use Rattle.image.specs.Settings.{Settings}
 use Rattle.image.specs.Assembling.{Refusal, Assembled, accepted, rejected, assembling}

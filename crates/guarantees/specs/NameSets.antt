@@ -3,8 +3,8 @@ use mathlib.Core.Path.{_≡_}
 use mathlib.Core.Bool.{true, not}
 use mathlib.Core.List.{List, [], _∷_}
 use Prim.Native.Nat.{ℕ}
-use Rattle.spelling.specs.Bytes.{each}
-use Rattle.spelling.specs.Names.{Name}
+use Rattle.text_lexical.specs.Bytes.{each}
+use Rattle.text_lexical.specs.Names.{Name}
 use Rattle.text.specs.Tokens.{isRegister}
 use Rattle.text.specs.NameSets.{Naming}
 use Rattle.instruction.specs.Table.{table}

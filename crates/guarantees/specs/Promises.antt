@@ -7,8 +7,8 @@ use mathlib.Core.Bool.{true, false, _||_}
 use mathlib.Core.List.{List, [], _∷_}
 use lib.ListN.{length}
 use lib.Dec.{ltb}
-use Rattle.spelling.specs.Bytes.{bytes, same, every}
-use Rattle.spelling.specs.Names.{Name}
+use Rattle.text_lexical.specs.Bytes.{bytes, same, every}
+use Rattle.text_lexical.specs.Names.{Name}
 use Rattle.instruction.specs.Operands.{Instruction}
 use Rattle.instruction.specs.Words.{modulo}
 use Rattle.image.specs.Listing.{written, listing, textOf}

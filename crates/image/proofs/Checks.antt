@@ -10,8 +10,8 @@ use lib.IntN.{ℤ}
 use denote.Enum.Declared.{tagOf}
 use types.Run.{OneOf, miss}
 use borrow.Author.Tests.{eq-eqb, ne-eqb}
-use Rattle.spelling.specs.Bytes.{value, refused, between, same}
-use Rattle.spelling.specs.Numbers.{residue}
+use Rattle.text_lexical.specs.Bytes.{value, refused, between, same}
+use Rattle.text_lexical.specs.Numbers.{residue}
 use Rattle.text.specs.Lines.{Line as Record}
 use Rattle.text.specs.Contracts.{kindMeant, numberOf, spelling, meant}
 use Rattle.text.specs.declared.lexer.Kind.{Kind}
@@ -20,7 +20,7 @@ use Rattle.text.specs.declared.lexer.Token.{Token}
 use Rattle.text.specs.declared.parser.Line.{Line}
 use Rattle.text.proofs.lexer.Kind as kind
 use Rattle.instruction.specs.Operands.{readIdentifier}
-use Rattle.reading.proofs.Parsing.{number-kind}
+use Rattle.instruction_operands.proofs.Parsing.{number-kind}
 use Rattle.image.specs.Settings.{Settings, settings, settingsFault, limb-bits-key, data-limbs-key, addr-limbs-key, setField, checked, configuredBy, configuredWith, configured}
 use Rattle.image.specs.Contracts.{recordMeant}
 

@@ -8,11 +8,11 @@ use mathlib.Core.List.{List, [], _∷_, _++_, append-nil}
 use lib.ListN.{drop}
 use lib.Dec.{eqb}
 use lib.IntN.{ℤ, pos}
-use Rattle.spelling.specs.Bytes.{Result, value, refused, bytes, between, letter, digit, nameStart, namePart, every, same, each}
-use Rattle.spelling.specs.Numbers.{residue, decimal, signedDecimal}
-use Rattle.spelling.specs.Names.{Name}
-use Rattle.spelling.proofs.Strings.{every-append, ends}
-use Rattle.spelling.proofs.Numbers.{residue-small}
+use Rattle.text_lexical.specs.Bytes.{Result, value, refused, bytes, between, letter, digit, nameStart, namePart, every, same, each}
+use Rattle.text_lexical.specs.Numbers.{residue, decimal, signedDecimal}
+use Rattle.text_lexical.specs.Names.{Name}
+use Rattle.text_lexical.proofs.Strings.{every-append, ends}
+use Rattle.text_lexical.proofs.Numbers.{residue-small}
 use Rattle.text.specs.Tokens.{Token, identifier, number, directive, isIdentifier, isRegister, infront, tokens}
 use Rattle.text.specs.Lines.{Line, lines, kept, lineOf, readLine}
 use Rattle.text.proofs.Tokens.{tokens-nil, Within64, reads-directive, reads-space, reads-identifier, reads-decimal}

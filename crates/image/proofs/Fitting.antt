@@ -7,9 +7,9 @@ use mathlib.Core.Option.{Option, none, some}
 use mathlib.Core.List.{List, [], _∷_, _++_, map, flatMap}
 use lib.Dec.{eqb}
 use borrow.Author.Tests.{not-true}
-use Rattle.spelling.specs.Bytes.{Result, value, refused, each}
-use Rattle.spelling.specs.Names.{Name}
-use Rattle.spelling.proofs.Tests.{both}
+use Rattle.text_lexical.specs.Bytes.{Result, value, refused, each}
+use Rattle.text_lexical.specs.Names.{Name}
+use Rattle.text_lexical.proofs.Tests.{both}
 use Rattle.text.specs.Tokens.{Token, identifier, isRegister}
 use Rattle.text.specs.Lines.{Line, lines, lineOf, readLine}
 use Rattle.text.specs.NameSets.{Naming}

@@ -9,10 +9,10 @@ use mathlib.Core.List.{List, [], _∷_, _++_}
 use lib.ListN.{length, take, drop, set, getD, length-set, length-drop}
 use lib.Seq.{take-suc, take-all, getD-drop}
 use borrow.Author.Tests.{eq-eqb, ne-eqb, lt-ltb, le-ltb}
-use Rattle.spelling.specs.Bytes.{value, refused}
-use Rattle.spelling.specs.Numbers.{little, unlittle}
-use Rattle.coding.specs.Contracts.{put, Written}
-use Rattle.coding.proofs.Writing.{put-none, written-byte, written-append}
+use Rattle.text_lexical.specs.Bytes.{value, refused}
+use Rattle.text_lexical.specs.Numbers.{little, unlittle}
+use Rattle.instruction_codec.specs.Contracts.{put, Written}
+use Rattle.instruction_codec.proofs.Writing.{put-none, written-byte, written-append}
 use Rattle.image.specs.Settings.{settingsFault}
 use Rattle.image.specs.Program.{Header, magic, version, header-size, numberAt, headerOf, codeOf, dataOf}
 use Rattle.image.specs.Opening.{headerFault, openingFault, opening}

@@ -8,9 +8,9 @@ use lib.ListN.{length, take, drop, length-append, length-drop, take-append-drop}
 use lib.Seq.{take-all, length-take-le, drop-drop}
 use lib.Dec.{ltb}
 use borrow.Author.Tests.{ltb-true}
-use Rattle.spelling.specs.Bytes.{every}
-use Rattle.spelling.specs.Numbers.{little, unlittle}
-use Rattle.spelling.proofs.Strings.{every-head, every-tail, every-split, every-take, every-drop}
+use Rattle.text_lexical.specs.Bytes.{every}
+use Rattle.text_lexical.specs.Numbers.{little, unlittle}
+use Rattle.text_lexical.proofs.Strings.{every-head, every-tail, every-split, every-take, every-drop}
 use Rattle.image.specs.Settings.{Settings, settings}
 use Rattle.image.specs.Program.{Header, headerBytes, header-size, headerFor, image, imageLength, numberAt, headerOf, codeOf, magic, version, entry, stack-size}
 use Rattle.image.specs.Listing.{wordsOf}

@@ -5,10 +5,10 @@ use native.Mathlib.Omega.{arith}
 use mathlib.Core.Option.{none}
 use mathlib.Core.List.{List, [], _∷_, _++_, flatMap}
 use lib.ListN.{length, length-append}
-use Rattle.spelling.specs.Bytes.{value, bytes}
-use Rattle.spelling.specs.Numbers.{decimal}
-use Rattle.spelling.proofs.Tests.{between-true}
-use Rattle.spelling.proofs.Numbers.{decimal-length}
+use Rattle.text_lexical.specs.Bytes.{value, bytes}
+use Rattle.text_lexical.specs.Numbers.{decimal}
+use Rattle.text_lexical.proofs.Tests.{between-true}
+use Rattle.text_lexical.proofs.Numbers.{decimal-length}
 use Rattle.instruction.specs.Operands.{Instruction}
 use Rattle.instruction.specs.Words.{instructionOf}
 use Rattle.instruction.specs.Text.{instructionText}

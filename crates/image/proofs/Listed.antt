@@ -9,9 +9,9 @@ use lib.ListN.{length, drop, length-drop}
 use lib.Seq.{take-all}
 use lib.Dec.{ltb, eqb}
 use borrow.Author.Tests.{eqb-true, eq-eqb, leb-true, le-leb, ltb-false, le-ltb}
-use Rattle.spelling.specs.Bytes.{Result, value, refused, every}
-use Rattle.spelling.specs.Numbers.{little}
-use Rattle.spelling.proofs.Strings.{every-drop}
+use Rattle.text_lexical.specs.Bytes.{Result, value, refused, every}
+use Rattle.text_lexical.specs.Numbers.{little}
+use Rattle.text_lexical.proofs.Strings.{every-drop}
 use Rattle.instruction.specs.Operands.{Instruction}
 use Rattle.instruction.specs.Words.{instructionOf}
 use Rattle.image.specs.Settings.{Settings, settingsFault}

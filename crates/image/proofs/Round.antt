@@ -7,9 +7,9 @@ use mathlib.Core.Option.{none, some}
 use mathlib.Core.List.{List, [], _∷_, _++_, flatMap, append-nil, append-assoc}
 use lib.ListN.{length, length-append}
 use borrow.Author.Tests.{le-leb, lt-ltb}
-use Rattle.spelling.specs.Bytes.{value, bytes, ascii, between, every, same, before, after, each, inside}
-use Rattle.spelling.specs.Names.{Name}
-use Rattle.spelling.proofs.Strings.{every-append, every-mono}
+use Rattle.text_lexical.specs.Bytes.{value, bytes, ascii, between, every, same, before, after, each, inside}
+use Rattle.text_lexical.specs.Names.{Name}
+use Rattle.text_lexical.proofs.Strings.{every-append, every-mono}
 use Rattle.text.specs.Tokens.{isIdentifier, tokens, tokensPast}
 use Rattle.text.specs.Lines.{Line, lines, indent, content, trim, trimEnd, cut, kept, lineOf, recordOf, readLine}
 use Rattle.text.proofs.Lines.{lines-cons, visible, visible-inside, visible-ascii}

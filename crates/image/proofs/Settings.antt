@@ -5,8 +5,8 @@ use native.Mathlib.Omega.{arith}
 use mathlib.Core.Bool.{true}
 use mathlib.Core.Option.{none}
 use lib.Dec.{eqb}
-use Rattle.spelling.specs.Bytes.{between}
-use Rattle.spelling.proofs.Tests.{between-true}
+use Rattle.text_lexical.specs.Bytes.{between}
+use Rattle.text_lexical.proofs.Tests.{between-true}
 use Rattle.image.specs.Settings.{Settings, settings, begin, settingsFault}
 use Rattle.image.proofs.Faults.{passed}
 

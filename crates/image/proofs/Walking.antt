@@ -8,8 +8,8 @@ use mathlib.Core.List.{List, [], _∷_, _++_, flatMap, append-nil, append-assoc}
 use lib.ListN.{length, length-append}
 use lib.Dec.{leb, ltb}
 use borrow.Author.Tests.{ltb-true, leb-true}
-use Rattle.spelling.specs.Bytes.{ascii, every, before}
-use Rattle.spelling.specs.Names.{Name}
+use Rattle.text_lexical.specs.Bytes.{ascii, every, before}
+use Rattle.text_lexical.specs.Names.{Name}
 use Rattle.text.specs.Lines.{lines, indent, readLine}
 use Rattle.instruction.specs.Operands.{Instruction}
 use Rattle.image.specs.Settings.{Settings}

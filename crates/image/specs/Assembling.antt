@@ -5,8 +5,8 @@ use mathlib.Core.Option.{Option, none, some}
 use mathlib.Core.List.{List, [], _∷_, _++_}
 use lib.ListN.{length}
 use lib.Dec.{leb, ltb, eqb}
-use Rattle.spelling.specs.Bytes.{Result, value, refused, bytes, ascii, every, same, before, find, isSome}
-use Rattle.spelling.specs.Names.{Name}
+use Rattle.text_lexical.specs.Bytes.{Result, value, refused, bytes, ascii, every, same, before, find, isSome}
+use Rattle.text_lexical.specs.Names.{Name}
 use Rattle.text.specs.Tokens.{Token, identifier, register, number, hex, binary, directive, comma, colon, opening, closing}
 use Rattle.text.specs.Lines.{Line, lines, indent, readLine}
 use Rattle.instruction.specs.Operands.{Instruction, markByte, readInstruction, behind}

@@ -3,7 +3,7 @@ use Prim.Native.Nat.{ℕ, _-_}
 use mathlib.Core.Option.{Option, none, some}
 use mathlib.Core.List.{List, [], _∷_}
 use lib.ListN.{take, drop}
-use Rattle.spelling.specs.Bytes.{Result, value, refused}
+use Rattle.text_lexical.specs.Bytes.{Result, value, refused}
 use Rattle.text.specs.Lines.{Line as Record}
 use Rattle.text.specs.Contracts.{firsts}
 use Rattle.text.specs.declared.parser.Line.{Line}

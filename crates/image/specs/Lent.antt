@@ -3,7 +3,7 @@ use Prim.Native.Nat.{ℕ}
 use mathlib.Core.Option.{Option}
 use mathlib.Core.List.{List, _++_}
 use lib.ListN.{length, drop}
-use Rattle.spelling.specs.Names.{Name}
+use Rattle.text_lexical.specs.Names.{Name}
 use Rattle.image.specs.Settings.{Settings}
 use Rattle.image.specs.Assembling.{Label, Assembled, accepted, rejected}
 use Rattle.image.specs.Listing.{Listing, written, rejected as refusedText}

@@ -5,8 +5,8 @@ use mathlib.Core.Option.{Option, none, some}
 use mathlib.Core.List.{List, [], _∷_, _++_, flatMap}
 use lib.ListN.{length}
 use lib.Dec.{leb, eqb}
-use Rattle.spelling.specs.Bytes.{value, refused, bytes}
-use Rattle.spelling.specs.Numbers.{unlittle, decimal}
+use Rattle.text_lexical.specs.Bytes.{value, refused, bytes}
+use Rattle.text_lexical.specs.Numbers.{unlittle, decimal}
 use Rattle.instruction.specs.Words.{instructionOf}
 use Rattle.instruction.specs.Text.{instructionText}
 use Rattle.image.specs.Settings.{Settings, limb-bits-key, data-limbs-key, addr-limbs-key}

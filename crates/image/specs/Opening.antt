@@ -6,7 +6,7 @@ use mathlib.Core.Option.{Option, none, some}
 use mathlib.Core.List.{List}
 use lib.ListN.{length}
 use lib.Dec.{ltb, eqb}
-use Rattle.spelling.specs.Bytes.{Result, value, refused}
+use Rattle.text_lexical.specs.Bytes.{Result, value, refused}
 use Rattle.image.specs.Settings.{settingsFault}
 use Rattle.image.specs.Program.{Header, magic, version, header-size, headerOf, codeOf, dataOf}
 

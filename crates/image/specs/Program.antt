@@ -2,7 +2,7 @@
 use Prim.Native.Nat.{ℕ, _+_, _*_, _^_}
 use mathlib.Core.List.{List, _∷_, _++_, flatMap}
 use lib.ListN.{length, take, drop}
-use Rattle.spelling.specs.Numbers.{little, unlittle}
+use Rattle.text_lexical.specs.Numbers.{little, unlittle}
 use Rattle.image.specs.Settings.{Settings, settings}
 
 -- The fields of a header. (`ProgramHeader`)

@@ -5,8 +5,8 @@ use mathlib.Core.Option.{Option, none, some}
 use mathlib.Core.List.{List, [], _∷_}
 use lib.ListN.{drop}
 use lib.Dec.{eqb}
-use Rattle.spelling.specs.Bytes.{Result, value, refused, bytes, between, same}
-use Rattle.spelling.specs.Numbers.{residue}
+use Rattle.text_lexical.specs.Bytes.{Result, value, refused, bytes, between, same}
+use Rattle.text_lexical.specs.Numbers.{residue}
 use Rattle.text.specs.Tokens.{Token}
 use Rattle.text.specs.Lines.{Line}
 use Rattle.instruction.specs.Operands.{readNumber, readIdentifier}

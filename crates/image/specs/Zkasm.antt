@@ -5,9 +5,9 @@ use mathlib.Core.Bool.{true, false}
 use mathlib.Core.List.{List, [], _∷_, _++_}
 use lib.ListN.{length}
 use lib.Dec.{leb}
-use Rattle.spelling.specs.Bytes.{bytes}
-use Rattle.spelling.specs.Numbers.{decimal}
-use Rattle.spelling.specs.Names.{present}
+use Rattle.text_lexical.specs.Bytes.{bytes}
+use Rattle.text_lexical.specs.Numbers.{decimal}
+use Rattle.text_lexical.specs.Names.{present}
 use Rattle.image.specs.Assembling.{Assembled, accepted, rejected, reading}
 use Rattle.image.specs.Listing.{textOf}
 use Rattle.image.specs.Meaning.{imageOf}

@@ -1,9 +1,9 @@
 // The three settings: their checks, and the `.config` line.
 ghost use mathlib.Core.Path.{_≡_};
-ghost use Rattle.spelling.specs.Bytes.{value as good};
+ghost use Rattle.text_lexical.specs.Bytes.{value as good};
 ghost use Rattle.image.specs.Settings.{begin as initial, settingsFault, checked, setField, configured};
 ghost use Rattle.image.specs.Contracts.{settingsMeant, faultMeant, configuredMeant, recordMeant};
-ghost use Rattle.reading.specs.Contracts.{Kept};
+ghost use Rattle.instruction_operands.specs.Contracts.{Kept};
 use text::lexer::Kind;
 use text::parser::Extracted;
 use text::parser::Line;
@@ -44,16 +44,16 @@ impl Config {
         let limb_bits = self.limb_bits;
         let data_limbs = self.data_limbs;
         let addr_limbs = self.addr_limbs;
-        if !spelling::bytes::within(16, 30, limb_bits) {
+        if !text_lexical::bytes::within(16, 30, limb_bits) {
             return Checked::Refused(10);
         }
         if limb_bits % 2 != 0 {
             return Checked::Refused(11);
         }
-        if !spelling::bytes::within(1, 4, data_limbs) {
+        if !text_lexical::bytes::within(1, 4, data_limbs) {
             return Checked::Refused(12);
         }
-        if !spelling::bytes::within(1, 2, addr_limbs) {
+        if !text_lexical::bytes::within(1, 2, addr_limbs) {
             return Checked::Refused(13);
         }
         Checked::Good
@@ -77,21 +77,21 @@ fn set_field(config: Config, key: &[u8], value: u8) -> Configured
     let limb_bits = config.limb_bits;
     let data_limbs = config.data_limbs;
     let addr_limbs = config.addr_limbs;
-    if spelling::bytes::same(key, b"limb_bits") {
+    if text_lexical::bytes::same(key, b"limb_bits") {
         return validated(Config {
             limb_bits: value,
             data_limbs,
             addr_limbs,
         });
     }
-    if spelling::bytes::same(key, b"data_limbs") {
+    if text_lexical::bytes::same(key, b"data_limbs") {
         return validated(Config {
             limb_bits,
             data_limbs: value,
             addr_limbs,
         });
     }
-    if spelling::bytes::same(key, b"addr_limbs") {
+    if text_lexical::bytes::same(key, b"addr_limbs") {
         return validated(Config {
             limb_bits,
             data_limbs,

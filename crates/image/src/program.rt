@@ -2,8 +2,8 @@
 ghost use mathlib.Core.Path.{_≡_};
 ghost use Prim.Native.Nat.{_+_, _≤_};
 ghost use lib.ListN.{length};
-ghost use Rattle.spelling.specs.Numbers.{little};
-ghost use Rattle.coding.specs.Contracts.{Written};
+ghost use Rattle.text_lexical.specs.Numbers.{little};
+ghost use Rattle.instruction_codec.specs.Contracts.{Written};
 ghost use Rattle.image.specs.Program.{headerBytes, headerFor, numberAt, headerOf};
 ghost use Rattle.image.specs.Opening.{headerFault, opening};
 ghost use Rattle.image.specs.Contracts.{settingsMeant, faultMeant, settingBytes, headerMeant, openedMeant};

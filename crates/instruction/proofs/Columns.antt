@@ -7,11 +7,11 @@ use native.Mathlib.Omega.{arith}
 use lib.ListN.{length, List·getD-map, getD}
 use lib.Dec.{leb, ltb}
 use borrow.Author.Tests.{leb-true, ltb-true}
-use Rattle.spelling.specs.Bytes.{bytes, every, each}
-use Rattle.spelling.specs.Contracts.{packed, keyOf}
-use Rattle.spelling.proofs.Tests.{both}
-use Rattle.spelling.proofs.Strings.{every-head, every-tail}
-use Rattle.spelling.proofs.Keys.{isKeyed, key-short}
+use Rattle.text_lexical.specs.Bytes.{bytes, every, each}
+use Rattle.text_lexical.specs.Contracts.{packed, keyOf}
+use Rattle.text_lexical.proofs.Tests.{both}
+use Rattle.text_lexical.proofs.Strings.{every-head, every-tail}
+use Rattle.text_lexical.proofs.Keys.{isKeyed, key-short}
 use Rattle.instruction.specs.Table.{Form, R, I, Shift, Load, Store, Branch, Jump, System, row, table}
 use Rattle.instruction.specs.Contracts.{noRow, rowAt, formAt, formNumber, mnemonicKeys, formNumbers, opcodeNumbers}
 

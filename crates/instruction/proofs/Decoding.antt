@@ -10,8 +10,8 @@ use lib.Dec.{ltb}
 use lib.IntN.{ℤ}
 use lib.Pow.{pow-mono}
 use borrow.Author.Tests.{ltb-true, lt-ltb}
-use Rattle.spelling.specs.Bytes.{value, isSome}
-use Rattle.spelling.proofs.Numbers.{residue-lt, residue-meant}
+use Rattle.text_lexical.specs.Bytes.{value, isSome}
+use Rattle.text_lexical.proofs.Numbers.{residue-lt, residue-meant}
 use Rattle.instruction.specs.Table.{Row, rowCoded}
 use Rattle.instruction.specs.Operands.{Instruction}
 use Rattle.instruction.specs.Words.{modulo, reduced, wordOf, registersIn, unusedFrom, taken, instructionOf}

@@ -9,7 +9,7 @@ use lib.Dec.{leb}
 use lib.Pow.{pow-pos, pow-mono, pow-add, mod-pow-add, mod-mod-pow, shr-shr, field}
 use lib.Arith.{digits-div, digits-mod}
 use borrow.Author.Tests.{leb-true}
-use Rattle.spelling.proofs.Tests.{or-left, or-right, or-elim}
+use Rattle.text_lexical.proofs.Tests.{or-left, or-right, or-elim}
 use Rattle.instruction.specs.Words.{fieldAt}
 
 -- Two fields have no bit in common.

@@ -9,10 +9,10 @@ use mathlib.Core.List.{List, [], _∷_, map}
 use lib.ListN.{length, getD, length-map, List·getD-eq-default}
 use lib.Dec.{ltb, eqb}
 use borrow.Author.Tests.{ltb-true, eqb-true, eqb-false, eq-eqb, ne-eqb, not-true}
-use Rattle.spelling.specs.Bytes.{bytes, every, same, find, each}
-use Rattle.spelling.specs.Contracts.{packed, keyOf}
-use Rattle.spelling.proofs.Tests.{by-test, both}
-use Rattle.spelling.proofs.Keys.{Below, isKeyed, byKey, found-by-key}
+use Rattle.text_lexical.specs.Bytes.{bytes, every, same, find, each}
+use Rattle.text_lexical.specs.Contracts.{packed, keyOf}
+use Rattle.text_lexical.proofs.Tests.{by-test, both}
+use Rattle.text_lexical.proofs.Keys.{Below, isKeyed, byKey, found-by-key}
 use Rattle.instruction.specs.Table.{Row, row, table, rowNamed, rowCoded}
 use Rattle.instruction.specs.Contracts.{noRow, rowAt, mnemonicKeys, opcodeNumbers, slotRow, slotRowsFrom, slotRows, unusedBelow}
 use Rattle.instruction.specs.Fits.{InTable}

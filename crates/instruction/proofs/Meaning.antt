@@ -4,8 +4,8 @@ use mathlib.Core.Path.{_≡_, refl, sym, ap, _∙_}
 use Prim.Native.Nat.{ℕ, _<_}
 use mathlib.Core.List.{List, [], _∷_}
 use lib.IntN.{ℤ}
-use Rattle.spelling.specs.Bytes.{value, isSome}
-use Rattle.spelling.specs.Contracts.{wholeMeant}
+use Rattle.text_lexical.specs.Bytes.{value, isSome}
+use Rattle.text_lexical.specs.Contracts.{wholeMeant}
 use Rattle.instruction.specs.Table.{Place, reg, num, comma-place, opening-place, closing-place, Form, R, I, Shift, Load, Store, Branch, Jump, System, places, Row}
 use Rattle.instruction.specs.Operands.{Instruction as Meant}
 use Rattle.instruction.specs.Words.{wordOf, instructionOf}

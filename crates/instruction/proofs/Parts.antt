@@ -7,10 +7,10 @@ use mathlib.Core.Option.{Option, none, some}
 use mathlib.Core.List.{List}
 use lib.Dec.{ltb}
 use borrow.Author.Tests.{ltb-true}
-use Rattle.spelling.specs.Bytes.{bytes, same, find, isSome}
-use Rattle.spelling.specs.Contracts.{indexOf}
-use Rattle.spelling.specs.declared.register.Register.{Register}
-use Rattle.spelling.specs.declared.register.Register.the-variants.{R0, R1, R2, R3, R4, R5, R6, R7, R8, R9, R10, R11, R12, R13, R14, R15}
+use Rattle.text_lexical.specs.Bytes.{bytes, same, find, isSome}
+use Rattle.text_lexical.specs.Contracts.{indexOf}
+use Rattle.text_lexical.specs.declared.register.Register.{Register}
+use Rattle.text_lexical.specs.declared.register.Register.the-variants.{R0, R1, R2, R3, R4, R5, R6, R7, R8, R9, R10, R11, R12, R13, R14, R15}
 use Rattle.instruction.specs.Table.{Form, R, I, Shift, Load, Store, Branch, Jump, System, places, Row, row, table, rowNamed}
 use Rattle.instruction.specs.Contracts.{rowAt, rowFor, Named, keep, registersFor, numberFor, rowMeant, partsMeant, partsOf}
 use Rattle.instruction.specs.declared.instruction.Instruction.{Instruction}

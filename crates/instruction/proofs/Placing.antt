@@ -12,10 +12,10 @@ use lib.Dec.{leb, eqb}
 use lib.IntN.{ℤ}
 use lib.Pow.{pow-pos, pow-mono}
 use borrow.Author.Tests.{leb-true, eqb-true, eq-eqb, not-true}
-use Rattle.spelling.specs.Bytes.{between, isSome, each}
-use Rattle.spelling.specs.Numbers.{residue, meantBy}
-use Rattle.spelling.proofs.Tests.{by-test, both, and-both, between-true}
-use Rattle.spelling.proofs.Numbers.{residue-lt, residue-meant}
+use Rattle.text_lexical.specs.Bytes.{between, isSome, each}
+use Rattle.text_lexical.specs.Numbers.{residue, meantBy}
+use Rattle.text_lexical.proofs.Tests.{by-test, both, and-both, between-true}
+use Rattle.text_lexical.proofs.Numbers.{residue-lt, residue-meant}
 use Rattle.instruction.specs.Table.{Place, reg, num, comma-place, opening-place, closing-place, places, Row, row, table}
 use Rattle.instruction.specs.Words.{reduced, fields, fieldAt, registersIn, numberIn, unusedFrom}
 use Rattle.instruction.specs.Fits.{InTable, placesOf, Regs, numberField, hasNumber, reducedIn}

@@ -7,10 +7,10 @@ use mathlib.Core.List.{List, [], _∷_, map}
 use lib.ListN.{length, take}
 use lib.Dec.{ltb, eqb}
 use borrow.Author.Tests.{ltb-true}
-use Rattle.spelling.specs.Bytes.{Result, value, refused, blank, lower, same, find, isSome, each}
-use Rattle.spelling.specs.Names.{Name, named}
-use Rattle.spelling.proofs.Tests.{by-test, both, and-both}
-use Rattle.spelling.proofs.Strings.{found}
+use Rattle.text_lexical.specs.Bytes.{Result, value, refused, blank, lower, same, find, isSome, each}
+use Rattle.text_lexical.specs.Names.{Name, named}
+use Rattle.text_lexical.proofs.Tests.{by-test, both, and-both}
+use Rattle.text_lexical.proofs.Strings.{found}
 use Rattle.text.specs.Tokens.{Class, Register, Identifier, Number, Hex, Binary, Directive, Mark, Match, longest, Token, register, number, comma, colon, opening, closing, within, numberToken, patternToken, registerToken, markToken, tokenOf, Sized, sized, matched, front, infront, tokensPast, tokens}
 use Rattle.text.specs.Lines.{Line, content, kept, lineOf, recordOf, readLine}
 use Rattle.text.specs.NameSets.{isNumbered, Naming}

@@ -6,8 +6,8 @@ use mathlib.Core.Bool.{Bool, true, false, true≢false}
 use mathlib.Core.Option.{Option, none, some}
 use mathlib.Core.List.{List, [], _∷_}
 use lib.ListN.{take, drop}
-use Rattle.spelling.specs.Bytes.{Result, value, refused, isSome, each}
-use Rattle.spelling.proofs.Tests.{both, and-both}
+use Rattle.text_lexical.specs.Bytes.{Result, value, refused, isSome, each}
+use Rattle.text_lexical.proofs.Tests.{both, and-both}
 
 -- ---- what a value tells of the tests before it
 

@@ -8,9 +8,9 @@ use mathlib.Core.List.{List, [], _∷_, map}
 use lib.ListN.{length}
 use lib.Dec.{leb, ltb, eqb}
 use borrow.Author.Tests.{leb-true, le-leb, lt-leb, ltb-true, eqb-true, eq-eqb, not-true}
-use Rattle.spelling.specs.Bytes.{bytes, between, letter, digit, nameStart, namePart, lower, every, same, find, isSome, each}
-use Rattle.spelling.proofs.Tests.{both, between-true}
-use Rattle.spelling.proofs.Strings.{every-head, every-tail, same-eq, eq-same, found}
+use Rattle.text_lexical.specs.Bytes.{bytes, between, letter, digit, nameStart, namePart, lower, every, same, find, isSome, each}
+use Rattle.text_lexical.proofs.Tests.{both, between-true}
+use Rattle.text_lexical.proofs.Strings.{every-head, every-tail, same-eq, eq-same, found}
 use Rattle.text.specs.Tokens.{isIdentifier}
 use Rattle.instruction.specs.Table.{Place, reg, num, comma-place, opening-place, closing-place, places, Row, row, table, rowNamed, rowCoded}
 use Rattle.instruction.specs.Fits.{InTable, placesOf, numberField, widthOf, numberWidth}

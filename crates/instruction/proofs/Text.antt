@@ -12,12 +12,12 @@ use lib.Dec.{leb, eqb}
 use lib.IntN.{ℤ, pos, negsuc}
 use lib.Pow.{pow-add, pow-mono}
 use borrow.Author.Tests.{leb-true, lt-ltb, le-ltb, eq-eqb}
-use Rattle.spelling.specs.Bytes.{value, bytes, between, letter, digit, nameStart, namePart, edge, every, find, isSome, each}
-use Rattle.spelling.specs.Numbers.{meantBy, decimalIn, decimal, signedDecimal}
-use Rattle.spelling.specs.Names.{Name}
-use Rattle.spelling.proofs.Tests.{split, both, between-true}
-use Rattle.spelling.proofs.Strings.{every-head, every-append, every-mono, ends}
-use Rattle.spelling.proofs.Numbers.{decimal-digits, decimal-length}
+use Rattle.text_lexical.specs.Bytes.{value, bytes, between, letter, digit, nameStart, namePart, edge, every, find, isSome, each}
+use Rattle.text_lexical.specs.Numbers.{meantBy, decimalIn, decimal, signedDecimal}
+use Rattle.text_lexical.specs.Names.{Name}
+use Rattle.text_lexical.proofs.Tests.{split, both, between-true}
+use Rattle.text_lexical.proofs.Strings.{every-head, every-append, every-mono, ends}
+use Rattle.text_lexical.proofs.Numbers.{decimal-digits, decimal-length}
 use Rattle.text.specs.Tokens.{isIdentifier, isRegister, Token, identifier, register, number, comma, opening, closing, infront, tokens}
 use Rattle.text.specs.Lines.{Line, kept, lineOf, readLine}
 use Rattle.text.specs.NameSets.{Naming}

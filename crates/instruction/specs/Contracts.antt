@@ -8,11 +8,11 @@ use mathlib.Core.List.{List, [], _∷_, map}
 use lib.ListN.{getD}
 use lib.Dec.{eqb}
 use lib.IntN.{ℤ}
-use Rattle.spelling.specs.Bytes.{bytes}
-use Rattle.spelling.specs.Contracts.{keyOf, indexOf, wholeMeant}
-use Rattle.spelling.specs.declared.register.Register.{Register}
-use Rattle.spelling.specs.declared.register.Register.the-variants.{R0}
-use Rattle.spelling.specs.declared.number.Whole.{Whole}
+use Rattle.text_lexical.specs.Bytes.{bytes}
+use Rattle.text_lexical.specs.Contracts.{keyOf, indexOf, wholeMeant}
+use Rattle.text_lexical.specs.declared.register.Register.{Register}
+use Rattle.text_lexical.specs.declared.register.Register.the-variants.{R0}
+use Rattle.text_lexical.specs.declared.number.Whole.{Whole}
 use Rattle.instruction.specs.Table.{Place, reg, num, comma-place, opening-place, closing-place, Form, R, I, Shift, Load, Store, Branch, Jump, System, places, Row, table, rowNamed}
 use Rattle.instruction.specs.Operands.{Instruction as Meant, Operands as MeantOperands}
 use Rattle.instruction.specs.declared.instruction.Instruction.{Instruction}

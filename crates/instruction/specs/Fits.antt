@@ -6,8 +6,8 @@ use mathlib.Core.Bool.{Bool}
 use mathlib.Core.Option.{Option, none, some}
 use mathlib.Core.List.{List, [], _∷_}
 use lib.IntN.{ℤ}
-use Rattle.spelling.specs.Bytes.{isSome}
-use Rattle.spelling.specs.Numbers.{meantBy}
+use Rattle.text_lexical.specs.Bytes.{isSome}
+use Rattle.text_lexical.specs.Numbers.{meantBy}
 use Rattle.instruction.specs.Table.{Place, reg, num, comma-place, opening-place, closing-place, places, Row, rowNamed}
 use Rattle.instruction.specs.Operands.{Instruction}
 use Rattle.instruction.specs.Words.{reduced}

@@ -6,7 +6,7 @@ use mathlib.Core.List.{List, [], _∷_, map}
 use lib.ListN.{length, drop}
 use lib.Dec.{eqb}
 use lib.IntN.{ℤ, pos}
-use Rattle.spelling.specs.Bytes.{Result, value, refused, lower}
+use Rattle.text_lexical.specs.Bytes.{Result, value, refused, lower}
 use Rattle.text.specs.Tokens.{Token, identifier, register, number, hex, binary, directive, comma, colon, opening, closing}
 use Rattle.text.specs.Lines.{Line}
 use Rattle.instruction.specs.Table.{Place, reg, num, comma-place, opening-place, closing-place, places, Row, rowNamed}

@@ -5,7 +5,7 @@ use mathlib.Core.Bool.{Bool, true, false}
 use mathlib.Core.Option.{Option}
 use mathlib.Core.List.{List, [], _∷_}
 use lib.Dec.{eqb}
-use Rattle.spelling.specs.Bytes.{bytes, same, find}
+use Rattle.text_lexical.specs.Bytes.{bytes, same, find}
 
 -- What stands at a place of a form: a register, whose number goes to a bit and the three above it ("Registers are 4 bits
 -- wide"); a number, which goes to a bit and takes so many bits, and is listed as signed or not; or a mark.

@@ -3,7 +3,7 @@ use Prim.Native.Nat.{ℕ}
 use mathlib.Core.Option.{Option, none, some}
 use mathlib.Core.List.{List, [], _∷_, _++_}
 use lib.IntN.{ℤ}
-use Rattle.spelling.specs.Numbers.{decimal, signedDecimal}
+use Rattle.text_lexical.specs.Numbers.{decimal, signedDecimal}
 use Rattle.instruction.specs.Table.{Place, reg, num, comma-place, opening-place, closing-place, places}
 use Rattle.instruction.specs.Operands.{Instruction}
 

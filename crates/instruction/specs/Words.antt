@@ -5,8 +5,8 @@ use mathlib.Core.Option.{Option, none, some}
 use mathlib.Core.List.{List, [], _∷_}
 use lib.Dec.{ltb}
 use lib.IntN.{ℤ}
-use Rattle.spelling.specs.Bytes.{Result, value, refused}
-use Rattle.spelling.specs.Numbers.{residue, meantBy}
+use Rattle.text_lexical.specs.Bytes.{Result, value, refused}
+use Rattle.text_lexical.specs.Numbers.{residue, meantBy}
 use Rattle.instruction.specs.Table.{Place, reg, num, comma-place, opening-place, closing-place, places, Row, rowCoded}
 use Rattle.instruction.specs.Operands.{Instruction}
 

@@ -4,8 +4,8 @@ ghost use Prim.Native.Nat.{_<_};
 ghost use mathlib.Core.Bool.{false};
 ghost use Rattle.instruction.specs.Contracts.{rowAt, keep, partsOf, instructionMeant, partsMeant};
 use crate::opcode;
-use spelling::number::Whole;
-use spelling::register::Register;
+use text_lexical::number::Whole;
+use text_lexical::register::Register;
 
 pub enum Instruction {
     // arithmetic

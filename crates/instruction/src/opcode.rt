@@ -3,8 +3,8 @@
 ghost use mathlib.Core.Path.{_≡_};
 ghost use Prim.Native.Nat.{_≤_};
 ghost use lib.Dec.{eqb};
-ghost use Rattle.spelling.specs.Bytes.{find};
-ghost use Rattle.spelling.specs.Contracts.{keyOf};
+ghost use Rattle.text_lexical.specs.Bytes.{find};
+ghost use Rattle.text_lexical.specs.Contracts.{keyOf};
 ghost use Rattle.instruction.specs.Table.{table, rowCoded};
 ghost use Rattle.instruction.specs.Contracts.{mnemonicKeys, slotRows, opcodeNumbers, formNumbers, unusedBelow, IsRow};
 

@@ -12,15 +12,15 @@ use lib.Seq.{drop-cons}
 use lib.Dec.{eqb}
 use lib.IntN.{pos}
 use borrow.Author.Tests.{eqb-true, ne-eqb, lt-ltb, le-ltb, le-leb, lt-leb}
-use Rattle.spelling.specs.Bytes.{bytes, between, letter, digit, hexDigit, binaryDigit, mark, nameStart, namePart, every, before, run, isSome, each}
-use Rattle.spelling.specs.Numbers.{valueOf, minus}
-use Rattle.spelling.specs.Names.{Name, name, named, numbered, conventional, present}
-use Rattle.spelling.specs.Contracts.{nameMeant, nameNumber}
-use Rattle.spelling.specs.declared.name.RegisterName.{RegisterName}
-use Rattle.spelling.specs.declared.name.RegisterName.the-variants.{Is, NoSuch, Other}
-use Rattle.spelling.proofs.Tests.{split, by-test}
-use Rattle.spelling.proofs.Strings.{take-run, run-le}
-use Rattle.spelling.proofs.Registers.{register-index}
+use Rattle.text_lexical.specs.Bytes.{bytes, between, letter, digit, hexDigit, binaryDigit, mark, nameStart, namePart, every, before, run, isSome, each}
+use Rattle.text_lexical.specs.Numbers.{valueOf, minus}
+use Rattle.text_lexical.specs.Names.{Name, name, named, numbered, conventional, present}
+use Rattle.text_lexical.specs.Contracts.{nameMeant, nameNumber}
+use Rattle.text_lexical.specs.declared.name.RegisterName.{RegisterName}
+use Rattle.text_lexical.specs.declared.name.RegisterName.the-variants.{Is, NoSuch, Other}
+use Rattle.text_lexical.proofs.Tests.{split, by-test}
+use Rattle.text_lexical.proofs.Strings.{take-run, run-le}
+use Rattle.text_lexical.proofs.Registers.{register-index}
 use Rattle.text.specs.Tokens.{isIdentifier, isRegister, Class, Number, Hex, Binary, Directive, Mark, longest, Token, identifier, register, number, hex, binary, directive, within, numberToken, patternToken, registerToken, markToken, tokenOf, sized, matched, front}
 use Rattle.text.specs.Contracts.{kindMeant, kindFor, tokenAt}
 use Rattle.text.specs.declared.lexer.Kind.{Kind}

@@ -10,10 +10,10 @@ use lib.ListN.{length, take, drop, getD, length-drop, take-append-drop, drop-of-
 use lib.Seq.{take-take, drop-cons, drop-drop, getD-drop}
 use lib.Dec.{eqb}
 use borrow.Author.Tests.{eqb-true, ne-eqb, le-leb, lt-leb}
-use Rattle.spelling.specs.Bytes.{between, letter, digit, hexDigit, binaryDigit, blank, edge, mark, nameStart, namePart, every, oneOrMore, before, after, find, each, run, inside, margin}
-use Rattle.spelling.specs.Names.{Name}
-use Rattle.spelling.proofs.Tests.{by-test, not-true, no-both, or-elim, both, between-true, split}
-use Rattle.spelling.proofs.Strings.{every-head, every-tail, every-cons, every-mono, every-take, every-run, take-run, run-le, past-run, run-stop, run-past}
+use Rattle.text_lexical.specs.Bytes.{between, letter, digit, hexDigit, binaryDigit, blank, edge, mark, nameStart, namePart, every, oneOrMore, before, after, find, each, run, inside, margin}
+use Rattle.text_lexical.specs.Names.{Name}
+use Rattle.text_lexical.proofs.Tests.{by-test, not-true, no-both, or-elim, both, between-true, split}
+use Rattle.text_lexical.proofs.Strings.{every-head, every-tail, every-cons, every-mono, every-take, every-run, take-run, run-le, past-run, run-stop, run-past}
 use Rattle.text.specs.Tokens.{isIdentifier, isNumber, isPrefixed, isDirective, isMark, Class, Register, Identifier, Number, Hex, Binary, Directive, Mark, isIn, classes, classOf, Match, longest, Token, Sized, sized, matched, front, infront, tokens, tokenOf}
 use Rattle.text.specs.Lines.{keptByte, trimEnd, trim, cut, content, indent}
 use Rattle.text.specs.Places.{restAt, leftAt, endAt}

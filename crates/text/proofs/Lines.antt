@@ -9,12 +9,12 @@ use lib.ListN.{length, drop, getD, length-drop}
 use lib.Seq.{drop-drop, getD-drop}
 use lib.Dec.{eqb}
 use borrow.Author.Tests.{not-true, not-false, eqb-true, ne-eqb, le-leb, lt-leb}
-use Rattle.spelling.specs.Bytes.{between, digit, ascii, edge, before, after, every, run, inside}
-use Rattle.spelling.specs.Numbers.{decimal}
-use Rattle.spelling.specs.Names.{Name}
-use Rattle.spelling.proofs.Tests.{by-test, both, between-true, true-between}
-use Rattle.spelling.proofs.Strings.{every-head, every-tail, every-mono, before-all, run-stop}
-use Rattle.spelling.proofs.Numbers.{decimal-digits}
+use Rattle.text_lexical.specs.Bytes.{between, digit, ascii, edge, before, after, every, run, inside}
+use Rattle.text_lexical.specs.Numbers.{decimal}
+use Rattle.text_lexical.specs.Names.{Name}
+use Rattle.text_lexical.proofs.Tests.{by-test, both, between-true, true-between}
+use Rattle.text_lexical.proofs.Strings.{every-head, every-tail, every-mono, before-all, run-stop}
+use Rattle.text_lexical.proofs.Numbers.{decimal-digits}
 use Rattle.text.specs.Tokens.{Token, tokens}
 use Rattle.text.specs.Lines.{extended, lines, keptByte, trimEnd, trim, cut, content, lineOf, recordOf, readLine}
 use Rattle.text.specs.Places.{restAt, endAt}

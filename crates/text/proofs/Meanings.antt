@@ -9,12 +9,12 @@ use lib.ListN.{take, drop, getD}
 use lib.Dec.{leb, ltb, eqb}
 use lib.IntN.{pos, natAbs}
 use borrow.Author.Tests.{ltb-true, eqb-true, eq-eqb}
-use Rattle.spelling.specs.Bytes.{each, same}
-use Rattle.spelling.specs.Numbers.{valueOf, minus}
-use Rattle.spelling.specs.Names.{Name, name, named, numbered, conventional, present}
-use Rattle.spelling.proofs.Tests.{by-test, no-both}
-use Rattle.spelling.proofs.Strings.{found}
-use Rattle.spelling.proofs.Registers.{index-register}
+use Rattle.text_lexical.specs.Bytes.{each, same}
+use Rattle.text_lexical.specs.Numbers.{valueOf, minus}
+use Rattle.text_lexical.specs.Names.{Name, name, named, numbered, conventional, present}
+use Rattle.text_lexical.proofs.Tests.{by-test, no-both}
+use Rattle.text_lexical.proofs.Strings.{found}
+use Rattle.text_lexical.proofs.Registers.{index-register}
 use Rattle.text.specs.Tokens.{Class, Register, Identifier, Number, Hex, Binary, Directive, Mark, Match, Token, identifier, register, number, hex, binary, directive, comma, colon, opening, closing, within, numberToken, patternToken, registerToken, markToken, tokenOf, Sized, sized, matched, front, longest}
 use Rattle.text.specs.NameSets.{isNumbered}
 use Rattle.text.specs.Contracts.{kindMeant, registerKind, kindFor}

@@ -7,10 +7,10 @@ use mathlib.Core.List.{List, [], _∷_, _++_, map, append-assoc, append-nil}
 use mathlib.Core.Option.{Option, none, some}
 use lib.ListN.{length, take, drop, getD, set, replicate, length-append, length-drop, length-take, length-map, length-replicate, List·getD-append}
 use lib.Seq.{take-all, take-append-le, take-append-seam, set-at, getD-append-add, getD-drop, getD-take}
-use Rattle.spelling.specs.Bytes.{blank, run, inside, margin}
-use Rattle.spelling.specs.Names.{present}
-use Rattle.spelling.proofs.Tests.{split, not-true, no-both}
-use Rattle.spelling.proofs.Strings.{run-no, run-end, run-stop}
+use Rattle.text_lexical.specs.Bytes.{blank, run, inside, margin}
+use Rattle.text_lexical.specs.Names.{present}
+use Rattle.text_lexical.proofs.Tests.{split, not-true, no-both}
+use Rattle.text_lexical.proofs.Strings.{run-no, run-end, run-stop}
 use Rattle.text.specs.Tokens.{infront, tokens}
 use Rattle.text.specs.Tokens.{Token as Meant}
 use Rattle.text.specs.Lines.{indent, kept, lineOf, recordOf, readLine}

@@ -10,10 +10,10 @@ use mathlib.Core.List.{List, [], _∷_}
 use lib.ListN.{length, take}
 use lib.Dec.{eqb}
 use borrow.Author.Tests.{eqb-true, ne-eqb, le-leb, lt-leb}
-use Rattle.spelling.specs.Bytes.{digit, hexDigit, binaryDigit, between, letter, mark, nameStart, namePart, every, oneOrMore, same, before, find, isSome, each, run}
-use Rattle.spelling.specs.Names.{Name, named}
-use Rattle.spelling.proofs.Tests.{by-test, not-true, no-both, or-elim, between-true}
-use Rattle.spelling.proofs.Strings.{same-eq, take-run, every-run, run-le, past-run, found}
+use Rattle.text_lexical.specs.Bytes.{digit, hexDigit, binaryDigit, between, letter, mark, nameStart, namePart, every, oneOrMore, same, before, find, isSome, each, run}
+use Rattle.text_lexical.specs.Names.{Name, named}
+use Rattle.text_lexical.proofs.Tests.{by-test, not-true, no-both, or-elim, between-true}
+use Rattle.text_lexical.proofs.Strings.{same-eq, take-run, every-run, run-le, past-run, found}
 use Rattle.text.specs.Tokens.{isIdentifier, isRegister, isNumber, isPrefixed, isHex, isBinary, isDirective, isMark, Class, Register, Identifier, Number, Hex, Binary, Directive, Mark, isIn, classes, classOf, Match, longest}
 
 unfoldable pub matching : ℕ → Class → Match

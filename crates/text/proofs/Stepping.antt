@@ -8,9 +8,9 @@ use mathlib.Core.List.{List, [], _∷_}
 use mathlib.Core.Option.{Option, none, some}
 use lib.ListN.{length, take, drop, getD, length-drop}
 use lib.Seq.{getD-take, getD-drop}
-use Rattle.spelling.specs.Bytes.{blank, mark, before, run, every, inside, margin}
-use Rattle.spelling.specs.Names.{present}
-use Rattle.spelling.proofs.Strings.{run-le, run-no, run-end, run-stop, take-run, every-run, every-mono}
+use Rattle.text_lexical.specs.Bytes.{blank, mark, before, run, every, inside, margin}
+use Rattle.text_lexical.specs.Names.{present}
+use Rattle.text_lexical.proofs.Strings.{run-le, run-no, run-end, run-stop, take-run, every-run, every-mono}
 use Rattle.text.specs.Tokens.{Token as Meant, markToken, Sized, front, infront, tokens}
 use Rattle.text.specs.Places.{leftAt, endAt}
 use Rattle.text.specs.Contracts.{kindMeant, kindFor, meant, foundAt, tokenAt, standsAt, past, scanAt, NoWord}

@@ -10,12 +10,12 @@ use lib.Seq.{take-append-seam, drop-append-seam}
 use lib.Dec.{eqb}
 use lib.IntN.{ℤ, pos, negsuc}
 use borrow.Author.Tests.{ne-eqb, le-leb, lt-ltb}
-use Rattle.spelling.specs.Bytes.{letter, digit, between, blank, mark, nameStart, namePart, every, isSome, each, run}
-use Rattle.spelling.specs.Numbers.{valueOf, minus, decimal, signedDecimal}
-use Rattle.spelling.specs.Names.{Name, named}
-use Rattle.spelling.proofs.Tests.{by-test, both, or-right, between-true, no-both, not-true}
-use Rattle.spelling.proofs.Strings.{every-head, every-tail, ends, ends-head, before-append, run-append}
-use Rattle.spelling.proofs.Numbers.{Digits, decimal-digits, decimal-value}
+use Rattle.text_lexical.specs.Bytes.{letter, digit, between, blank, mark, nameStart, namePart, every, isSome, each, run}
+use Rattle.text_lexical.specs.Numbers.{valueOf, minus, decimal, signedDecimal}
+use Rattle.text_lexical.specs.Names.{Name, named}
+use Rattle.text_lexical.proofs.Tests.{by-test, both, or-right, between-true, no-both, not-true}
+use Rattle.text_lexical.proofs.Strings.{every-head, every-tail, ends, ends-head, before-append, run-append}
+use Rattle.text_lexical.proofs.Numbers.{Digits, decimal-digits, decimal-value}
 use Rattle.text.specs.Tokens.{isIdentifier, isRegister, Class, Register, Identifier, Number, Directive, Mark, Token, identifier, register, number, directive, comma, opening, closing, within, numberToken, registerToken, markToken, tokenOf, sized, matched, front, infront, tokensPast, tokens}
 use Rattle.text.proofs.Scanning.{matching, wordClass, digitScan, dotScan, atLeastOne, scan, longest-scan, register-identifier, start-from, digit-from, digit-not-start}
 

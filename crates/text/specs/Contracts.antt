@@ -7,10 +7,10 @@ use mathlib.Core.List.{List, [], _∷_, _++_, map}
 use lib.ListN.{length, take, drop, getD, replicate}
 use lib.Dec.{eqb}
 use lib.IntN.{ℤ, pos, natAbs}
-use Rattle.spelling.specs.Bytes.{digit, nameStart, blank, margin, run}
-use Rattle.spelling.specs.Numbers.{minus}
-use Rattle.spelling.specs.Names.{present}
-use Rattle.spelling.specs.Contracts.{indexOf, registerAt, wholeMeant}
+use Rattle.text_lexical.specs.Bytes.{digit, nameStart, blank, margin, run}
+use Rattle.text_lexical.specs.Numbers.{minus}
+use Rattle.text_lexical.specs.Names.{present}
+use Rattle.text_lexical.specs.Contracts.{indexOf, registerAt, wholeMeant}
 use Rattle.text.specs.Tokens.{identifier, register, number, hex, binary, directive, comma, colon, opening, closing, Number as NumberClass, longest, Sized, front}
 use Rattle.text.specs.Tokens.{Token as Meant}
 use Rattle.text.specs.Places.{leftAt, endAt}

@@ -5,8 +5,8 @@ use mathlib.Core.Option.{Option, none, some}
 use mathlib.Core.List.{List, [], _∷_}
 use lib.ListN.{length, take}
 use lib.Dec.{eqb}
-use Rattle.spelling.specs.Bytes.{edge, before, run, after}
-use Rattle.spelling.specs.Names.{Name}
+use Rattle.text_lexical.specs.Bytes.{edge, before, run, after}
+use Rattle.text_lexical.specs.Names.{Name}
 use Rattle.text.specs.Tokens.{Token, tokens}
 
 -- A byte in front of the first of some lines.

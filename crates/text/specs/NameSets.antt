@@ -5,9 +5,9 @@ use mathlib.Core.Bool.{Bool, true}
 use mathlib.Core.Option.{Option, none, some}
 use mathlib.Core.List.{List, _∷_}
 use lib.Dec.{ltb}
-use Rattle.spelling.specs.Bytes.{each}
-use Rattle.spelling.specs.Numbers.{decimal}
-use Rattle.spelling.specs.Names.{Name}
+use Rattle.text_lexical.specs.Bytes.{each}
+use Rattle.text_lexical.specs.Numbers.{decimal}
+use Rattle.text_lexical.specs.Names.{Name}
 use Rattle.text.specs.Tokens.{isIdentifier, Register, register, tokenOf}
 
 -- "Registers are 4 bits wide."

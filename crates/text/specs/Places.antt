@@ -2,7 +2,7 @@
 use Prim.Native.Nat.{ℕ, _+_}
 use mathlib.Core.List.{List}
 use lib.ListN.{length, drop}
-use Rattle.spelling.specs.Bytes.{inside, before}
+use Rattle.text_lexical.specs.Bytes.{inside, before}
 use Rattle.text.specs.Lines.{trimEnd, cut}
 
 -- The line's bytes from a place on.

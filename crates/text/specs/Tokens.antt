@@ -6,9 +6,9 @@ use mathlib.Core.List.{List, [], _∷_}
 use lib.ListN.{length, take, drop}
 use lib.Dec.{leb, ltb, eqb}
 use lib.IntN.{ℤ, pos}
-use Rattle.spelling.specs.Bytes.{digit, hexDigit, binaryDigit, blank, mark, nameStart, namePart, every, oneOrMore, find, isSome}
-use Rattle.spelling.specs.Numbers.{valueOf, minus}
-use Rattle.spelling.specs.Names.{Name, named}
+use Rattle.text_lexical.specs.Bytes.{digit, hexDigit, binaryDigit, blank, mark, nameStart, namePart, every, oneOrMore, find, isSome}
+use Rattle.text_lexical.specs.Numbers.{valueOf, minus}
+use Rattle.text_lexical.specs.Names.{Name, named}
 
 -- ---- the classes
 

@@ -3,13 +3,13 @@ ghost use mathlib.Core.Path.{_≡_};
 ghost use mathlib.Core.Bool.{true, false};
 ghost use Prim.Native.Nat.{_+_, _-_, _≤_, _<_};
 ghost use lib.ListN.{length, getD};
-ghost use Rattle.spelling.specs.Bytes.{nameStart, digit, mark, blank};
+ghost use Rattle.text_lexical.specs.Bytes.{nameStart, digit, mark, blank};
 ghost use Rattle.text.specs.Contracts.{tokenAt, scanAt, IsDecimal, NoWord};
-use spelling::bytes::Class;
-use spelling::name::RegisterName;
-use spelling::number::Radix;
-use spelling::number::Value;
-use spelling::register::Register;
+use text_lexical::bytes::Class;
+use text_lexical::name::RegisterName;
+use text_lexical::number::Radix;
+use text_lexical::number::Value;
+use text_lexical::register::Register;
 
 // A number's kinds keep its magnitude, and `Negative` is one that is spelled with `-`, -0 too. The spelling of a name is the token's part of
 // the text.
@@ -61,8 +61,8 @@ fn word(text: &[u8], at: usize) -> Scan
     requires { ⌜ at < length (now text) ⌝ ∗ ⌜ nameStart (getD (now text) at 0) ≡ true ⌝ }
     ensures { λ r. ⌜ r ≡ tokenAt (now (text .entry)) at ⌝ }
 {
-    let end = spelling::bytes::run_end(text, at + 1, Class::NamePart);
-    match spelling::name::parse_register(&text[at..end]) {
+    let end = text_lexical::bytes::run_end(text, at + 1, Class::NamePart);
+    match text_lexical::name::parse_register(&text[at..end]) {
         RegisterName::Is(register) => found(Kind::Register(register), at, end),
         RegisterName::NoSuch => found(Kind::NoRegister, at, end),
         RegisterName::Other => found(Kind::Identifier, at, end),
@@ -74,7 +74,7 @@ fn decimal(text: &[u8], at: usize, end: usize) -> Scan
     requires { ⌜ IsDecimal (now text) at end ⌝ }
     ensures { λ r. ⌜ r ≡ tokenAt (now (text .entry)) at ⌝ }
 {
-    match spelling::number::value_of(&text[at..end], Radix::Decimal) {
+    match text_lexical::number::value_of(&text[at..end], Radix::Decimal) {
         Value::TooLarge => Scan::Bad,
         Value::Fits(value) => {
             if value < 9223372036854775808 {
@@ -92,11 +92,11 @@ fn minus(text: &[u8], at: usize) -> Scan
     ensures { λ r. ⌜ r ≡ tokenAt (now (text .entry)) at ⌝ }
 {
     let begin = at + 1;
-    let end = spelling::bytes::run_end(text, begin, Class::Digit);
+    let end = text_lexical::bytes::run_end(text, begin, Class::Digit);
     if end == begin {
         return Scan::Bad;
     }
-    match spelling::number::value_of(&text[begin..end], Radix::Decimal) {
+    match text_lexical::number::value_of(&text[begin..end], Radix::Decimal) {
         Value::TooLarge => Scan::Bad,
         Value::Fits(value) => {
             if value <= 9223372036854775808 {
@@ -114,11 +114,11 @@ fn hex(text: &[u8], at: usize) -> Scan
     ensures { λ r. ⌜ r ≡ tokenAt (now (text .entry)) at ⌝ }
 {
     let begin = at + 2;
-    let end = spelling::bytes::run_end(text, begin, Class::HexDigit);
+    let end = text_lexical::bytes::run_end(text, begin, Class::HexDigit);
     if end == begin {
         return decimal(text, at, at + 1);
     }
-    match spelling::number::value_of(&text[begin..end], Radix::Hex) {
+    match text_lexical::number::value_of(&text[begin..end], Radix::Hex) {
         Value::TooLarge => Scan::Bad,
         Value::Fits(value) => found(Kind::Hex(value), at, end),
     }
@@ -130,11 +130,11 @@ fn binary(text: &[u8], at: usize) -> Scan
     ensures { λ r. ⌜ r ≡ tokenAt (now (text .entry)) at ⌝ }
 {
     let begin = at + 2;
-    let end = spelling::bytes::run_end(text, begin, Class::BinaryDigit);
+    let end = text_lexical::bytes::run_end(text, begin, Class::BinaryDigit);
     if end == begin {
         return decimal(text, at, at + 1);
     }
-    match spelling::number::value_of(&text[begin..end], Radix::Binary) {
+    match text_lexical::number::value_of(&text[begin..end], Radix::Binary) {
         Value::TooLarge => Scan::Bad,
         Value::Fits(value) => found(Kind::Binary(value), at, end),
     }
@@ -154,7 +154,7 @@ fn digits(text: &[u8], at: usize) -> Scan
             return binary(text, at);
         }
     }
-    let end = spelling::bytes::run_end(text, second, Class::Digit);
+    let end = text_lexical::bytes::run_end(text, second, Class::Digit);
     decimal(text, at, end)
 }
 
@@ -167,10 +167,10 @@ fn directive(text: &[u8], at: usize) -> Scan
     if text.len() <= second {
         return Scan::Bad;
     }
-    if !spelling::bytes::is_name_start(text[second]) {
+    if !text_lexical::bytes::is_name_start(text[second]) {
         return Scan::Bad;
     }
-    let end = spelling::bytes::run_end(text, second + 1, Class::NamePart);
+    let end = text_lexical::bytes::run_end(text, second + 1, Class::NamePart);
     found(Kind::Directive, at, end)
 }
 
@@ -179,7 +179,7 @@ fn ending(text: &[u8], at: usize) -> Scan
     requires { ⌜ at < length (now text) ⌝ ∗ ⌜ NoWord (getD (now text) at 0) ⌝ ∗ ⌜ mark (getD (now text) at 0) ≡ false ⌝ }
     ensures { λ r. ⌜ r ≡ scanAt (now (text .entry)) at ⌝ }
 {
-    let stop = spelling::bytes::run_end(text, at, Class::Margin);
+    let stop = text_lexical::bytes::run_end(text, at, Class::Margin);
     if text.len() <= stop {
         return Scan::End(stop);
     }
@@ -210,10 +210,10 @@ fn front(text: &[u8], at: usize) -> Scan
     ensures { λ r. ⌜ r ≡ scanAt (now (text .entry)) at ⌝ }
 {
     let b = text[at];
-    if spelling::bytes::is_name_start(b) {
+    if text_lexical::bytes::is_name_start(b) {
         return word(text, at);
     }
-    if spelling::bytes::is_digit(b) {
+    if text_lexical::bytes::is_digit(b) {
         return digits(text, at);
     }
     if b == b'-' {
@@ -230,7 +230,7 @@ pub(crate) fn next_token(text: &[u8], from: usize) -> Scan
     requires { ⌜ from ≤ length (now text) ⌝ }
     ensures { λ r. ⌜ r ≡ scanAt (now (text .entry)) from ⌝ }
 {
-    let at = spelling::bytes::run_end(text, from, Class::Blank);
+    let at = text_lexical::bytes::run_end(text, from, Class::Blank);
     if at < text.len() {
         return front(text, at);
     }

@@ -7,8 +7,8 @@ ghost use Rattle.text.specs.Contracts.{spoiled as spoiledLine};
 use crate::lexer::Kind;
 use crate::lexer::Scan;
 use crate::lexer::Token;
-use spelling::bytes::Class;
-use spelling::number::Whole;
+use text_lexical::bytes::Class;
+use text_lexical::number::Whole;
 
 pub enum Extracted {
     Number(Whole),
@@ -67,11 +67,11 @@ pub fn tokenize(text: &[u8], from: usize) -> Line
 {
     let mut tokens = FILLER;
     let mut count: usize = 0;
-    let mut at = spelling::bytes::run_end(text, from, Class::Margin);
+    let mut at = text_lexical::bytes::run_end(text, from, Class::Margin);
     loop {
         match crate::reader::token_at(text, at) {
             Scan::End(stop) => {
-                let end = spelling::bytes::line_end(text, stop);
+                let end = text_lexical::bytes::line_end(text, stop);
                 return Line {
                     tokens,
                     count,

@@ -9,12 +9,12 @@ use mathlib.Core.List.{List, [], _∷_, _++_, map}
 use lib.ListN.{length, take, length-append, length-map}
 use lib.Dec.{leb}
 use borrow.Author.Tests.{le-leb, lt-leb}
-use Rattle.spelling.specs.Bytes.{bytes, ascii, every, before}
-use Rattle.spelling.specs.Numbers.{decimal}
-use Rattle.spelling.specs.Names.{present}
-use Rattle.spelling.proofs.Numbers.{decimal-length}
+use Rattle.text_lexical.specs.Bytes.{bytes, ascii, every, before}
+use Rattle.text_lexical.specs.Numbers.{decimal}
+use Rattle.text_lexical.specs.Names.{present}
+use Rattle.text_lexical.proofs.Numbers.{decimal-length}
 use Rattle.text.specs.Lines.{lines}
-use Rattle.coding.specs.Contracts.{put, Written}
+use Rattle.instruction_codec.specs.Contracts.{put, Written}
 use Rattle.instruction.specs.Words.{wordOf}
 use Rattle.image.specs.Settings.{Settings}
 use Rattle.image.specs.Program.{header-size, imageLength}
@@ -22,9 +22,9 @@ use Rattle.image.specs.Assembling.{Walk, finished, stopped, Assembled, accepted
 use Rattle.image.specs.Listing.{textOf, written, listing}
 use Rattle.image.specs.Meaning.{instructionsOf, settingsOf, imageOf}
 use Rattle.image.specs.Lent.{over, assembled, refusal, answerOf, imageAfter, listed, unlisted, listAnswerOf, textAfter}
-use Rattle.listing.specs.Contracts.{Lists}
+use Rattle.image_listing.specs.Contracts.{Lists}
 use Rattle.image.specs.Zkasm.{most-input, table-room, image-room, refusalText, outputOf, programOutput}
-use Rattle.listing.specs.declared.disassembler.Listing.the-variants.{Is}
+use Rattle.image_listing.specs.declared.disassembler.Listing.the-variants.{Is}
 use Rattle.image.proofs.Images.{image-length}
 use Rattle.image.proofs.Over.{take-over, length-over}
 use Rattle.image.proofs.Walking.{MeansIf, reading-means}

@@ -8,8 +8,8 @@ use mathlib.Core.List.{List, [], _∷_, map, flatMap}
 use lib.ListN.{length, length-append, length-map}
 use lib.Dec.{eqb}
 use borrow.Author.Tests.{le-leb}
-use Rattle.spelling.specs.Bytes.{value}
-use Rattle.spelling.specs.Names.{Name, present}
+use Rattle.text_lexical.specs.Bytes.{value}
+use Rattle.text_lexical.specs.Names.{Name, present}
 use Rattle.text.specs.Lines.{extended, lines, readLine}
 use Rattle.instruction.specs.Operands.{Instruction}
 use Rattle.instruction.specs.Words.{wordOf}

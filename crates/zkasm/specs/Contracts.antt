@@ -5,13 +5,13 @@ use mathlib.Core.List.{List}
 use lib.ListN.{length, take}
 use lib.IntN.{ℤ}
 use Rattle.libc.specs.Io.{Moved}
-use Rattle.spelling.specs.Names.{present}
-use Rattle.coding.specs.Contracts.{put}
+use Rattle.text_lexical.specs.Names.{present}
+use Rattle.instruction_codec.specs.Contracts.{put}
 use Rattle.image.specs.Assembling.{assembling}
 use Rattle.image.specs.Lent.{over, answerOf, imageAfter}
 use Rattle.image.specs.Zkasm.{table-room}
-use Rattle.passes.specs.Contracts.{answerMeant}
-use Rattle.passes.specs.declared.second_pass.Assembled.{Assembled}
+use Rattle.image_passes.specs.Contracts.{answerMeant}
+use Rattle.image_passes.specs.declared.second_pass.Assembled.{Assembled}
 use Rattle.zkasm.specs.Stdin.{deliveryOf, countOf, Transcript, Writing, printed, told, writingOf}
 use Rattle.zkasm.specs.declared.stdin.Delivery.{Delivery}
 use Rattle.zkasm.specs.declared.stdin.Input.{Input}

@@ -8,7 +8,7 @@ use mathlib.Core.List.{List, [], _∷_, _++_}
 use lib.ListN.{length}
 use lib.Dec.{eqb, ltb}
 use lib.IntN.{ℤ, pos, negsuc}
-use Rattle.spelling.specs.Bytes.{bytes}
+use Rattle.text_lexical.specs.Bytes.{bytes}
 use Rattle.image.specs.Zkasm.{most-input, programOutput}
 use Rattle.zkasm.specs.declared.stdin.Delivery.{Delivery}
 use Rattle.zkasm.specs.declared.stdin.Delivery.the-variants.{Piece, End, Interrupted, Failed}

@@ -5,9 +5,9 @@ ghost use lib.ListN.{length};
 ghost use Rattle.image.specs.Listing.{textOf, written, listing};
 ghost use Rattle.image.specs.Zkasm.{most-input, image-room, text-room, refusalText, programOutput};
 ghost use Rattle.zkasm.specs.Contracts.{AssemblesInput, Prints};
-use labels::label::Label;
-use listing::disassembler::Listing;
-use passes::second_pass::Assembled;
+use image_labels::label::Label;
+use image_listing::disassembler::Listing;
+use image_passes::second_pass::Assembled;
 
 // `refused N line L`
 fn write_refusal(out: &mut [u8], number: u8, line: usize) -> usize
@@ -15,9 +15,9 @@ fn write_refusal(out: &mut [u8], number: u8, line: usize) -> usize
     ensures { λ r. ⌜ Prints (refusalText number line) (now (out .entry)) (now (out .exit)) r ⌝ }
 {
     let at = image::program::write_bytes(out, 0, b"refused ");
-    let at = coding::display::write_decimal(out, at, number as u64);
+    let at = instruction_codec::display::write_decimal(out, at, number as u64);
     let at = image::program::write_bytes(out, at, b" line ");
-    let at = coding::display::write_decimal(out, at, line as u64);
+    let at = instruction_codec::display::write_decimal(out, at, line as u64);
     image::program::write_bytes(out, at, b"\n")
 }
 
@@ -26,7 +26,7 @@ fn write_listing(image: &[u8], out: &mut [u8]) -> usize
     requires { ⌜ listing (now image) (length (now out)) ≡ written (textOf (now image)) ⌝ ∗ ⌜ length (textOf (now image)) ≤ length (now out) ⌝ }
     ensures { λ r. ⌜ Prints (textOf (now (image .entry))) (now (out .entry)) (now (out .exit)) r ⌝ }
 {
-    match listing::disassembler::list(image, out) {
+    match image_listing::disassembler::list(image, out) {
         Listing::Is(length) => length,
         // no such image is refused
         _ => 0,
@@ -47,7 +47,7 @@ fn assemble(input: &[u8], image: &mut [u8]) -> Assembled
     ensures { λ r. ⌜ AssemblesInput (now (input .entry)) (now (image .entry)) (now (image .exit)) r ⌝ }
 {
     let mut table = blank_table();
-    assembling::assembler::assemble(input, &mut table, image)
+    image_assembler::assembler::assemble(input, &mut table, image)
 }
 
 // What is printed for an input that is not too long, by way of an image buffer.

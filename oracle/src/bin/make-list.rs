@@ -4,7 +4,7 @@ use std::path::PathBuf;
 
 fn main() -> std::io::Result<()> {
     let root = PathBuf::from(std::env::args().nth(1).unwrap_or_else(|| "..".to_string()));
-    std::fs::write(root.join("crates/tokens/stdin"), oracle::token_list())?;
-    std::fs::write(root.join("crates/words/stdin"), oracle::word_list())?;
-    std::fs::write(root.join("crates/vectors/stdin"), oracle::vector_list())
+    std::fs::write(root.join("crates/test_tokens/stdin"), oracle::token_list())?;
+    std::fs::write(root.join("crates/test_words/stdin"), oracle::word_list())?;
+    std::fs::write(root.join("crates/test_vectors/stdin"), oracle::vector_list())
 }

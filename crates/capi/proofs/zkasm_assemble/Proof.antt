@@ -26,15 +26,15 @@ use denote.Enum.Laws as EL
 use denote.Triple.Spec.{tripleOf}
 use denote.Triple.Statement.{Triple}
 use denote.Triple.Table.{entered, cited}
-use Rattle.labels.specs.declared.label.Label.{Label}
-use Rattle.labels.proofs.label.Label as L
-use Rattle.labels.proofs.Locals.{Locals, frees-all}
-use Rattle.passes.proofs.second_pass.Assembled as R
-use Rattle.passes.proofs.second_pass.Assembled.Laws as R′
-use Rattle.assembling.proofs.Shared.{cells, rval}
-use Rattle.assembling.proofs.assembler.assemble.Symbol as assemble-def
-use Rattle.assembling.proofs.assembler.assemble.Symbol.{name as #assemble}
-use Rattle.assembling.proofs.assembler.assemble.Met as assemble-thm
+use Rattle.image_labels.specs.declared.label.Label.{Label}
+use Rattle.image_labels.proofs.label.Label as L
+use Rattle.image_labels.proofs.Locals.{Locals, frees-all}
+use Rattle.image_passes.proofs.second_pass.Assembled as R
+use Rattle.image_passes.proofs.second_pass.Assembled.Laws as R′
+use Rattle.image_assembler.proofs.Shared.{cells, rval}
+use Rattle.image_assembler.proofs.assembler.assemble.Symbol as assemble-def
+use Rattle.image_assembler.proofs.assembler.assemble.Symbol.{name as #assemble}
+use Rattle.image_assembler.proofs.assembler.assemble.Met as assemble-thm
 use Rattle.capi.proofs.Passed.{Assembling, Writing, All, Held, Left, Ends, s₁, s₂, s₃, s₄, calls-assemble, calls-write, exits, Walked, walk-all}
 use Rattle.capi.proofs.write_assembled.Symbol as write-def
 use Rattle.capi.proofs.write_assembled.Symbol.{name as #write}
@@ -108,5 +108,5 @@ zkasm-assemble-spec 𝓤 H 𝓜 𝓖 𝓡 =
     (tables 𝓤 H 𝓜 𝓡 code.env .C) (tables 𝓤 H 𝓜 𝓡 code.env .Λ) #this code.function (code.unfolded 𝓤 H 𝓜 𝓡)
     (walk-all 𝓤 H (𝓖 .A) (𝓜 .mem) (𝓡 .run) (givenOf 𝓤 H 𝓜 𝓖) (tablesOf 𝓤 H 𝓜 (tables 𝓤 H 𝓜 𝓡 code.env)) code.function
     (walks 𝓤 H (𝓖 .A) (𝓜 .mem) (𝓡 .run) (givenOf 𝓤 H 𝓜 𝓖) (tablesOf 𝓤 H 𝓜 (tables 𝓤 H 𝓜 𝓡 code.env))
-    (cited 𝓤 H (Assembling 𝓤 H (𝓖 .A) (𝓜 .mem) (𝓡 .run)) 𝓜 𝓡 code.env #assemble assemble-def.routine code.calls-assembling·assembler·assemble (assemble-thm.met 𝓤 H 𝓜 𝓖 𝓡))
+    (cited 𝓤 H (Assembling 𝓤 H (𝓖 .A) (𝓜 .mem) (𝓡 .run)) 𝓜 𝓡 code.env #assemble assemble-def.routine code.calls-image-assembler·assembler·assemble (assemble-thm.met 𝓤 H 𝓜 𝓖 𝓡))
     (cited 𝓤 H (Writing 𝓤 H (𝓖 .A) (𝓜 .mem) (𝓡 .run)) 𝓜 𝓡 code.env #write write-def.routine code.calls-capi·write-assembled (write-thm.met 𝓤 H 𝓜 𝓖 𝓡))))

@@ -4,13 +4,13 @@ use mathlib.Core.Path.{_≡_, refl, sym, ap, ap₂, _∙_}
 use native.Mathlib.Omega.{arith}
 use lib.ListN.{length, take, drop, getD}
 use borrow.Author.Needs.{needs}
-use Rattle.spelling.specs.Numbers.{residue}
-use Rattle.spelling.specs.Contracts.{wholeMeant}
-use Rattle.spelling.proofs.Numbers.{residue-lt}
+use Rattle.text_lexical.specs.Numbers.{residue}
+use Rattle.text_lexical.specs.Contracts.{wholeMeant}
+use Rattle.text_lexical.proofs.Numbers.{residue-lt}
 use Rattle.text.specs.Contracts.{extractMeant, filler}
 use Rattle.text.specs.declared.lexer.Kind.the-variants.{Identifier}
 use Rattle.text.specs.declared.lexer.Token.{Token}
-use Rattle.reading.proofs.Line.{getD-any}
+use Rattle.instruction_operands.proofs.Line.{getD-any}
 use Rattle.image.specs.Settings.{setField, checked}
 use Rattle.image.specs.Contracts.{settingsMeant, recordMeant}
 use Rattle.image.proofs.Checks.{config-count, config-key, config-number, config-sets}

@@ -2,7 +2,7 @@
 use mathlib.Core.Path.{_≡_, sym, ap, _∙_}
 use mathlib.Core.Bool.{false}
 use borrow.Author.Needs.{needs}
-use Rattle.spelling.specs.Bytes.{bytes, same}
+use Rattle.text_lexical.specs.Bytes.{bytes, same}
 use Rattle.image.specs.Settings.{settings, limb-bits-key, data-limbs-key, addr-limbs-key, checked}
 use Rattle.image.specs.Contracts.{settingsMeant}
 use Rattle.image.proofs.Checks.{set-limb-bits, set-data-limbs, set-addr-limbs, set-none}

@@ -1,8 +1,8 @@
 -- `image::program::write_header` meets its contract.
 use native.Mathlib.Omega.{arith}
 use borrow.Author.Needs.{needs}
-use Rattle.spelling.specs.Numbers.{little}
-use Rattle.coding.proofs.Writing.{written-append}
+use Rattle.text_lexical.specs.Numbers.{little}
+use Rattle.instruction_codec.proofs.Writing.{written-append}
 use Rattle.image.specs.Settings.{settings}
 use Rattle.image.specs.Program.{magic, version, entry, stack-size, headerBytes, headerFor}
 use Rattle.image.proofs.program.write_header.Statement.{statement}

@@ -1,7 +1,7 @@
 -- `instruction::opcode::mnemonics` meets its contract: the constant is computed from the table.
 use mathlib.Core.Path.{refl}
-use Rattle.spelling.specs.Bytes.{bytes}
-use Rattle.spelling.specs.Contracts.{packed, keyOf}
+use Rattle.text_lexical.specs.Bytes.{bytes}
+use Rattle.text_lexical.specs.Contracts.{packed, keyOf}
 use Rattle.instruction.specs.Table.{row, table}
 use Rattle.instruction.specs.Contracts.{mnemonicKeys}
 use Rattle.instruction.proofs.opcode.mnemonics.Statement.{statement}

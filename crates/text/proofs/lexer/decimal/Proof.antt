@@ -3,8 +3,8 @@ use mathlib.Core.Path.{sym, _∙_}
 use Prim.Native.Nat.{_-_}
 use native.Mathlib.Omega.{arith}
 use lib.ListN.{take, drop}
-use Rattle.spelling.specs.Numbers.{valueOf}
-use Rattle.spelling.proofs.Values.{fits-is, large-is}
+use Rattle.text_lexical.specs.Numbers.{valueOf}
+use Rattle.text_lexical.proofs.Values.{fits-is, large-is}
 use Rattle.text.specs.Tokens.{Number}
 use Rattle.text.specs.declared.lexer.Kind.the-variants.{Number as NumberKind}
 use Rattle.text.proofs.Fronts.{number-kind, at-found, at-none, found-longest, decimal-fits, decimal-large}

@@ -5,7 +5,7 @@ use native.Mathlib.Omega.{arith}
 use lib.ListN.{length, drop, getD}
 use mathlib.Core.Logic.{⊎-elim}
 use borrow.Author.Tests.{ltb-false}
-use Rattle.spelling.specs.Bytes.{digit}
+use Rattle.text_lexical.specs.Bytes.{digit}
 use Rattle.text.specs.Tokens.{Number}
 use Rattle.text.proofs.Fronts.{run-in, longest-found, digits-scan}
 use borrow.Author.Needs.{needs}

@@ -3,7 +3,7 @@ use mathlib.Core.Path.{refl, sym, _∙_}
 use Prim.Native.Nat.{_+_}
 use native.Mathlib.Omega.{arith}
 use borrow.Author.Tests.{not-true, not-false}
-use Rattle.spelling.specs.Bytes.{namePart}
+use Rattle.text_lexical.specs.Bytes.{namePart}
 use Rattle.text.specs.declared.lexer.Kind.the-variants.{Directive}
 use Rattle.text.proofs.Fronts.{run-in, at-found, at-none, directive-none, directive-front}
 use borrow.Author.Needs.{needs}

@@ -3,9 +3,9 @@ use mathlib.Core.Path.{refl, sym, _∙_}
 use Prim.Native.Nat.{_+_, _-_, _≤_}
 use native.Mathlib.Omega.{arith}
 use lib.ListN.{length, take, drop}
-use Rattle.spelling.specs.Bytes.{hexDigit}
-use Rattle.spelling.specs.Numbers.{valueOf}
-use Rattle.spelling.proofs.Values.{fits-is, large-is}
+use Rattle.text_lexical.specs.Bytes.{hexDigit}
+use Rattle.text_lexical.specs.Numbers.{valueOf}
+use Rattle.text_lexical.proofs.Values.{fits-is, large-is}
 use Rattle.text.specs.Tokens.{Hex, Number, hex}
 use Rattle.text.specs.declared.lexer.Kind.the-variants.{Hex as HexKind}
 use Rattle.text.proofs.Fronts.{run-in, at-found, at-none, longest-found, hex-scan, hex-means, radix-none, radix-some, radix-fits, radix-large, zero-is-digit}

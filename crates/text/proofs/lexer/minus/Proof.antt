@@ -3,9 +3,9 @@ use mathlib.Core.Path.{sym, _∙_}
 use Prim.Native.Nat.{_+_, _-_, _≤_}
 use native.Mathlib.Omega.{arith}
 use lib.ListN.{length, take, drop}
-use Rattle.spelling.specs.Bytes.{digit}
-use Rattle.spelling.specs.Numbers.{valueOf}
-use Rattle.spelling.proofs.Values.{fits-is, large-is}
+use Rattle.text_lexical.specs.Bytes.{digit}
+use Rattle.text_lexical.specs.Numbers.{valueOf}
+use Rattle.text_lexical.proofs.Values.{fits-is, large-is}
 use Rattle.text.specs.declared.lexer.Kind.the-variants.{Negative}
 use Rattle.text.proofs.Fronts.{run-in, at-found, at-none, minus-kind, minus-none, minus-fits, minus-large}
 use borrow.Author.Needs.{needs}

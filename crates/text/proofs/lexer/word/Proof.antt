@@ -3,9 +3,9 @@ use mathlib.Core.Path.{_≡_, sym, ap, _∙_}
 use Prim.Native.Nat.{_+_, _-_}
 use native.Mathlib.Omega.{arith}
 use lib.ListN.{length}
-use Rattle.spelling.specs.Bytes.{namePart}
-use Rattle.spelling.specs.Contracts.{nameMeant}
-use Rattle.spelling.specs.declared.name.RegisterName.{RegisterName}
+use Rattle.text_lexical.specs.Bytes.{namePart}
+use Rattle.text_lexical.specs.Contracts.{nameMeant}
+use Rattle.text_lexical.specs.declared.name.RegisterName.{RegisterName}
 use Rattle.text.specs.Contracts.{tokenAt}
 use Rattle.text.specs.declared.lexer.Scan.the-variants.{Found}
 use Rattle.text.proofs.Fronts.{run-in, nameKind, word-at}

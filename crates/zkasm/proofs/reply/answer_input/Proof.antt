@@ -4,7 +4,7 @@ use Prim.Native.Nat.{_≤_}
 use lib.ListN.{length}
 use lib.Seq.{length-take-le}
 use borrow.Author.Needs.{needs}
-use Rattle.spelling.specs.Bytes.{bytes}
+use Rattle.text_lexical.specs.Bytes.{bytes}
 use Rattle.zkasm.specs.Stdin.{incomplete-line, writingOf}
 use Rattle.zkasm.specs.Contracts.{Received}
 use Rattle.zkasm.specs.declared.stdin.Input.the-variants.{Whole, TooLong, Incomplete}

@@ -1,4 +1,4 @@
--- `zkasm::report::assemble` meets its contract: a walk of its MIR. The label table is made by a call and lies in a local, which is lent to `assembling::assembler::assemble`.
+-- `zkasm::report::assemble` meets its contract: a walk of its MIR. The label table is made by a call and lies in a local, which is lent to `image_assembler::assembler::assemble`.
 use Prim.Native.Nat.{ℕ}
 use native.Mathlib.Nat.{le-refl}
 use mathlib.Core.Path.{_≡_, refl, subst}
@@ -37,25 +37,25 @@ use denote.Triple.Statement.{Contract, Triple}
 use denote.Triple.Table.{entered, cited}
 use denote.Steps.{nothing, owned}
 use denote.Triple.Walked.{says, Stays, stay-slice, stay-dropped, walkOf, ends-at, walked, goes-slice, goes-dropped, walk-meets}
-use Rattle.spelling.specs.Names.{present}
+use Rattle.text_lexical.specs.Names.{present}
 use Rattle.image.specs.Assembling.{assembling}
 use Rattle.image.specs.Lent.{answerOf, imageAfter}
 use Rattle.image.specs.Zkasm.{table-room}
-use Rattle.labels.specs.declared.label.Label.{Label}
-use Rattle.labels.proofs.label.Label as L
-use Rattle.labels.proofs.Calls.{Known, calls-to, asks-nothing}
-use Rattle.labels.proofs.Locals.{Locals, frees-all}
-use Rattle.labels.proofs.Owned.{Table, row-of, tval, table-tells, table-stored, front-length}
-use Rattle.passes.specs.Contracts.{answerMeant}
-use Rattle.passes.specs.declared.second_pass.Assembled.{Assembled}
-use Rattle.passes.proofs.second_pass.Assembled as R
-use Rattle.passes.proofs.second_pass.Assembled.Laws as R′
-use Rattle.assembling.specs.Contracts.{Assembles}
-use Rattle.assembling.proofs.Shared.{Source, rval, big}
-use Rattle.assembling.proofs.Called.{Assemble, calls-assemble}
-use Rattle.assembling.proofs.assembler.assemble.Symbol as assembling-def
-use Rattle.assembling.proofs.assembler.assemble.Symbol.{name as #assembling}
-use Rattle.assembling.proofs.assembler.assemble.Met as assembling-thm
+use Rattle.image_labels.specs.declared.label.Label.{Label}
+use Rattle.image_labels.proofs.label.Label as L
+use Rattle.image_labels.proofs.Calls.{Known, calls-to, asks-nothing}
+use Rattle.image_labels.proofs.Locals.{Locals, frees-all}
+use Rattle.image_labels.proofs.Owned.{Table, row-of, tval, table-tells, table-stored, front-length}
+use Rattle.image_passes.specs.Contracts.{answerMeant}
+use Rattle.image_passes.specs.declared.second_pass.Assembled.{Assembled}
+use Rattle.image_passes.proofs.second_pass.Assembled as R
+use Rattle.image_passes.proofs.second_pass.Assembled.Laws as R′
+use Rattle.image_assembler.specs.Contracts.{Assembles}
+use Rattle.image_assembler.proofs.Shared.{Source, rval, big}
+use Rattle.image_assembler.proofs.Called.{Assemble, calls-assemble}
+use Rattle.image_assembler.proofs.assembler.assemble.Symbol as assembling-def
+use Rattle.image_assembler.proofs.assembler.assemble.Symbol.{name as #assembling}
+use Rattle.image_assembler.proofs.assembler.assemble.Met as assembling-thm
 use Rattle.zkasm.specs.Contracts.{AssemblesInput}
 use Rattle.zkasm.proofs.report.blank_table as blank
 use Rattle.zkasm.proofs.report.blank_table.Symbol as blank-def
@@ -181,4 +181,4 @@ assemble-spec 𝓤 H 𝓜 𝓖 𝓡 =
     (tables 𝓤 H 𝓜 𝓡 code.env .C) (tables 𝓤 H 𝓜 𝓡 code.env .Λ) #assemble code.function (code.unfolded 𝓤 H 𝓜 𝓡)
     (meets 𝓤 H (𝓖 .A) (𝓜 .mem) (𝓡 .run) (givenOf 𝓤 H 𝓜 𝓖) (tablesOf 𝓤 H 𝓜 (tables 𝓤 H 𝓜 𝓡 code.env))
     (cited 𝓤 H (Blank 𝓤 H (𝓖 .A) (𝓜 .mem) (𝓡 .run)) 𝓜 𝓡 code.env #blank blank-def.routine code.calls-zkasm·report·blank-table (blank-thm.met 𝓤 H 𝓜 𝓖 𝓡))
-    (cited 𝓤 H (Lends 𝓤 H (𝓖 .A) (𝓜 .mem) (𝓡 .run)) 𝓜 𝓡 code.env #assembling assembling-def.routine code.calls-assembling·assembler·assemble (assembling-thm.met 𝓤 H 𝓜 𝓖 𝓡)))
+    (cited 𝓤 H (Lends 𝓤 H (𝓖 .A) (𝓜 .mem) (𝓡 .run)) 𝓜 𝓡 code.env #assembling assembling-def.routine code.calls-image-assembler·assembler·assemble (assembling-thm.met 𝓤 H 𝓜 𝓖 𝓡)))

@@ -5,7 +5,7 @@ use native.Mathlib.Omega.{arith}
 use lib.ListN.{length, take}
 use lib.Seq.{length-take-le}
 use borrow.Author.Needs.{needs}
-use Rattle.spelling.specs.Names.{present}
+use Rattle.text_lexical.specs.Names.{present}
 use Rattle.image.specs.Assembling.{assembling}
 use Rattle.image.specs.Listing.{textOf}
 use Rattle.image.specs.Meaning.{imageOf}

@@ -8,10 +8,10 @@ use denote.Enum.Declared.{tagOf}
 use types.Run.{OneOf, miss}
 use Rattle.image.specs.Listing.{textOf, written, listing}
 use Rattle.image.specs.Lent.{listAnswerOf}
-use Rattle.listing.specs.Contracts.{listingMeant}
-use Rattle.listing.proofs.disassembler.Listing as listing-type
-use Rattle.listing.specs.declared.disassembler.Listing.{Listing}
-use Rattle.listing.specs.declared.disassembler.Listing.the-variants.{Is, Refused, Faulty, TooShort}
+use Rattle.image_listing.specs.Contracts.{listingMeant}
+use Rattle.image_listing.proofs.disassembler.Listing as listing-type
+use Rattle.image_listing.specs.declared.disassembler.Listing.{Listing}
+use Rattle.image_listing.specs.declared.disassembler.Listing.the-variants.{Is, Refused, Faulty, TooShort}
 use Rattle.zkasm.proofs.Printing.{lists-always, lists-prints}
 use Rattle.zkasm.proofs.report.write_listing.Statement.{statement}
 use Rattle.zkasm.proofs.report.write_listing.Tie as tie

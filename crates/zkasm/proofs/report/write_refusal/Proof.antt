@@ -4,9 +4,9 @@ use mathlib.Core.List.{List, [], _∷_, _++_}
 use native.Mathlib.Omega.{arith}
 use lib.ListN.{length}
 use borrow.Author.Needs.{needs}
-use Rattle.spelling.specs.Bytes.{bytes}
-use Rattle.spelling.specs.Numbers.{decimal}
-use Rattle.coding.proofs.Writing.{written-append, room-before, room-behind}
+use Rattle.text_lexical.specs.Bytes.{bytes}
+use Rattle.text_lexical.specs.Numbers.{decimal}
+use Rattle.instruction_codec.proofs.Writing.{written-append, room-before, room-behind}
 use Rattle.image.specs.Zkasm.{refusalText}
 use Rattle.zkasm.proofs.Printing.{prints-written, refusal-short}
 use Rattle.zkasm.proofs.report.write_refusal.Statement.{statement}

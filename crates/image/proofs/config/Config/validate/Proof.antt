@@ -4,7 +4,7 @@ use mathlib.Core.Path.{_≡_, sym, _∙_}
 use mathlib.Core.Bool.{true}
 use borrow.Author.Needs.{needs}
 use borrow.Author.Tests.{not-true, not-false, eq-eqb}
-use Rattle.spelling.specs.Bytes.{between}
+use Rattle.text_lexical.specs.Bytes.{between}
 use Rattle.image.specs.Settings.{settings}
 use Rattle.image.specs.Contracts.{settingsMeant}
 use Rattle.image.proofs.Settings.{no-fault}

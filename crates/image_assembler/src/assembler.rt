@@ -1,0 +1,67 @@
+// Assembling: the first walk enters the labels, the second writes the image.
+ghost use Rattle.image_labels.specs.Tree.{Bare};
+ghost use Rattle.image_passes.specs.Contracts.{Tables};
+ghost use Rattle.image_assembler.specs.Contracts.{Starts, Walks, Assembles};
+use image_labels::label::Label;
+use image_passes::first_pass::Pass;
+use image_passes::second_pass::Assembled;
+
+// The first walk over a source. Its labels are entered into the table, whose entries stay linked.
+fn walk(
+    source: &[u8],
+    table: &mut [Label],
+    roots: &mut [u32],
+    mnemonics: &[u64; 50],
+    forms: &[u8; 50],
+    slots: &[u8; 293],
+) -> Pass
+    requires { ⌜ Tables (now mnemonics) (now forms) (now slots) ⌝ ∗ ⌜ Starts (now source) (now roots) ⌝ }
+    ensures { λ r. ⌜ Walks (now (source .entry)) (now (table .entry)) (now (table .exit)) (now (roots .exit)) r ⌝ }
+{
+    let mut pass = image_passes::first_pass::begin(source, mnemonics, forms, slots);
+    while pass.found {
+        let entered = image_labels::label::enter(source, table, roots, pass.labels, pass.label);
+        pass = image_passes::first_pass::go_on(source, pass, entered, mnemonics, forms, slots);
+    }
+    pass
+}
+
+// Both walks over a source, while its labels can be found. Then the links are taken out of the table, whatever the answer.
+fn rooted(
+    source: &[u8],
+    table: &mut [Label],
+    roots: &mut [u32],
+    image: &mut [u8],
+    mnemonics: &[u64; 50],
+    forms: &[u8; 50],
+    slots: &[u8; 293],
+) -> Assembled
+    requires { ⌜ Tables (now mnemonics) (now forms) (now slots) ⌝ ∗ ⌜ Starts (now source) (now roots) ⌝ }
+    ensures { λ r. ⌜ Assembles (now (source .entry)) (now (table .entry)) (now (image .entry)) (now (table .exit)) (now (image .exit)) r ⌝ }
+{
+    let pass = walk(source, table, roots, mnemonics, forms, slots);
+    let assembled = image_passes::second_pass::finish(source, image, pass, mnemonics, forms, slots);
+    image_labels::label::unlink(table, pass.labels);
+    assembled
+}
+
+// 4,096 empty hash buckets: few labels of an ordinary source share one, and clearing them takes less time than reading 1 KB.
+fn empty_roots() -> [u32; 4096]
+    ensures { λ r. ⌜ Bare r ⌝ }
+{
+    [0; 4096]
+}
+
+// The image of a source, and its labels. A source that is too long is refused before any bucket is cleared.
+pub fn assemble(source: &[u8], table: &mut [Label], image: &mut [u8]) -> Assembled
+    ensures { λ r. ⌜ Assembles (now (source .entry)) (now (table .entry)) (now (image .entry)) (now (table .exit)) (now (image .exit)) r ⌝ }
+{
+    if image_passes::first_pass::too_long(source) {
+        return image_passes::second_pass::overlong();
+    }
+    let mnemonics = &instruction::opcode::mnemonics();
+    let forms = &instruction::opcode::forms();
+    let slots = &instruction::opcode::slots();
+    let mut roots = empty_roots();
+    rooted(source, table, &mut roots, image, mnemonics, forms, slots)
+}

@@ -1,0 +1,53 @@
+-- `image_passes::first_pass::begin` meets its contract.
+use Prim.Native.Nat.{_≤_}
+use mathlib.Core.Path.{_≡_, ap, _∙_}
+use native.Mathlib.Omega.{arith}
+use lib.ListN.{length, take}
+use borrow.Author.Needs.{needs}
+use Rattle.text_lexical.specs.Bytes.{ascii, run}
+use Rattle.text.specs.Lines.{lines}
+use Rattle.image.specs.Assembling.{most-bytes}
+use Rattle.image_passes.proofs.Answers.{begins-high, begins-scan}
+use Rattle.image_passes.proofs.first_pass.begin.Statement.{statement}
+use Rattle.image_passes.proofs.first_pass.begin.Tie as tie
+
+-- how far the source is clean
+clean : (c : tie.After-ascii-end) → c .ascii-end .result ≡ run ascii (c .before .before .args .source .now)
+clean c = c .ascii-end .ensures ∙ omega arith
+
+-- it is not too long
+short : (c : tie.After-ascii-end) → length (c .before .before .args .source .now) ≤ most-bytes
+short c = c .before .before .pre .1
+
+ascii-end-requires : tie.Need-ascii-end-requires
+ascii-end-requires c κs = search needs
+
+line-number-requires : tie.Need-line-number-requires
+line-number-requires c κs = search needs
+
+stopped-requires : tie.Need-stopped-requires
+stopped-requires c κs = search needs
+
+returns : tie.Need-returns
+returns c =
+    let l = c .before in
+    let r = l .before .before in
+    let s = r .before .before .args .source .now in
+    begins-high (short r) (rw (← clean r) (l .before .if1 .taken)) (l .line-number .ensures ∙ ap (λ n. length (lines (take n s))) (clean r)) (c .stopped .ensures)
+
+begin-requires : tie.Need-begin-requires
+begin-requires c κs = search needs
+
+scan-requires : tie.Need-scan-requires
+scan-requires c κs =
+    let r = c .before .before in
+    (record { short = short r; in-text = omega arith; few-lines = omega arith; few-labels = omega arith; few-words = omega arith }, r .before .before .pre .0)
+
+returns-2 : tie.Need-returns-2
+returns-2 c =
+    let b = c .before in
+    let r = b .before .before in
+    begins-scan (short r) (b .begin .result) (b .begin .ensures) (rw (← clean r) (b .before .if1 .left)) (c .scan .ensures)
+
+pub begin-spec : {M : Type 1} → statement M
+begin-spec = tie.close (tie.spec ascii-end-requires line-number-requires stopped-requires returns begin-requires scan-requires returns-2)

@@ -1,0 +1,49 @@
+-- `image_passes::first_pass::step_of` meets its contract.
+use borrow.Author.Needs.{needs}
+use Rattle.image_passes.proofs.first_pass.step_of.Statement.{statement}
+use Rattle.image_passes.proofs.first_pass.step_of.Tie as tie
+
+enum-told : tie.Need-enum-told
+enum-told c = search needs
+
+enum-known-effect : tie.Need-enum-known-effect
+enum-known-effect c = search needs
+
+enum-told-2 : tie.Need-enum-told-2
+enum-told-2 c = search needs
+
+counted-requires : tie.Need-counted-requires
+counted-requires c κs = search needs
+
+add-t15 : tie.Need-add-t15
+add-t15 c = search needs
+
+enum-known-effect-2 : tie.Need-enum-known-effect-2
+enum-known-effect-2 c = search needs
+
+returns : tie.Need-returns
+returns c = rw (c .enum-told .given .1)
+
+returns-2 : tie.Need-returns-2
+returns-2 c = rw (c .before .effect .given .1)
+
+returns-3 : tie.Need-returns-3
+returns-3 c = rw (c .counted .ensures, c .before .enum-told2 .given .1)
+
+returns-4 : tie.Need-returns-4
+returns-4 c = rw (c .before .effect2 .given .1)
+
+pub step-of-spec : {M : Type 1} → statement M
+step-of-spec =
+    tie.close
+    (tie.spec
+    enum-told
+    enum-known-effect
+    enum-told-2
+    counted-requires
+    add-t15
+    enum-known-effect-2
+    returns
+    returns-2
+    returns-3
+    returns-4)

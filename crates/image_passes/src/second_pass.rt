@@ -1,0 +1,207 @@
+// The second walk writes the words; and what assembling answers.
+ghost use mathlib.Core.Path.{_≡_};
+ghost use mathlib.Core.List.{flatMap};
+ghost use Prim.Native.Nat.{_+_, _≤_, _<_};
+ghost use lib.ListN.{length};
+ghost use Rattle.text_lexical.specs.Numbers.{little};
+ghost use Rattle.instruction.specs.Words.{wordOf};
+ghost use Rattle.instruction.specs.Contracts.{opcodeNumbers, partsMeant};
+ghost use Rattle.instruction_codec.specs.Contracts.{Written};
+ghost use Rattle.image.specs.Contracts.{settingsMeant};
+ghost use Rattle.image.specs.declared.config.Checked.the-variants.{Good};
+ghost use Rattle.image_passes.specs.Contracts.{Tables, codedMeant, CodesLine, Readable, codeBytes, Ready, overlong as overlongAnswer, Fills, Finishes};
+use crate::first_pass::Pass;
+use crate::line::Effect;
+use image::config::Checked;
+use image::config::Config;
+use instruction::instruction::Instruction;
+use instruction::instruction::Operands;
+
+pub enum Assembled {
+    Is {
+        words: usize,
+        labels: usize,
+        config: Config,
+    },
+    Refused {
+        number: u8,
+        rust_line: usize,
+        line: usize,
+        labels: usize,
+    },
+    // 23: the length that is needed
+    TooShort {
+        labels: usize,
+        needed: usize,
+    },
+}
+
+// The word of a line, if it has one.
+enum Coded {
+    Word(u32),
+    Nothing,
+}
+
+// A line's word, the settings after the line, and where it ends.
+struct CodedLine {
+    coded: Coded,
+    config: Config,
+    end: usize,
+}
+
+// The word of an instruction by its row and operands.
+fn word_of(row: usize, operands: Operands, opcodes: &[u8; 50]) -> u32
+    requires { ⌜ row < 50 ⌝ ∗ ⌜ now opcodes ≡ opcodeNumbers ⌝ }
+    ensures { λ r. ⌜ r ≡ wordOf (partsMeant (record { row = row; operands = operands })) ⌝ }
+{
+    let instruction = Instruction::from_parts(row, operands);
+    instruction_encoder::encoder::encode(instruction, opcodes)
+}
+
+// The line that begins at `at`, where the settings are these.
+fn code_line(
+    source: &[u8],
+    at: usize,
+    config: Config,
+    mnemonics: &[u64; 50],
+    opcodes: &[u8; 50],
+    forms: &[u8; 50],
+    slots: &[u8; 293],
+) -> CodedLine
+    requires { ⌜ at ≤ length (now source) ⌝ ∗ ⌜ Tables (now mnemonics) (now forms) (now slots) ⌝ ∗ ⌜ now opcodes ≡ opcodeNumbers ⌝ }
+    ensures { λ r. ⌜ CodesLine (now (source .entry)) at (settingsMeant config) r ⌝ }
+{
+    let read = crate::line::read_line(source, at, config, mnemonics, forms, slots);
+    let end = read.end;
+    let effect = read.effect;
+    match effect {
+        Effect::Codes { row, operands } => CodedLine {
+            coded: Coded::Word(word_of(row, operands, opcodes)),
+            config,
+            end,
+        },
+        Effect::Sets(changed) => CodedLine {
+            coded: Coded::Nothing,
+            config: changed,
+            end,
+        },
+        _ => CodedLine {
+            coded: Coded::Nothing,
+            config,
+            end,
+        },
+    }
+}
+
+// A line's word, if it has one, written at a place.
+fn write_coded(image: &mut [u8], place: usize, coded: Coded) -> usize
+    requires { ⌜ place + length (flatMap (little 4) (codedMeant coded)) ≤ length (now image) ⌝ }
+    ensures { λ r. ⌜ Written (now (image .entry)) place (flatMap (little 4) (codedMeant coded)) r (now (image .exit)) ⌝ }
+{
+    match coded {
+        Coded::Nothing => place,
+        Coded::Word(word) => image::program::write_u32(image, place, word),
+    }
+}
+
+// The words of all lines, behind the header.
+fn second_pass(
+    source: &[u8],
+    image: &mut [u8],
+    mnemonics: &[u64; 50],
+    opcodes: &[u8; 50],
+    forms: &[u8; 50],
+    slots: &[u8; 293],
+) -> usize
+    requires { ⌜ Readable (now source) ⌝ ∗ ⌜ 32 + length (codeBytes (now source)) ≤ length (now image) ⌝ ∗ ⌜ Tables (now mnemonics) (now forms) (now slots) ⌝ ∗ ⌜ now opcodes ≡ opcodeNumbers ⌝ }
+    ensures { λ r. ⌜ Written (now (image .entry)) 32 (codeBytes (now (source .entry))) r (now (image .exit)) ⌝ }
+{
+    let mut place: usize = 32;
+    let mut at: usize = 0;
+    let mut config = Config::begin();
+    loop {
+        let line = code_line(source, at, config, mnemonics, opcodes, forms, slots);
+        let coded = line.coded;
+        config = line.config;
+        place = write_coded(image, place, coded);
+        let end = line.end;
+        if source.len() <= end {
+            return place;
+        }
+        at = end + 1;
+    }
+}
+
+// The image of a source that the first walk has finished: 23, or the header and the words.
+fn write_image(
+    source: &[u8],
+    image: &mut [u8],
+    words: usize,
+    labels: usize,
+    config: Config,
+    mnemonics: &[u64; 50],
+    forms: &[u8; 50],
+    slots: &[u8; 293],
+) -> Assembled
+    requires { ⌜ Ready (now source) words (settingsMeant config) ⌝ ∗ ⌜ Tables (now mnemonics) (now forms) (now slots) ⌝ }
+    ensures { λ r. ⌜ Fills (now (source .entry)) words labels (settingsMeant config) (now (image .entry)) (now (image .exit)) r ⌝ }
+{
+    let needed = 32 + 4 * words;
+    if image.len() < needed {
+        return Assembled::TooShort { labels, needed };
+    }
+    let opcodes = instruction::opcode::opcodes();
+    image::program::write_header(image, config, 4 * (words as u32));
+    second_pass(source, image, mnemonics, &opcodes, forms, slots);
+    Assembled::Is {
+        words,
+        labels,
+        config,
+    }
+}
+
+// The answer for a source that is too long.
+pub fn overlong() -> Assembled
+    ensures { λ r. ⌜ r ≡ overlongAnswer ⌝ }
+{
+    Assembled::Refused {
+        number: 1,
+        rust_line: 0,
+        line: 0,
+        labels: 0,
+    }
+}
+
+// What a finished first walk comes to: its refusal, or the image.
+pub fn finish(
+    source: &[u8],
+    image: &mut [u8],
+    pass: Pass,
+    mnemonics: &[u64; 50],
+    forms: &[u8; 50],
+    slots: &[u8; 293],
+) -> Assembled
+    requires { ⌜ (pass .fault ≡ Good → Ready (now source) (pass .words) (settingsMeant (pass .config))) ⌝ ∗ ⌜ Tables (now mnemonics) (now forms) (now slots) ⌝ }
+    ensures { λ r. ⌜ Finishes (now (source .entry)) pass (now (image .entry)) (now (image .exit)) r ⌝ }
+{
+    let labels = pass.labels;
+    let fault = pass.fault;
+    if let Checked::Refused(number) = fault {
+        return Assembled::Refused {
+            number,
+            rust_line: pass.rust_line,
+            line: pass.line,
+            labels,
+        };
+    }
+    write_image(
+        source,
+        image,
+        pass.words,
+        labels,
+        pass.config,
+        mnemonics,
+        forms,
+        slots,
+    )
+}

@@ -1,0 +1,81 @@
+-- `instruction_codec::display::write_decimal` meets its contract. The loop's invariant: the digits behind `place` are written, and those of `rest` are not.
+use mathlib.Core.Path.{ap}
+use native.Mathlib.Omega.{arith}
+use lib.ListN.{length, length-set}
+use borrow.Author.Needs.{needs}
+use Rattle.instruction_codec.proofs.Decimals.{Unwritten, decimal-one, decimal-longer, unwritten-all, unwritten-less, unwritten-none}
+use Rattle.instruction_codec.proofs.display.write_decimal.Statement.{statement}
+use Rattle.instruction_codec.proofs.display.write_decimal.Tie as tie
+
+abbrev Inv-loop : tie.InvT-loop
+Inv-loop out₀ at n end place₀ rest₀ out place rest = Unwritten out₀ at n out place rest
+
+abbrev μ-loop : tie.MeasureT-loop
+μ-loop out₀ at n end place₀ rest₀ out place rest = rest
+
+decimal-length-requires : tie.Need-decimal-length-requires Inv-loop μ-loop
+decimal-length-requires c κs = search needs
+
+add-end : tie.Need-add-end Inv-loop μ-loop
+add-end c = omega (arith, c .decimal-length .ensures .0)
+
+loop-holds : tie.Need-loop-holds Inv-loop μ-loop
+loop-holds c =
+    let a = c .before .before .args in
+    rw (c .decimal-length .ensures .0) (unwritten-all (a .out .now) (a .at) (a .n) (c .before .before .pre))
+
+sub-place : tie.Need-sub-place Inv-loop μ-loop
+sub-place c = omega (arith, decimal-longer (c .before .loop .rest) (c .loop-test .taken), c .before .loop .inv .ends)
+
+add-out : tie.Need-add-out Inv-loop μ-loop
+add-out c = omega arith
+
+cast-out : tie.Need-cast-out Inv-loop μ-loop
+cast-out c = omega arith
+
+slice-write-out : tie.Need-slice-write-out Inv-loop μ-loop
+slice-write-out c = omega (arith, decimal-longer (c .before .loop .rest) (c .loop-test .taken), c .before .loop .inv .ends, c .before .loop .inv .room)
+
+loop-less : tie.Need-loop-less Inv-loop μ-loop
+loop-less c = omega arith
+
+loop-again : tie.Need-loop-again Inv-loop μ-loop
+loop-again c = unwritten-less (c .before .loop .inv) (c .loop-test .taken)
+
+add-out-2 : tie.Need-add-out-2 Inv-loop μ-loop
+add-out-2 c = omega arith
+
+cast-out-2 : tie.Need-cast-out-2 Inv-loop μ-loop
+cast-out-2 c = omega arith
+
+slice-write-out-2 : tie.Need-slice-write-out-2 Inv-loop μ-loop
+slice-write-out-2 c =
+    let u = c .before .loop .inv in
+    omega (arith, ap length (decimal-one (c .before .loop .rest) (omega arith)), u .ends, u .room)
+
+same-length : tie.Need-same-length Inv-loop μ-loop
+same-length c = simp length-set (c .before .loop .inv .long)
+
+returns : tie.Need-returns Inv-loop μ-loop
+returns c = rw (c .before .before .decimal-length .ensures .0) (unwritten-none (c .before .loop .inv) (omega arith))
+
+pub write-decimal-spec : {M : Type 1} → statement M
+write-decimal-spec =
+    tie.close
+    (tie.spec
+    Inv-loop
+    μ-loop
+    decimal-length-requires
+    add-end
+    loop-holds
+    sub-place
+    add-out
+    cast-out
+    slice-write-out
+    loop-less
+    loop-again
+    add-out-2
+    cast-out-2
+    slice-write-out-2
+    same-length
+    returns)

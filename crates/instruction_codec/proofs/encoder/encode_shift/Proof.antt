@@ -1,0 +1,31 @@
+-- `instruction_codec::encoder::encode_shift` meets its contract.
+use mathlib.Core.Path.{refl}
+use native.Mathlib.Omega.{arith}
+use borrow.Author.Needs.{needs}
+use Rattle.text_lexical.specs.Contracts.{indexOf, wholeMeant}
+use Rattle.instruction_codec.proofs.Forms.{word-shift}
+use Rattle.instruction_codec.proofs.encoder.encode_shift.Statement.{statement}
+use Rattle.instruction_codec.proofs.encoder.encode_shift.Tie as tie
+
+opcode-of-requires : tie.Need-opcode-of-requires
+opcode-of-requires c κs = search needs
+
+reduced-requires : tie.Need-reduced-requires
+reduced-requires c κs = record { width = 8; is-power = refl; most = omega arith }
+
+spread-requires : tie.Need-spread-requires
+spread-requires c κs = search needs
+
+add-result : tie.Need-add-result
+add-result c = search needs
+
+returns : tie.Need-returns
+returns c =
+    let n = c .before in
+    let o = n .before in
+    let a = o .before .args in
+    omega (arith, o .opcode-of .ensures .0, c .spread .ensures .0, word-shift (a .row) (indexOf (a .rd)) (indexOf (a .rs1)) _ (wholeMeant (a .shamt)) (n .reduced .ensures .0))
+
+pub encode-shift-spec : {M : Type 1} → statement M
+encode-shift-spec =
+    tie.close (tie.spec opcode-of-requires reduced-requires spread-requires add-result returns)

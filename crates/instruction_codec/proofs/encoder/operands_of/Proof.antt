@@ -1,0 +1,45 @@
+-- `instruction_codec::encoder::operands_of` meets its contract.
+use borrow.Author.Needs.{needs}
+use Rattle.instruction_codec.proofs.Forms.{registers-store, registers-other}
+use Rattle.instruction_codec.proofs.encoder.operands_of.Statement.{statement}
+use Rattle.instruction_codec.proofs.encoder.operands_of.Tie as tie
+
+register-at-requires : tie.Need-register-at-requires
+register-at-requires c κs = search needs
+
+register-at-requires-2 : tie.Need-register-at-requires-2
+register-at-requires-2 c κs = search needs
+
+register-at-requires-3 : tie.Need-register-at-requires-3
+register-at-requires-3 c κs = search needs
+
+number-at-requires : tie.Need-number-at-requires
+number-at-requires c κs = search needs
+
+returns : tie.Need-returns
+returns c =
+    let t = c .before .before in
+    let a = t .before .before .before .args in
+    let r = registers-store (a .form) (a .word) _ _ _ (t .before .before .register-at .ensures) (t .before .register-at2 .ensures) (c .if1 .taken) in
+    λ j. record { registers = r j; number = c .before .number-at .ensures j }
+
+returns-2 : tie.Need-returns-2
+returns-2 c =
+    let t = c .before .before in
+    let a = t .before .before .before .args in
+    let r =
+    registers-other (a .form) (a .word) _ _ _ (t .before .before .register-at .ensures) (t .before .register-at2 .ensures) (t .register-at3 .ensures)
+    (c .if1 .left)
+    in
+    λ j. record { registers = r j; number = c .before .number-at .ensures j }
+
+pub operands-of-spec : {M : Type 1} → statement M
+operands-of-spec =
+    tie.close
+    (tie.spec
+    register-at-requires
+    register-at-requires-2
+    register-at-requires-3
+    number-at-requires
+    returns
+    returns-2)

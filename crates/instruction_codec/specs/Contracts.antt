@@ -1,0 +1,69 @@
+-- What the values of coding and writing mean in terms of the definitions, and what the functions promise.
+use Prim.Native.Nat.{ℕ, _+_, _^_, _≤_}
+use mathlib.Core.Path.{_≡_}
+use mathlib.Core.Bool.{true}
+use mathlib.Core.Option.{Option}
+use mathlib.Core.List.{List, [], _∷_, _++_}
+use lib.ListN.{length, take, drop}
+use lib.IntN.{ℤ}
+use Rattle.text_lexical.specs.Bytes.{Result, value, refused}
+use Rattle.text_lexical.specs.Numbers.{meantBy}
+use Rattle.text_lexical.specs.Contracts.{indexOf, wholeMeant}
+use Rattle.text_lexical.specs.declared.register.Register.{Register}
+use Rattle.instruction.specs.Table.{Form, places}
+use Rattle.instruction.specs.Operands.{Instruction as Meant}
+use Rattle.instruction.specs.Text.{registerText, operandsText}
+use Rattle.instruction.specs.Words.{fields}
+use Rattle.instruction.specs.Contracts.{rowAt, instructionMeant}
+use Rattle.instruction_codec.specs.declared.encoder.Decoded.{Decoded}
+use Rattle.instruction_codec.specs.declared.encoder.Decoded.the-variants.{Is as IsDecoded, Refused as RefusedDecoded}
+
+-- ---- words
+
+-- The instruction that a word was decoded to, or the refusal.
+abbrev pub decodedMeant : Decoded → Result Meant
+decodedMeant (IsDecoded i) = value (instructionMeant i)
+decodedMeant (RefusedDecoded n) = refused n
+
+-- The word of a form's registers and number, with the opcode of a row.
+unfoldable pub formWord : Form → ℕ → List ℕ → Option ℤ → ℕ
+formWord f row rs n = rowAt row .opcode + fields (places f) rs n
+
+-- A power of two, for a field of at most 21 bits.
+pub record Power (modulus : ℕ) : Type 0 where
+  pub width : ℕ
+  pub is-power : modulus ≡ 2 ^ width
+  pub most : width ≤ 21
+
+-- The number that a field means as signed, whichever power of two its values are below.
+pub record Signed (modulus field : ℕ) (z : ℤ) : Type 0 where
+  pub at-width : (k : ℕ) → modulus ≡ 2 ^ k → z ≡ meantBy true k field
+
+-- ---- texts in a buffer
+
+-- A register with a comma and a space after it; with the space before the operands; and two registers.
+abbrev pub nextText : Register → List ℕ
+nextText r = registerText (indexOf r) ++ (44 ∷ 32 ∷ [])
+
+abbrev pub firstText : Register → List ℕ
+firstText r = 32 ∷ nextText r
+
+abbrev pub pairText : Register → Register → List ℕ
+pairText a b = firstText a ++ nextText b
+
+-- A register in brackets.
+abbrev pub baseText : Register → List ℕ
+baseText r = 40 ∷ (registerText (indexOf r) ++ (41 ∷ []))
+
+-- The text of a form's registers and number, with the mnemonic of a row.
+unfoldable pub formText : Form → ℕ → List ℕ → Option ℤ → List ℕ
+formText f row rs n = rowAt row .mnemonic ++ operandsText (places f) rs n
+
+-- A buffer in which a text was put at a place.
+unfoldable pub put : List ℕ → ℕ → List ℕ → List ℕ
+put old at text = take at old ++ (text ++ drop (at + length text) old)
+
+-- A text was written at a place: where it ends, and the buffer afterwards.
+pub record Written (old : List ℕ) (at : ℕ) (text : List ℕ) (end : ℕ) (new : List ℕ) : Type 0 where
+  pub ends : end ≡ at + length text
+  pub holds : new ≡ put old at text

@@ -1,0 +1,28 @@
+-- The word of a case: its mnemonic names the row whose opcode the code takes, and its form is that row's.
+use mathlib.Core.Path.{_≡_, sym, ap, _∙_}
+use Prim.Native.Nat.{ℕ}
+use mathlib.Core.Bool.{true}
+use lib.Dec.{ltb}
+use borrow.Author.Tests.{ltb-true}
+use Rattle.text_lexical.specs.Contracts.{wholeMeant}
+use Rattle.instruction.specs.Table.{Form, I, Load, places}
+use Rattle.instruction.specs.Words.{wordOf}
+use Rattle.instruction.specs.Contracts.{rowAt, registersFor, numberFor, registersOf, partsOf, instructionMeant}
+use Rattle.instruction.specs.declared.instruction.Instruction.{Instruction}
+use Rattle.instruction.proofs.Parts.{case-row}
+use Rattle.instruction_codec.specs.Contracts.{formWord}
+use Rattle.instruction_codec.proofs.Forms.{word-load}
+
+module _ (k : ℕ) (i j : Instruction) (w : ℕ) (e : i ≡ j) (below : ltb k 50 ≡ true) (mnemonic : partsOf j .mnemonic ≡ rowAt k .mnemonic) where
+  pub coded : (f : Form) → rowAt k .form ≡ f
+      → w ≡ formWord f k (registersFor (places f) (registersOf (partsOf j .operands))) (numberFor (places f) (wholeMeant (partsOf j .operands .number)))
+      → w ≡ wordOf (instructionMeant i)
+  unfolding formWord wordOf
+  coded f form h = h ∙ rw (e, case-row k j below mnemonic, form)
+
+  -- A load's word is as addi's.
+  pub coded-load : rowAt k .form ≡ Load
+      → w ≡ formWord I k (registersFor (places I) (registersOf (partsOf j .operands))) (numberFor (places I) (wholeMeant (partsOf j .operands .number)))
+      → w ≡ wordOf (instructionMeant i)
+  unfolding places registersFor numberFor
+  coded-load form h = coded Load form (h ∙ sym (word-load _ _ _ _))

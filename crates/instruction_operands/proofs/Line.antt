@@ -1,0 +1,221 @@
+-- The tokens that a line's record keeps, as the code looks at them: the mnemonic's, and the six behind it.
+use Prim.Native.Nat.{ℕ, zero, suc, _+_, _-_, _≤_, _<_}
+use mathlib.Core.Path.{_≡_, refl, sym, ap, _∙_, subst}
+use native.Mathlib.Omega.{arith}
+use native.Mathlib.Numerals.{add-one}
+use mathlib.Core.Option.{none, some}
+use mathlib.Core.List.{List, [], _∷_, _++_, map}
+use lib.ListN.{length, take, drop, getD, length-take, length-map, drop-of-length-le, List·getD-map, List·getD-eq-default}
+use lib.Seq.{take-nil, drop-cons, take-append-le, getD-take, getD-drop}
+use lib.Dec.{eqb}
+use borrow.Author.Tests.{eq-eqb, ne-eqb}
+use Rattle.text_lexical.specs.Bytes.{Result, value, refused, lower, find}
+use Rattle.text_lexical.specs.Contracts.{keyOf}
+use Rattle.text_lexical.proofs.Tests.{split}
+use Rattle.text_lexical.proofs.Keys.{Below}
+use Rattle.text.specs.Tokens.{Token}
+use Rattle.text.specs.Lines.{Line}
+use Rattle.text.specs.Contracts.{kindMeant, filler, firsts, meant, spelling}
+use Rattle.text.specs.declared.lexer.Kind.{Kind}
+use Rattle.text.specs.declared.lexer.Kind.the-variants.{Identifier}
+use Rattle.text.specs.declared.lexer.Token.{Token as KeptToken}
+use Rattle.instruction.specs.Table.{Place, Form, R, I, Shift, Load, Store, Branch, Jump, System, places, Row, table, rowNamed}
+use Rattle.instruction.specs.Operands.{Instruction, readIdentifier, readOperands, made, readRow, readMnemonic, readInstruction, behind}
+use Rattle.instruction.specs.Contracts.{rowAt, formAt, formNumber, partsMeant}
+use Rattle.instruction_operands.specs.Contracts.{operandMeant, sixMeant, sixBehind, Reads}
+use Rattle.instruction_operands.specs.declared.assembler.Six.{Six}
+use Rattle.instruction_operands.specs.declared.assembler.Operand.{Operand}
+use Rattle.instruction_operands.specs.declared.assembler.Operand.the-variants.{Are, Refused}
+use Rattle.instruction.specs.declared.instruction.Operands.{Operands}
+use Rattle.instruction.proofs.Columns.{form-numbered}
+use Rattle.instruction.proofs.Lookup.{row-by-key}
+use Rattle.instruction_operands.proofs.Parsing.{lowered-below}
+
+-- ---- forms by their numbers
+
+-- What holds of each of k numbers from one on.
+abbrev pub Each : (ℕ → Type 0) → ℕ → ℕ → Type 0
+Each P lo zero = Unit {0}
+Each P lo (suc k) = P lo × Each P (suc lo) k
+
+-- It holds of a number that is one of them.
+pub in-run : (P : ℕ → Type 0) (lo k n : ℕ) → lo ≤ n → n < lo + k → Each P lo k → P n
+in-run P lo zero n l h e = absurd (omega arith)
+in-run P lo (suc k) n l h e =
+    split lo n (λ m. in-run P (suc lo) k n m (omega arith) (e .1)) (λ m. let q : lo ≡ n = omega arith in subst P q (e .0))
+
+-- The numbers past the forms' are System's.
+pub past-forms : (n : ℕ) → 5 ≤ n → (n ≡ 5 → ⊥) → (n ≡ 6 → ⊥) → formAt n ≡ System
+past-forms n h five six = List·getD-eq-default (R ∷ I ∷ Shift ∷ Load ∷ Store ∷ Branch ∷ Jump ∷ []) System {n = n} (omega arith)
+
+-- No form has more than six operand tokens.
+pub six-places : (f : Form) → length (places f) ≤ 6
+unfolding places
+six-places R = omega arith
+six-places I = omega arith
+six-places Shift = omega arith
+six-places Load = omega arith
+six-places Store = omega arith
+six-places Branch = omega arith
+six-places Jump = omega arith
+six-places System = omega arith
+
+-- ---- the tokens behind the mnemonic
+
+-- What stands at a place within a list does not depend on what stands past it.
+pub getD-any : {A : Type 0} (l : List A) (i : ℕ) (d e : A) → i < length l → getD l i d ≡ getD l i e
+getD-any l i d e h = let p = drop-cons l i d h in let q = drop-cons l i e h in cc
+
+-- The kinds of the six behind a place, whatever stands past the tokens.
+pub six-any : (ts : List KeptToken) (at : ℕ) → length ts ≡ 9 → at ≤ 2 → (d : KeptToken) → _≡_ {A = Six}
+    (record {
+      a = getD ts (at + 1) d .kind;
+      b = getD ts (at + 2) d .kind;
+      c = getD ts (at + 3) d .kind;
+      d = getD ts (at + 4) d .kind;
+      e = getD ts (at + 5) d .kind;
+      f = getD ts (at + 6) d .kind;
+    })
+    (sixBehind ts at)
+six-any ts at nine few d =
+    rw (
+      getD-any ts (at + 1) d filler (omega arith),
+      getD-any ts (at + 2) d filler (omega arith),
+      getD-any ts (at + 3) d filler (omega arith),
+      getD-any ts (at + 4) d filler (omega arith),
+      getD-any ts (at + 5) d filler (omega arith),
+      getD-any ts (at + 6) d filler (omega arith),
+    )
+
+-- As many tokens are looked at as there are places.
+read-take : (ps : List Place) (ts : List Token) → readOperands ps (take (length ps) ts) ≡ readOperands ps ts
+unfolding readOperands
+read-take [] ts = refl
+read-take (p ∷ ps) [] = refl
+read-take (p ∷ ps) (t ∷ ts) = rw (read-take ps ts)
+
+read-front : (ps : List Place) (ts us : List Token) → length ps ≤ length ts → readOperands ps (ts ++ us) ≡ readOperands ps ts
+read-front ps ts us h = rw (← read-take ps (ts ++ us), take-append-le (length ps) ts us h) (read-take ps ts)
+
+map-take : {A B : Type 0} (f : A → B) (n : ℕ) (l : List A) → map f (take n l) ≡ take n (map f l)
+map-take f zero l = refl
+map-take f (suc n) [] = refl
+map-take f (suc n) (a ∷ l) = ap (λ x. f a ∷ x) (map-take f n l)
+
+-- Of the first tokens, those behind some.
+drop-take : {A B : Type 0} (f : A → B) (k n m : ℕ) (l : List A) → m ≡ k + n → drop k (map f (take m l)) ≡ take n (map f (drop k l))
+drop-take f zero n m l e = let q : m ≡ n = omega arith in rw q (map-take f n l)
+drop-take f (suc k) n zero l e = absurd (omega arith)
+drop-take f (suc k) n (suc m) [] e = sym (take-nil n)
+drop-take f (suc k) n (suc m) (a ∷ l) e = drop-take f k n m l (omega arith)
+
+drop-next : {A : Type 0} (l : List A) (i j : ℕ) (d : A) → j ≡ suc i → i < length l → drop i l ≡ getD l i d ∷ drop j l
+drop-next l i j d e h = rw e (drop-cons l i d h)
+
+module _ (s : List ℕ) (ts : List KeptToken) (at count : ℕ) (nine : length ts ≡ 9) (few : at ≤ 2) where
+  -- The tokens behind a place begin with the six.
+  six-first : map (meant s) (drop (at + 1) ts) ≡ sixMeant (λ i. spelling s (getD ts (at + i) filler)) (sixBehind ts at) ++ map (meant s) (drop (at + 7) ts)
+  six-first =
+      rw (
+        drop-next ts (at + 1) (at + 2) filler (omega arith) (omega arith),
+        drop-next ts (at + 2) (at + 3) filler (omega arith) (omega arith),
+        drop-next ts (at + 3) (at + 4) filler (omega arith) (omega arith),
+        drop-next ts (at + 4) (at + 5) filler (omega arith) (omega arith),
+        drop-next ts (at + 5) (at + 6) filler (omega arith) (omega arith),
+        drop-next ts (at + 6) (at + 7) filler (omega arith) (omega arith),
+      )
+
+  -- What is read at places behind the mnemonic is read of the six.
+  read-six : (ps : List Place) → at < count → count - at - 1 ≡ length ps → length ps ≤ 6
+      → readOperands ps (drop (at + 1) (firsts s ts count)) ≡ readOperands ps (sixMeant (λ i. spelling s (getD ts (at + i) filler)) (sixBehind ts at))
+  read-six ps h e l =
+      ap (readOperands ps) (drop-take (meant s) (at + 1) (length ps) count ts (omega arith))
+      ∙ read-take ps (map (meant s) (drop (at + 1) ts))
+      ∙ ap (readOperands ps) six-first
+      ∙ read-front ps (sixMeant (λ i. spelling s (getD ts (at + i) filler)) (sixBehind ts at)) _ l
+
+  -- A row's operands, where there are as many tokens as its form has.
+  pub row-read : (r : Row) (form n : ℕ) (k : Six) (o : Operand) → form ≡ formNumber (r .form) → n ≡ length (places (formAt form)) → at < count
+      → count - at - 1 ≡ n → k ≡ sixBehind ts at → Reads (places (formAt form)) k o
+      → made r (operandMeant (places (r .form)) o) ≡ readRow r (count - at - 1) (drop (at + 1) (firsts s ts count))
+  unfolding readRow
+  row-read r form n k o f m h e q reads =
+      let g : formAt form ≡ r .form = ap formAt f ∙ form-numbered (r .form) in
+      let c : count - at - 1 ≡ length (places (r .form)) = e ∙ m ∙ ap (λ x. length (places x)) g in
+      let u : ℕ → List ℕ = λ i. spelling s (getD ts (at + i) filler) in
+      let t = subst (λ (x : Six). operandMeant (places (formAt form)) o ≡ readOperands (places (formAt form)) (sixMeant u x)) q (reads u) in
+      rw (readRow, eq-eqb (count - at - 1) (length (places (r .form))) c, read-six (places (r .form)) h c (six-places (r .form)))
+      (ap (made r) (subst (λ x. operandMeant (places x) o ≡ readOperands (places x) (sixMeant u (sixBehind ts at))) g t))
+
+-- Where there are no operands, their refusal is all.
+pub made-refused : {o : Operand} {n : ℕ} {x : Result Instruction} (r : Row) (ps : List Place) → o ≡ Refused n → made r (operandMeant ps o) ≡ x → refused n ≡ x
+unfolding made
+made-refused r ps g e = rw g at e
+
+-- The instruction of a row and its operands.
+pub made-read : {o : Operand} {p : Operands} {x : Result Instruction} (row : ℕ) → o ≡ Are p
+    → made (rowAt row) (operandMeant (places (rowAt row .form)) o) ≡ x → value (partsMeant (record { row = row; operands = p })) ≡ x
+unfolding made
+made-read row g e = rw g at e
+
+-- A row with another count of tokens.
+pub row-refused : (r : Row) (form n count : ℕ) (ts : List Token) → form ≡ formNumber (r .form) → n ≡ length (places (formAt form))
+    → (count ≡ n → ⊥) → refused 16 ≡ readRow r count ts
+unfolding readRow
+row-refused r form n count ts f m h =
+    let g : formAt form ≡ r .form = ap formAt f ∙ form-numbered (r .form) in
+    let c : n ≡ length (places (r .form)) = m ∙ ap (λ x. length (places x)) g in
+    rw (readRow, ne-eqb count (length (places (r .form))) (λ e. h (e ∙ sym c)))
+
+-- ---- the mnemonic's token
+
+module _ (s : List ℕ) (ts : List KeptToken) (at count : ℕ) where
+  -- There is none.
+  pub first-none : count ≤ at → refused 14 ≡ readInstruction (behind at (record { count = count; first = firsts s ts count }))
+  unfolding readInstruction behind
+  first-none h =
+      rw (drop-of-length-le (firsts s ts count) {i = at} (rw (length-map (take count ts) (meant s), length-take count ts) (omega arith)))
+
+  -- There is one.
+  pub first-some : (d : KeptToken) → at < count → at < length ts
+      → readMnemonic (meant s (getD ts at d)) (count - at - 1) (drop (at + 1) (firsts s ts count))
+      ≡ readInstruction (behind at (record { count = count; first = firsts s ts count }))
+  unfolding readInstruction behind
+  first-some d h l =
+      let n : at < length (firsts s ts count) = rw (length-map (take count ts) (meant s), length-take count ts) (omega arith) in
+      rw (drop-cons (firsts s ts count) at (meant s d) n, List·getD-map (meant s) (take count ts) at d, getD-take count ts at d h, add-one at)
+
+-- ---- the mnemonic's row
+
+-- A part of a text of bytes.
+below-take : (n : ℕ) (s : List ℕ) → Below s → Below (take n s)
+below-take zero s h i = omega arith
+below-take (suc n) [] h i = omega arith
+below-take (suc n) (b ∷ s) h zero = h 0
+below-take (suc n) (b ∷ s) h (suc i) = below-take n s (λ j. h (suc j)) i
+
+pub below-part : (k n : ℕ) (s : List ℕ) → Below s → Below (take n (drop k s))
+below-part k n s h = below-take n (drop k s) (λ j. rw (getD-drop k s j 0) (h (k + j)))
+
+-- A mnemonic's row is found by the key of its spelling in lower case.
+pub named-by-key : (u : List ℕ) (key : ℕ) → Below u → key ≡ keyOf (map lower u) → find (λ q. eqb (keyOf (q .mnemonic)) key) table ≡ rowNamed (map lower u)
+named-by-key u key h e = rw e (sym (row-by-key (map lower u) (lowered-below u h)))
+
+-- No row has the mnemonic.
+pub mnemonic-unknown : {k : Kind} {x : Result Instruction} (u : List ℕ) (count : ℕ) (ts : List Token) → k ≡ Identifier → rowNamed (map lower u) ≡ none
+    → readMnemonic (kindMeant k u) count ts ≡ x → refused 15 ≡ x
+unfolding readMnemonic readIdentifier
+mnemonic-unknown u count ts g e h = rw (g, readMnemonic, e) at h
+
+-- A row has it.
+pub mnemonic-known : {k : Kind} {x y : Result Instruction} (u : List ℕ) (count : ℕ) (ts : List Token) (r : Row) → k ≡ Identifier → rowNamed (map lower u) ≡ some r
+    → y ≡ readRow r count ts → readMnemonic (kindMeant k u) count ts ≡ x → y ≡ x
+unfolding readMnemonic readIdentifier
+mnemonic-known u count ts r g e h i = h ∙ (rw (g, readMnemonic, e) at i)
+
+-- ---- a line without a label
+
+-- Where no token is taken off, the line is read as it is.
+pub behind-none : (l : Line) → readInstruction (behind 0 l) ≡ readInstruction l
+unfolding behind
+behind-none l = let e : l .count - 0 ≡ l .count = omega arith in λ j. readInstruction (record { count = e j; first = l .first })

@@ -1,0 +1,49 @@
+-- `test_replay::tally::Refusals::with` meets its contract.
+use Prim.Native.Nat.{_≤_}
+use mathlib.Core.Path.{_≡_}
+use native.Mathlib.Omega.{arith}
+use lib.ListN.{length, getD}
+use lib.Seq.{set-out}
+use borrow.Author.Needs.{needs}
+use Rattle.test_replay.specs.Tally.{oneMore, counted}
+use Rattle.test_replay.proofs.tally.Refusals.with.Statement.{statement}
+use Rattle.test_replay.proofs.tally.Refusals.with.Tie as tie
+
+mul-more : tie.Need-mul-more
+mul-more c = search needs
+
+array-read-more : tie.Need-array-read-more
+array-read-more c = search needs
+
+more-requires : tie.Need-more-requires
+more-requires c κs = search needs
+
+mul-counts : tie.Need-mul-counts
+mul-counts c = search needs
+
+array-write-counts : tie.Need-array-write-counts
+array-write-counts c = search needs
+
+returns : tie.Need-returns
+unfolding counted
+returns c = rw (c .more .ensures)
+
+returns-2 : tie.Need-returns-2
+unfolding counted
+returns-2 c =
+    let a = c .before .before .args in
+    let e : length (a .self .counts) ≡ 33 = search needs in
+    let h : length (a .self .counts) ≤ a .number = omega arith in
+    rw (set-out (a .self .counts) (a .number) (oneMore (getD (a .self .counts) (a .number) 0)) h)
+
+pub with-spec : {M : Type 1} → statement M
+with-spec =
+    tie.close
+    (tie.spec
+    mul-more
+    array-read-more
+    more-requires
+    mul-counts
+    array-write-counts
+    returns
+    returns-2)

@@ -1,0 +1,142 @@
+-- Keys: a spelling of at most seven bytes is told by its key, and a name is found by it.
+use mathlib.Core.Path.{_≡_, refl, sym, ap, _∙_}
+use Prim.Native.Nat.{ℕ, zero, suc, _+_, _-_, _*_, _^_, _≤_, _<_}
+use native.Mathlib.Nat.{pow-suc}
+use native.Mathlib.Omega.{arith}
+use mathlib.Core.Bool.{Bool, true, false}
+use mathlib.Core.List.{List, [], _∷_}
+use mathlib.Core.Option.{Option, none}
+use lib.ListN.{length, drop, getD, length-drop}
+use lib.Seq.{drop-cons, drop-length, getD-drop}
+use lib.Dec.{leb, ltb, eqb}
+use borrow.Author.Tests.{le-leb, lt-leb, ne-eqb, eqb-true, eqb-false, leb-true, ltb-true}
+use Rattle.text_lexical.specs.Bytes.{bytes, same, find, every, each}
+use Rattle.text_lexical.specs.Names.{Name, name, named, numbered, conventional, present}
+use Rattle.text_lexical.specs.Contracts.{packed, keyOf, nameNumber}
+use Rattle.text_lexical.proofs.Tests.{split, by-test, both, not-true}
+use Rattle.text_lexical.proofs.Strings.{every-head, every-tail, same-eq, eq-same}
+
+-- Every byte is below 256.
+abbrev pub Below : List ℕ → Type 0
+Below s = (i : ℕ) → getD s i 0 < 256
+
+below-tail : (b : ℕ) (s : List ℕ) → Below (b ∷ s) → Below s
+below-tail b s h i = h (suc i)
+
+below-drop : (i : ℕ) (s : List ℕ) → Below s → Below (drop i s)
+below-drop i s h j = rw (getD-drop i s j 0) (h (i + j))
+
+-- ---- packing, byte by byte from the end
+
+packed-small : (n : ℕ) (s : List ℕ) → length s ≤ n → Below s → packed s < 2 * 256 ^ n
+unfolding packed
+packed-small n [] l h = omega (arith, pos n)
+  where
+    pos : (n : ℕ) → 0 < 256 ^ n
+    pos zero = omega arith
+    pos (suc n) = rw (pow-suc 256 n) (omega (arith, pos n))
+packed-small zero (b ∷ s) l h = absurd (omega arith)
+packed-small (suc n) (b ∷ s) l h = rw (pow-suc 256 n) (omega (arith, h 0, packed-small n s (omega arith) (below-tail b s h)))
+
+-- There is room for a byte more.
+pub packed-room : (s : List ℕ) (i : ℕ) → length s ≤ 7 → 0 < i → Below s → packed (drop i s) < 2 * 256 ^ 6
+packed-room s i l p h = packed-small 6 (drop i s) (rw (length-drop i s) (omega arith)) (below-drop i s h)
+
+packed-more : (s : List ℕ) (j : ℕ) → j < length s → packed (drop (suc j) s) * 256 + getD s j 0 ≡ packed (drop j s)
+unfolding packed
+packed-more s j l = rw (drop-cons s j 0 l) (omega arith)
+
+pub packed-step : (s : List ℕ) (i : ℕ) → 0 < i → i ≤ length s → packed (drop i s) * 256 + getD s (i - 1) 0 ≡ packed (drop (i - 1) s)
+packed-step s zero p l = absurd (omega arith)
+packed-step s (suc j) p l = let e : suc j - 1 ≡ j = omega arith in rw e (packed-more s j (omega arith))
+
+pub packed-none : (s : List ℕ) → packed (drop (length s) s) ≡ 1
+unfolding packed
+packed-none s = rw (drop-length s)
+
+pub key-long : (s : List ℕ) → 7 < length s → keyOf s ≡ 0
+unfolding keyOf
+key-long s h = rw (keyOf, lt-leb (length s) 7 h)
+
+pub key-short : (s : List ℕ) → length s ≤ 7 → keyOf s ≡ packed s
+unfolding keyOf
+key-short s h = rw (keyOf, le-leb (length s) 7 h)
+
+-- ---- a spelling and its key
+
+packed-pos : (s : List ℕ) → 0 < packed s
+unfolding packed
+packed-pos [] = omega arith
+packed-pos (b ∷ s) = omega (arith, packed-pos s)
+
+packed-eq : (s t : List ℕ) → Below s → Below t → packed s ≡ packed t → s ≡ t
+unfolding packed
+packed-eq [] [] hs ht e = refl
+packed-eq [] (c ∷ t) hs ht e = absurd (omega (arith, packed-pos t))
+packed-eq (b ∷ s) [] hs ht e = absurd (omega (arith, packed-pos s))
+packed-eq (b ∷ s) (c ∷ t) hs ht e =
+    let h : b ≡ c = omega (arith, hs 0, ht 0) in
+    let r : packed s ≡ packed t = omega (arith, hs 0, ht 0) in
+    rw (h, packed-eq s t (below-tail b s hs) (below-tail c t ht) r)
+
+-- Two spellings are the same if their keys are, where the first has at most seven bytes.
+pub same-key : (s t : List ℕ) → length s ≤ 7 → Below s → Below t → same s t ≡ eqb (keyOf s) (keyOf t)
+same-key s t l hs ht =
+    by-test (eqb (keyOf s) (keyOf t))
+    (λ e. let q = eqb-true (keyOf s) (keyOf t) e in
+    rw e (split (length t) 8
+    (λ m. eq-same s t (packed-eq s t hs ht (sym (key-short s l) ∙ q ∙ key-short t (omega arith))))
+    (λ m. absurd (omega (arith, packed-pos s, key-short s l, key-long t (omega arith))))))
+    (λ e. rw e (not-true (same s t) (λ z. eqb-false (keyOf s) (keyOf t) e (ap keyOf (same-eq s t z)))))
+
+-- ---- entries found by the key of their spelling
+
+-- A spelling of at most seven bytes.
+unfoldable pub isKeyed : List ℕ → Bool
+isKeyed s = elim (leb (length s) 7) [ true ↦ every (λ b. ltb b 256) s | false ↦ false ]
+
+every-below : (s : List ℕ) → every (λ b. ltb b 256) s ≡ true → Below s
+every-below [] h i = omega arith
+every-below (b ∷ s) h zero = ltb-true b 256 (every-head (λ b. ltb b 256) b s h)
+every-below (b ∷ s) h (suc i) = every-below s (every-tail (λ b. ltb b 256) b s h) i
+
+unfoldable pub byKey : {A : Type 0} → (A → List ℕ) → List A → ℕ → Option A
+byKey spell l k = find (λ a. eqb (keyOf (spell a)) k) l
+
+-- An entry is found by its key.
+pub found-by-key : {A : Type 0} (spell : A → List ℕ) (l : List A) → each (λ a. isKeyed (spell a)) l ≡ true → (s : List ℕ) → Below s
+    → find (λ a. same (spell a) s) l ≡ byKey spell l (keyOf s)
+unfolding byKey find each isKeyed
+found-by-key spell [] ok s h = refl
+found-by-key spell (a ∷ l) ok s h =
+    let (ka, kl) = both (isKeyed (spell a)) (each (λ a. isKeyed (spell a)) l) ok in
+    let (n, b) = both (leb (length (spell a)) 7) _ ka in
+    let e = same-key (spell a) s (leb-true (length (spell a)) 7 n) (every-below (spell a) b) h in
+    by-test (eqb (keyOf (spell a)) (keyOf s)) (λ t. rw (find, e, t)) (λ t. rw (find, e, t) (found-by-key spell l kl s h))
+
+-- No entry has the key.
+unfoldable pub NoKey : {A : Type 0} → (A → List ℕ) → List A → ℕ → Type 0
+NoKey spell [] k = Unit {0}
+NoKey spell (a ∷ l) k = (k ≡ keyOf (spell a) → ⊥) × NoKey spell l k
+
+pub none-by-key : {A : Type 0} (spell : A → List ℕ) (l : List A) (k : ℕ) → NoKey spell l k → byKey spell l k ≡ none
+unfolding byKey find NoKey
+none-by-key spell [] k h = refl
+none-by-key spell (a ∷ l) k h = rw (find, ne-eqb (keyOf (spell a)) k (λ e. h .0 (sym e))) (none-by-key spell l k (h .1))
+
+-- ---- the present names
+
+abbrev pub spellingOf : Name → List ℕ
+spellingOf n = n .spelling
+
+present-keyed : each (λ n. isKeyed (n .spelling)) present ≡ true
+unfolding each isKeyed present numbered conventional name bytes every
+present-keyed = refl
+
+pub present-key : (s : List ℕ) (k l : ℕ) → Below s → k ≡ keyOf s → k ≡ l → nameNumber (byKey spellingOf present l) ≡ nameNumber (named present s)
+unfolding named
+present-key s k l h e q = rw (found-by-key spellingOf present present-keyed s h, ← e, q)
+
+pub present-none : (s : List ℕ) (k : ℕ) → Below s → k ≡ keyOf s → NoKey spellingOf present k → none ≡ nameNumber (named present s)
+unfolding named
+present-none s k h e n = rw (found-by-key spellingOf present present-keyed s h, ← e, none-by-key spellingOf present k n)

@@ -1,0 +1,68 @@
+-- `text_lexical::bytes::ascii_end` meets its contract. The loop's invariant: what is left of the run is the run's rest.
+use mathlib.Core.Path.{_≡_, refl, sym, _∙_}
+use Prim.Native.Nat.{_≤_, _+_, _-_}
+use native.Mathlib.Omega.{arith}
+use lib.ListN.{length, drop}
+use borrow.Author.Needs.{needs}
+use borrow.Author.Tests.{not-false}
+use Rattle.text_lexical.specs.Bytes.{run, ascii}
+use Rattle.text_lexical.proofs.Strings.{run-block}
+use Rattle.text_lexical.proofs.bytes.ascii_end.Statement.{statement}
+use Rattle.text_lexical.proofs.bytes.ascii_end.Tie as tie
+
+abbrev Inv-loop : tie.InvT-loop
+Inv-loop s at i₀ i = (i ≤ length s) × (i + run ascii (drop i s) ≡ at + run ascii (drop at s))
+
+abbrev μ-loop : tie.MeasureT-loop
+μ-loop s at i₀ i = length s - i
+
+loop-holds : tie.Need-loop-holds Inv-loop μ-loop
+loop-holds c = (omega arith, refl)
+
+sub-loop : tie.Need-sub-loop Inv-loop μ-loop
+sub-loop c = omega arith
+
+ascii-block-requires : tie.Need-ascii-block-requires Inv-loop μ-loop
+ascii-block-requires c κs = omega arith
+
+run-end-requires : tie.Need-run-end-requires Inv-loop μ-loop
+run-end-requires c κs = omega arith
+
+returns : tie.Need-returns Inv-loop μ-loop
+returns c = c .run-end .ensures ∙ c .before .before .before .before .loop .inv .1
+
+add-i : tie.Need-add-i Inv-loop μ-loop
+add-i c = omega arith
+
+loop-less : tie.Need-loop-less Inv-loop μ-loop
+loop-less c = omega arith
+
+loop-again : tie.Need-loop-again Inv-loop μ-loop
+loop-again c =
+    let b = c .before .before .before in
+    let a = b .before .before .args in
+    let m = run-block ascii 32 (a .text .now) (b .loop .i) (omega arith) (sym (c .before .ascii-block .ensures) ∙ not-false _ (c .if1 .left)) in
+    (omega arith, omega (arith, b .loop .inv .1, m))
+
+run-end-requires-2 : tie.Need-run-end-requires-2 Inv-loop μ-loop
+run-end-requires-2 c κs = omega arith
+
+returns-2 : tie.Need-returns-2 Inv-loop μ-loop
+returns-2 c = c .run-end2 .ensures ∙ c .before .before .loop .inv .1
+
+pub ascii-end-spec : {M : Type 1} → statement M
+ascii-end-spec =
+    tie.close
+    (tie.spec
+    Inv-loop
+    μ-loop
+    loop-holds
+    sub-loop
+    ascii-block-requires
+    run-end-requires
+    returns
+    add-i
+    loop-less
+    loop-again
+    run-end-requires-2
+    returns-2)
