@@ -20,8 +20,9 @@ const fn kind(name: &'static str, make: fn(&mut Rng, usize) -> Vec<u8>) -> Kind 
 }
 
 /// Usual ones, and behind them those that are made to be slow.
-pub const KINDS: [Kind; 12] = [
+pub const KINDS: [Kind; 13] = [
     kind("ordinary program", ordinary),
+    kind("a label before every instruction", labelled),
     kind("mostly comments", comments),
     kind("a label a line", labels),
     Kind {
@@ -74,8 +75,10 @@ const REMARKS: [&str; 12] = [
     "nothing left to add", "sum so far", "the loaf after baking", "checked against the label",
 ];
 
+const STEMS: [&str; 6] = ["loop", "next", "done", "add_salt", "weigh", "round_up"];
+
 fn block(rng: &mut Rng, number: usize) -> String {
-    let stem = rng.pick(&["loop", "next", "done", "add_salt", "weigh", "round_up"]);
+    let stem = rng.pick(&STEMS);
     let mut text = match rng.below(3) {
         0 => String::new(),
         _ => format!("\n# {}, then {}\n", rng.pick(&REMARKS), rng.pick(&REMARKS)),
@@ -90,6 +93,19 @@ fn block(rng: &mut Rng, number: usize) -> String {
         text.push('\n');
     }
     text
+}
+
+/// A label and an instruction on every line, with a comment here and there.
+fn labelled(rng: &mut Rng, bytes: usize) -> Vec<u8> {
+    filled(bytes, |number| {
+        let stem = rng.pick(&STEMS);
+        let mut line = format!("{stem}_{number}: {}", instruction(rng));
+        if rng.percent(40) {
+            line += &format!("    # {}", rng.pick(&REMARKS));
+        }
+        line.push('\n');
+        line
+    })
 }
 
 /// An instruction of those that programs mostly have.
