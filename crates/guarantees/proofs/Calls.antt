@@ -9,7 +9,6 @@ use lib.ListN.{length, take, length-map}
 use Rattle.text_lexical.specs.Names.{present}
 use Rattle.instruction.specs.Words.{wordOf}
 use Rattle.image.specs.Settings.{Settings, settings}
-use Rattle.image.specs.Program.{header-size, imageLength}
 use Rattle.image.specs.Assembling.{Assembled as Reading, accepted, rejected, assembling}
 use Rattle.image.specs.Listing.{textOf, Listing as Written, written, rejected as unwritten, listing}
 use Rattle.image.specs.Meaning.{instructionsOf, settingsOf, imageOf, isAccepted, Accepted, isWritten, Listed}
@@ -23,7 +22,7 @@ use Rattle.image_passes.specs.declared.second_pass.Assembled.the-variants.{Is a
 use Rattle.image_assembler.specs.Contracts.{Assembles}
 use Rattle.image_listing.specs.Contracts.{listingMeant, Lists}
 use Rattle.image_listing.specs.declared.disassembler.Listing.{Listing}
-use Rattle.image.proofs.Images.{image-length}
+use Rattle.image.proofs.Lengths.{source-image-length}
 use Rattle.image.proofs.Over.{take-over}
 use Rattle.image.proofs.Walking.{accepted-assembles}
 use Rattle.guarantees.specs.Promises.{AreBytes, HasSource}
@@ -58,12 +57,6 @@ module _ (source : List ℕ) (room : ℕ) (image image′ : List ℕ) (x : Answe
 
 -- ---- the bytes that a call has filled
 
-image-size : (source : List ℕ) → length (imageOf present source) ≡ 32 + 4 * length (instructionsOf present source)
-unfolding imageOf imageLength header-size
-image-size source =
-    let is = instructionsOf present source in
-    image-length (settingsOf present source) (map wordOf is) ∙ ap (λ (n : ℕ). 32 + 4 * n) (length-map is wordOf)
-
 module _ {source : List ℕ} (c : AcceptedCall source) where
   is-accepted : Accepted present source (length (c .table)) (length (c .image))
   is-accepted = accepts _ (answerMeant (c .answer)) (c .promised .answer) (c .not-refused)
@@ -75,7 +68,7 @@ module _ {source : List ℕ} (c : AcceptedCall source) where
       let a = answers source room (c .image) (c .image′) (answerMeant (c .answer)) (c .promised .answer) (c .promised .image-holds) is-accepted in
       let f = fills source room (c .image) (c .image′) (answerMeant (c .answer)) (c .promised .answer) (c .promised .image-holds) is-accepted in
       ap₂ (λ (n : ℕ) (x : List ℕ). take (32 + 4 * n) x) (ap wordCount a) f
-      ∙ ap (λ (n : ℕ). take n (over (imageOf present source) (c .image))) (sym (image-size source))
+      ∙ ap (λ (n : ℕ). take n (over (imageOf present source) (c .image))) (sym (source-image-length present source))
       ∙ take-over (imageOf present source) (c .image)
 
 -- Equations of what is filled are those of images.

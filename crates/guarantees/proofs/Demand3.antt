@@ -107,8 +107,8 @@ image-tells N N′ s s′ i i′ a b e =
     let ws′ = map wordOf is′ in
     let g = settings-pass (N .names) s in
     let g′ = settings-pass (N′ .names) s′ in (
-      sym (settings-of-image c ws g (a .few)) ∙ ap (λ (x : List ℕ). headerOf x .setup) e ∙ settings-of-image c′ ws′ g′ (b .few),
-      words-agree is is′ (a .fits) (b .fits) (sym (words-of-image c ws g (a .few) (fit-words is (a .fits))) ∙ ap (λ (x : List ℕ). wordsOf (codeOf x)) e ∙ words-of-image c′ ws′ g′ (b .few) (fit-words is′ (b .fits))),
+      sym (settings-of-image c ws [] g (a .few) (omega arith)) ∙ ap (λ (x : List ℕ). headerOf x .setup) e ∙ settings-of-image c′ ws′ [] g′ (b .few) (omega arith),
+      words-agree is is′ (a .fits) (b .fits) (sym (words-of-image c ws [] g (a .few) (omega arith) (fit-words is (a .fits))) ∙ ap (λ (x : List ℕ). wordsOf (codeOf x)) e ∙ words-of-image c′ ws′ [] g′ (b .few) (omega arith) (fit-words is′ (b .fits))),
     )
 
 -- ---- what is listed
@@ -174,10 +174,11 @@ text-back N b t size h e l =
     let is = instructionsIn (N .names) ws r in
     let d = text-reading (N .names) (N .naming .identifiers) (keys-of N) c (good c (u .settings-good)) t ws r (u .few) in
     let m = rw d at (reading-means (N .names) (textOf b) t) in
-    let n : imageLength (length is) ≡ length b = ap imageLength (instructions-length (N .names) ws r) ∙ sym (image-length c ws) ∙ ap length (u .is-image h) in (
+    let back : image c ws [] ≡ b = ap (image c ws) (sym (u .no-data)) ∙ u .is-image h in
+    let n : imageLength (length is) ≡ length b = ap imageLength (instructions-length (N .names) ws r) ∙ omega (arith, image-length c ws [], ap length back) in (
       ap (λ (a : Assembled). isAccepted (fitted size a)) d ∙ fitted-yes _ size (omega arith),
       ap₂ (λ (x : Settings) (y : List Instruction). image x (map wordOf y) []) (sym (m .setup)) (sym (m .instructions))
-          ∙ ap (λ (x : List ℕ). image c x []) (words-again (N .names) ws r) ∙ u .is-image h,
+          ∙ ap (λ (x : List ℕ). image c x []) (words-again (N .names) ws r) ∙ back,
     )
 
 -- ---- the promises

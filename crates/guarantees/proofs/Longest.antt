@@ -76,7 +76,7 @@ module _ (n : ℕ) (few : n ≤ 32768) where
   unfolding textOf
   long-text =
       let b = image begin words [] in
-      let s : length (settingsText (headerOf b .setup)) ≡ 63 = ap (λ (x : Settings). length (settingsText x)) (settings-of-image begin words (no-fault begin begin-good) fewer) ∙ first-lines in
+      let s : length (settingsText (headerOf b .setup)) ≡ 63 = ap (λ (x : Settings). length (settingsText x)) (settings-of-image begin words [] (no-fault begin begin-good) fewer (omega arith)) ∙ first-lines in
       let w : length (flatMap wordText (wordsOf (codeOf b))) ≡ 22 * n
-      = ap (λ (x : List ℕ). length (flatMap wordText x)) (words-of-image begin words (no-fault begin begin-good) fewer (all-words n)) ∙ all-lines n in
+      = ap (λ (x : List ℕ). length (flatMap wordText x)) (words-of-image begin words [] (no-fault begin begin-good) fewer (omega arith) (all-words n)) ∙ all-lines n in
       omega (arith, length-append (settingsText (headerOf b .setup)) (flatMap wordText (wordsOf (codeOf b))))

@@ -5,14 +5,14 @@ use native.Mathlib.Omega.{arith}
 use mathlib.Core.Bool.{Bool, true}
 use mathlib.Core.List.{List, [], _∷_, _++_, flatMap, append-nil, append-assoc}
 use lib.ListN.{length, take, drop, length-append, length-drop, take-append-drop}
-use lib.Seq.{take-all, length-take-le, drop-drop}
+use lib.Seq.{length-take-le, drop-drop, take-at, drop-at}
 use lib.Dec.{ltb}
 use borrow.Author.Tests.{ltb-true}
 use Rattle.text_lexical.specs.Bytes.{every}
 use Rattle.text_lexical.specs.Numbers.{little, unlittle}
 use Rattle.text_lexical.proofs.Strings.{every-head, every-tail, every-split, every-take, every-drop}
 use Rattle.image.specs.Settings.{Settings, settings}
-use Rattle.image.specs.Program.{Header, headerBytes, header-size, headerFor, image, imageLength, numberAt, headerOf, codeOf, magic, version, entry, stack-size}
+use Rattle.image.specs.Program.{Header, headerBytes, header-size, headerFor, image, imageLength, numberAt, headerOf, codeOf, dataOf, magic, version, entry, stack-size}
 use Rattle.image.specs.Listing.{wordsOf}
 
 -- ---- little-endian numbers of four bytes
@@ -120,28 +120,40 @@ behind-header h rest = refl
 
 -- ---- the image
 
-pub image-length : (s : Settings) (ws : List ℕ) → length (image s ws []) ≡ imageLength (length ws)
-unfolding image imageLength header-size headerBytes little
-image-length s ws = omega (arith, length-append (flatMap (little 4) ws) [], code-length ws)
+-- An image of words and of data below 2^32 bytes.
+module _ (s : Settings) (ws bs : List ℕ) where
+  pub image-length : length (image s ws bs) ≡ imageLength (length ws) + length bs
+  unfolding image imageLength header-size headerBytes little
+  image-length = omega (arith, length-append (flatMap (little 4) ws) bs, code-length ws)
 
-pub image-header : (s : Settings) (ws : List ℕ) → length ws ≤ 32768 → headerOf (image s ws []) ≡ headerFor s (4 * length ws) 0
-unfolding image headerFor magic version entry stack-size
-image-header s ws l =
-    header-back (headerFor s (4 * length ws) 0) (flatMap (little 4) ws ++ []) (record {
-      magic-fits = omega arith;
-      version-fits = omega arith;
-      entry-fits = omega arith;
-      code-fits = omega arith;
-      data-fits = omega arith;
-      bss-fits = omega arith;
-      stack-fits = omega arith;
-    })
+  module _ (few : length ws ≤ 32768) (short : length bs < 2 ^ 32) where
+    pub image-header : headerOf (image s ws bs) ≡ headerFor s (4 * length ws) (length bs)
+    unfolding image headerFor magic version entry stack-size
+    image-header =
+        header-back (headerFor s (4 * length ws) (length bs)) (flatMap (little 4) ws ++ bs) (record {
+          magic-fits = omega arith;
+          version-fits = omega arith;
+          entry-fits = omega arith;
+          code-fits = omega arith;
+          data-fits = short;
+          bss-fits = omega arith;
+          stack-fits = omega arith;
+        })
 
-pub image-code : (s : Settings) (ws : List ℕ) → length ws ≤ 32768 → codeOf (image s ws []) ≡ flatMap (little 4) ws
-unfolding codeOf image headerFor
-image-code s ws l =
-    let e : drop header-size (image s ws []) ≡ flatMap (little 4) ws = unfold image in behind-header (headerFor s (4 * length ws) 0) (flatMap (little 4) ws ++ []) ∙ append-nil (flatMap (little 4) ws) in
-    ap₂ (λ (h : Header) (b : List ℕ). take (h .code-size) b) (image-header s ws l) e ∙ take-all (4 * length ws) (flatMap (little 4) ws) (omega (arith, code-length ws))
+    -- Its parts are read back.
+    pub image-code : codeOf (image s ws bs) ≡ flatMap (little 4) ws
+    unfolding codeOf image headerFor
+    image-code =
+        ap₂ (λ (h : Header) (b : List ℕ). take (h .code-size) b) image-header (behind-header (headerFor s (4 * length ws) (length bs)) (flatMap (little 4) ws ++ bs))
+        ∙ take-at (flatMap (little 4) ws) bs (4 * length ws) (code-length ws)
+
+    pub image-data : dataOf (image s ws bs) ≡ bs
+    unfolding dataOf image headerFor
+    image-data =
+        ap (λ (h : Header). drop (header-size + h .code-size) (image s ws bs)) image-header
+        ∙ sym (drop-drop (4 * length ws) header-size (image s ws bs))
+        ∙ ap (drop (4 * length ws)) (behind-header (headerFor s (4 * length ws) (length bs)) (flatMap (little 4) ws ++ bs))
+        ∙ drop-at (flatMap (little 4) ws) bs (4 * length ws) (code-length ws)
 
 -- ---- bytes as an image
 

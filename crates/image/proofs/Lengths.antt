@@ -1,24 +1,35 @@
--- How long the text of an image is: at most 21 bytes for each of the settings' three lines, and at most 22 for each word's.
+-- How long the image of a source is, and the text of an image: at most 21 bytes for each of the settings' three lines, and at most 22
+-- for each word's.
 use mathlib.Core.Path.{_≡_, ap}
 use Prim.Native.Nat.{ℕ, _+_, _*_, _≤_}
 use native.Mathlib.Omega.{arith}
 use mathlib.Core.Option.{none}
-use mathlib.Core.List.{List, [], _∷_, _++_, flatMap}
-use lib.ListN.{length, length-append}
+use mathlib.Core.List.{List, [], _∷_, _++_, map, flatMap}
+use lib.ListN.{length, length-append, length-map}
 use Rattle.text_lexical.specs.Bytes.{value, bytes}
 use Rattle.text_lexical.specs.Numbers.{decimal}
+use Rattle.text_lexical.specs.Names.{Name}
 use Rattle.text_lexical.proofs.Tests.{between-true}
 use Rattle.text_lexical.proofs.Numbers.{decimal-length}
 use Rattle.instruction.specs.Operands.{Instruction}
-use Rattle.instruction.specs.Words.{instructionOf}
+use Rattle.instruction.specs.Words.{wordOf, instructionOf}
 use Rattle.instruction.specs.Text.{instructionText}
 use Rattle.instruction.proofs.Decoding.{decoded-fits, decoded-reduced}
 use Rattle.instruction.proofs.Text.{text-length}
 use Rattle.image.specs.Settings.{Settings, settings, limb-bits-key, data-limbs-key, addr-limbs-key}
-use Rattle.image.specs.Program.{headerOf, codeOf}
+use Rattle.image.specs.Program.{header-size, imageLength, headerOf, codeOf}
 use Rattle.image.specs.Listing.{wordsOf, lineText, settingText, settingsText, wordText, textOf, listingFault}
+use Rattle.image.specs.Meaning.{instructionsOf, settingsOf, imageOf}
+use Rattle.image.proofs.Images.{image-length}
 use Rattle.image.proofs.Settings.{Good, good, small-bits}
 use Rattle.image.proofs.Listed.{Decoded, AllDecoded, listed-usual}
+
+-- "The image fills the first 32 + 4 times words bytes"
+pub source-image-length : (names : List Name) (source : List ℕ) → length (imageOf names source) ≡ 32 + 4 * length (instructionsOf names source)
+unfolding imageOf imageLength header-size
+source-image-length names source =
+    let is = instructionsOf names source in
+    omega (arith, image-length (settingsOf names source) (map wordOf is) [], length-map is wordOf)
 
 -- A line is one byte longer than what stands on it.
 pub line-length : (s : List ℕ) → length (lineText s) ≡ 1 + length s

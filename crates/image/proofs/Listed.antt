@@ -1,21 +1,21 @@
 -- Which images have a text: those of good settings and at most 32,768 words that are instructions' words, and no others.
 use mathlib.Core.Path.{_≡_, refl, sym, ap, ap₂, _∙_}
-use Prim.Native.Nat.{ℕ, suc, _+_, _*_, _%_, _≤_}
+use Prim.Native.Nat.{ℕ, suc, _+_, _*_, _%_, _^_, _≤_, _<_}
 use native.Mathlib.Omega.{arith}
 use mathlib.Core.Bool.{true, and-eq-true-iff}
 use mathlib.Core.Option.{Option, none, some}
-use mathlib.Core.List.{List, [], _∷_, _++_, flatMap, append-nil}
-use lib.ListN.{length, drop, length-drop}
-use lib.Seq.{take-all}
+use mathlib.Core.List.{List, [], _∷_, _++_, flatMap}
+use lib.ListN.{length, drop, length-drop, take-append-drop, drop-of-length-le}
+use lib.Seq.{length-take-le, drop-drop}
 use lib.Dec.{ltb, eqb}
 use borrow.Author.Tests.{eqb-true, eq-eqb, leb-true, le-leb, ltb-false, le-ltb}
 use Rattle.text_lexical.specs.Bytes.{Result, value, refused, every}
 use Rattle.text_lexical.specs.Numbers.{little}
-use Rattle.text_lexical.proofs.Strings.{every-drop}
+use Rattle.text_lexical.proofs.Strings.{every-take, every-drop}
 use Rattle.instruction.specs.Operands.{Instruction}
 use Rattle.instruction.specs.Words.{instructionOf}
 use Rattle.image.specs.Settings.{Settings, settingsFault}
-use Rattle.image.specs.Program.{Header, headerBytes, header-size, headerFor, image, imageLength, headerOf, codeOf, magic, version, entry, stack-size}
+use Rattle.image.specs.Program.{Header, headerBytes, header-size, headerFor, image, imageLength, headerOf, codeOf, dataOf, magic, version, entry, stack-size}
 use Rattle.image.specs.Opening.{headerFault, openingFault}
 use Rattle.image.specs.Assembling.{most-words}
 use Rattle.image.specs.Listing.{wordsOf, Refusal, refusal, isUsual, wordsFault, listingFault}
@@ -46,70 +46,73 @@ unfolding wordsFault
 decoded-words i [] a = refl
 decoded-words i (w ∷ ws) a = rw (wordsFault, a .0 .1) (decoded-words (suc i) ws (a .1))
 
--- ---- an image that assembling writes
+-- ---- an image of settings, words and data
 
-module _ (s : Settings) (ws : List ℕ) (good : settingsFault s ≡ none) (few : length ws ≤ 32768) where
-  opens : openingFault (image s ws []) ≡ none
+module _ (s : Settings) (ws bs : List ℕ) (good : settingsFault s ≡ none) (few : length ws ≤ 32768) (short : length bs < 2 ^ 32) where
+  pub image-opens : openingFault (image s ws bs) ≡ none
   unfolding openingFault headerFault headerFor header-size imageLength
-  opens =
-      let h = image-header s ws few in
-      let n = image-length s ws in
-      let m : headerOf (image s ws []) .magic ≡ magic = ap (λ (x : Header). x .magic) h in
-      let v : headerOf (image s ws []) .version ≡ version = ap (λ (x : Header). x .version) h in
-      let g : settingsFault (headerOf (image s ws []) .setup) ≡ none = ap (λ (x : Header). settingsFault (x .setup)) h ∙ good in
-      let c : headerOf (image s ws []) .code-size ≡ 4 * length ws = ap (λ (x : Header). x .code-size) h in
-      let d : headerOf (image s ws []) .data-size ≡ 0 = ap (λ (x : Header). x .data-size) h in
+  image-opens =
+      let h = image-header s ws bs few short in
+      let n = image-length s ws bs in
+      let m : headerOf (image s ws bs) .magic ≡ magic = ap (λ (x : Header). x .magic) h in
+      let v : headerOf (image s ws bs) .version ≡ version = ap (λ (x : Header). x .version) h in
+      let g : settingsFault (headerOf (image s ws bs) .setup) ≡ none = ap (λ (x : Header). settingsFault (x .setup)) h ∙ good in
+      let c : headerOf (image s ws bs) .code-size ≡ 4 * length ws = ap (λ (x : Header). x .code-size) h in
+      let d : headerOf (image s ws bs) .data-size ≡ length bs = ap (λ (x : Header). x .data-size) h in
       rw (
         openingFault,
-        le-ltb (length (image s ws [])) 32 (omega arith),
+        le-ltb (length (image s ws bs)) 32 (omega arith),
         headerFault,
         eq-eqb _ _ m,
         eq-eqb _ _ v,
         g,
-        eq-eqb (headerOf (image s ws []) .code-size % 4) 0 (omega arith),
-        eq-eqb (length (image s ws [])) (32 + headerOf (image s ws []) .code-size + headerOf (image s ws []) .data-size) (omega arith),
+        eq-eqb (headerOf (image s ws bs) .code-size % 4) 0 (omega arith),
+        eq-eqb (length (image s ws bs)) (32 + headerOf (image s ws bs) .code-size + headerOf (image s ws bs) .data-size) (omega arith),
       )
 
-  usual : isUsual (headerOf (image s ws [])) ≡ true
-  unfolding isUsual headerFor entry stack-size most-words
-  usual = rw (image-header s ws few, le-leb (4 * length ws) (4 * 32768) (omega arith))
-
   -- its words and its settings are read back
-  pub words-of-image : Words ws → wordsOf (codeOf (image s ws [])) ≡ ws
-  words-of-image h = ap wordsOf (image-code s ws few) ∙ words-back ws h
+  pub words-of-image : Words ws → wordsOf (codeOf (image s ws bs)) ≡ ws
+  words-of-image h = ap wordsOf (image-code s ws bs few short) ∙ words-back ws h
 
-  pub settings-of-image : headerOf (image s ws []) .setup ≡ s
+  pub settings-of-image : headerOf (image s ws bs) .setup ≡ s
   unfolding headerFor
-  settings-of-image = ap (λ (h : Header). h .setup) (image-header s ws few)
+  settings-of-image = ap (λ (h : Header). h .setup) (image-header s ws bs few short)
 
-  -- and it has a text
-  pub image-listed : Words ws → AllDecoded ws → listingFault (image s ws []) ≡ none
+  -- With a header that is not refused as unusual and with instructions' words it has a text.
+  pub image-text : isUsual (headerFor s (4 * length ws) (length bs)) ≡ true → Words ws → AllDecoded ws → listingFault (image s ws bs) ≡ none
   unfolding listingFault
-  image-listed h a = rw (listingFault, opens, usual, words-of-image h) (decoded-words 0 ws a)
+  image-text u h a = rw (listingFault, image-opens, image-header s ws bs few short, u, words-of-image h) (decoded-words 0 ws a)
+
+-- An image that assembling writes has no data.
+pub image-listed : (s : Settings) (ws : List ℕ) → settingsFault s ≡ none → length ws ≤ 32768 → Words ws → AllDecoded ws
+    → listingFault (image s ws []) ≡ none
+unfolding isUsual headerFor entry stack-size most-words
+image-listed s ws good few = image-text s ws [] good few (omega arith) (rw (le-leb (4 * length ws) (4 * 32768) (omega arith)))
 
 -- ---- bytes that have a text
 
-usual-header : (h : Header) (n : ℕ) → h .magic ≡ magic → h .version ≡ version → h .flags ≡ 0 → h .entry ≡ entry → h .code-size ≡ n → h .data-size ≡ 0
-    → h .bss-size ≡ 0 → h .stack-size ≡ stack-size → headerFor (h .setup) n 0 ≡ h
+usual-header : (h : Header) (n d : ℕ) → h .magic ≡ magic → h .version ≡ version → h .flags ≡ 0 → h .entry ≡ entry → h .code-size ≡ n → h .data-size ≡ d
+    → h .bss-size ≡ 0 → h .stack-size ≡ stack-size → headerFor (h .setup) n d ≡ h
 unfolding headerFor
-usual-header h n m v f e c d b s =
-    sym (λ i. record {
-      magic = m i;
-      version = v i;
+usual-header h n d m v f e c i b s =
+    sym (λ j. record {
+      magic = m j;
+      version = v j;
       setup = h .setup;
-      flags = f i;
-      entry = e i;
-      code-size = c i;
-      data-size = d i;
-      bss-size = b i;
-      stack-size = s i;
+      flags = f j;
+      entry = e j;
+      code-size = c j;
+      data-size = i j;
+      bss-size = b j;
+      stack-size = s j;
     })
 
 pub record Usual (b : List ℕ) : Type 0 where
   pub settings-good : settingsFault (headerOf b .setup) ≡ none
   pub words : AllDecoded (wordsOf (codeOf b))
   pub few : length (wordsOf (codeOf b)) ≤ 32768
-  pub is-image : every byte b ≡ true → image (headerOf b .setup) (wordsOf (codeOf b)) [] ≡ b
+  pub no-data : dataOf b ≡ []
+  pub is-image : every byte b ≡ true → image (headerOf b .setup) (wordsOf (codeOf b)) (dataOf b) ≡ b
 
 -- What opening has found of an image that it does not refuse.
 pub record Sound (b : List ℕ) : Type 0 where
@@ -164,30 +167,49 @@ customary h u =
       few = leb-true (h .code-size) (4 * 32768) u6;
     }
 
--- Without data the code is all that stands behind the header.
-pub code-all : (b : List ℕ) → Sound b → headerOf b .data-size ≡ 0 → codeOf b ≡ drop 32 b
-unfolding codeOf header-size
-code-all b s e = take-all (headerOf b .code-size) (drop 32 b) (omega (arith, length-drop 32 b, s .total))
+module _ (b : List ℕ) (s : Sound b) where
+  -- The code and the data have the sizes that the header names,
+  pub code-sized : length (codeOf b) ≡ headerOf b .code-size
+  unfolding codeOf header-size
+  code-sized = length-take-le (headerOf b .code-size) (drop 32 b) (omega (arith, length-drop 32 b, s .total))
+
+  pub data-sized : length (dataOf b) ≡ headerOf b .data-size
+  unfolding dataOf header-size
+  data-sized = omega (arith, length-drop (32 + headerOf b .code-size) b, s .total)
+
+  -- there are as many words as fill the code,
+  pub words-sized : 4 * length (wordsOf (codeOf b)) ≡ headerOf b .code-size
+  words-sized = words-length (codeOf b) (ap (λ (n : ℕ). n % 4) code-sized ∙ s .fours) ∙ code-sized
+
+  -- and words and data are all that follows the header.
+  parts : every byte b ≡ true → flatMap (little 4) (wordsOf (codeOf b)) ++ dataOf b ≡ drop 32 b
+  unfolding codeOf dataOf header-size
+  parts h =
+      ap (λ (x : List ℕ). x ++ dataOf b) (code-back (codeOf b) (every-take byte (headerOf b .code-size) (drop 32 b) (every-drop byte 32 b h)) (ap (λ (n : ℕ). n % 4) code-sized ∙ s .fours))
+      ∙ ap (λ (x : List ℕ). codeOf b ++ x) (sym (drop-drop (headerOf b .code-size) 32 b))
+      ∙ take-append-drop (headerOf b .code-size) (drop 32 b)
+
+  -- So bytes are the image of their settings, words and data, if the other fields are as assembling writes them.
+  pub sound-image : headerOf b .flags ≡ 0 → headerOf b .entry ≡ entry → headerOf b .bss-size ≡ 0 → headerOf b .stack-size ≡ stack-size
+      → every byte b ≡ true → image (headerOf b .setup) (wordsOf (codeOf b)) (dataOf b) ≡ b
+  unfolding image
+  sound-image f e z t h =
+      ap₂ (λ (x : Header) (y : List ℕ). headerBytes x ++ y)
+      (usual-header (headerOf b) _ _ (s .magic-is) (s .version-is) f e (sym words-sized) (sym data-sized) z t)
+      (parts h)
+      ∙ header-front b h (s .long)
 
 pub listed-usual : (b : List ℕ) → listingFault b ≡ none → Usual b
-unfolding listingFault image
+unfolding listingFault dataOf header-size
 listed-usual b h =
     let (o, h1) = passed-on (λ n. refusal n none none) (openingFault b) _ h in
     let (u, h2) = passed (isUsual (headerOf b)) (refusal 29 none none) _ h1 in
     let s = sound b o in
     let c = customary (headerOf b) u in
-    let all = code-all b s (c .no-data) in
-    let size : length (drop 32 b) ≡ headerOf b .code-size = omega (arith, length-drop 32 b, s .total, c .no-data) in
-    let fours : length (codeOf b) % 4 ≡ 0 = ap (λ (x : List ℕ). length x % 4) all ∙ ap (λ (n : ℕ). n % 4) size ∙ s .fours in
-    let count : 4 * length (wordsOf (codeOf b)) ≡ headerOf b .code-size = words-length (codeOf b) fours ∙ ap length all ∙ size in
     record {
       settings-good = s .settings-good;
       words = words-decoded 0 (wordsOf (codeOf b)) h2;
-      few = omega (arith, c .few);
-      is-image = λ h.
-          let header : headerFor (headerOf b .setup) (4 * length (wordsOf (codeOf b))) 0 ≡ headerOf b
-          = usual-header (headerOf b) _ (s .magic-is) (s .version-is) (c .flags-are) (c .entry-is) (sym count) (c .no-data) (c .no-bss) (c .stack-is) in
-          let code : flatMap (little 4) (wordsOf (codeOf b)) ++ [] ≡ drop 32 b
-          = append-nil (flatMap (little 4) (wordsOf (codeOf b))) ∙ code-back (codeOf b) (rw all (every-drop byte 32 b h)) fours ∙ all in
-          ap₂ (λ (x : Header) (y : List ℕ). headerBytes x ++ y) header code ∙ header-front b h (s .long);
+      few = omega (arith, c .few, words-sized b s);
+      no-data = drop-of-length-le b {i = 32 + headerOf b .code-size} (omega (arith, s .total, c .no-data));
+      is-image = sound-image b s (c .flags-are) (c .entry-is) (c .no-bss) (c .stack-is);
     }

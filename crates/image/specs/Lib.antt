@@ -5,5 +5,4 @@ pub mod Assembling
 pub mod Listing
 pub mod Meaning
 pub mod Lent
-pub mod Zkasm
 pub mod Contracts

@@ -6,7 +6,7 @@ use mathlib.Core.Bool.{true, false}
 use mathlib.Core.Option.{Option, none, some}
 use mathlib.Core.List.{List, [], _∷_, _++_, flatMap, append-nil, append-assoc}
 use lib.ListN.{length, take, drop, length-append, length-drop, drop-of-length-le}
-use lib.Seq.{drop-drop}
+use lib.Seq.{length-take-le, drop-drop, take-add, drop-at}
 use borrow.Author.Tests.{le-leb, lt-leb}
 use Rattle.text_lexical.specs.Bytes.{Result, value, refused}
 use Rattle.text_lexical.specs.Numbers.{unlittle}
@@ -29,7 +29,7 @@ use Rattle.image_listing.specs.declared.disassembler.Listing.the-variant
 use Rattle.image_listing.specs.declared.disassembler.Measured.the-variants.{Is as IsMeasured}
 use Rattle.image_listing.specs.declared.disassembler.WordLength.the-variants.{Is as IsLength, Refused as RefusedWord}
 use Rattle.image.proofs.Images.{words-length}
-use Rattle.image.proofs.Listed.{sound, customary, code-all}
+use Rattle.image.proofs.Listed.{sound, customary}
 pub use Rattle.image.proofs.Lengths.{line-length, settings-length, word-line}
 
 -- ---- lines
@@ -243,14 +243,14 @@ module _ (b old : List ℕ) (good : listingFault b ≡ none) (n : ℕ) (size : n
         text = a ∙ ap (λ (x : Answered). textAfter x old) (sym e);
       }
 
-module _ {b : List ℕ} {setup : Settings} (u : Usual b setup) where
-  -- its text, by its settings and the bytes behind its header
-  pub usual-text : textOf b ≡ settingsText setup ++ flatMap wordText (wordsOf (drop 32 b))
+module _ {b : List ℕ} {end : ℕ} {setup : Settings} (u : Usual b end setup) where
+  -- its text, by its settings and the bytes from its header to the end of its code
+  pub usual-text : textOf b ≡ settingsText setup ++ flatMap wordText (wordsOf (drop 32 (take end b)))
   unfolding textOf
   usual-text = ap₂ (λ (s : Settings) (x : List ℕ). settingsText s ++ flatMap wordText (wordsOf x)) (u .setup-is) (u .code-is)
 
   -- and what it is refused for
-  pub usual-fault : listingFault b ≡ wordsFault 0 (wordsOf (drop 32 b))
+  pub usual-fault : listingFault b ≡ wordsFault 0 (wordsOf (drop 32 (take end b)))
   usual-fault = u .fault-is ∙ ap (λ (x : List ℕ). wordsFault 0 (wordsOf x)) (u .code-is)
 
 -- What opening refuses is refused.
@@ -270,43 +270,52 @@ abbrev headerIn : Header → Result MeantOpened → Header
 headerIn h (value o) = o .header
 headerIn h (refused n) = h
 
--- An image that is opened has no fault of opening, and the header that was read.
-pub record Opens (b : List ℕ) (h : ProgramHeader) : Type 0 where
+-- Where an answer says that the code ends, if it does.
+abbrev endIn : ℕ → Result MeantOpened → ℕ
+endIn e (value o) = o .code-end
+endIn e (refused n) = e
+
+-- An image that is opened has no fault of opening, the header that was read, and its code ends where it says.
+pub record Opens (b : List ℕ) (h : ProgramHeader) (end : ℕ) : Type 0 where
   pub no-fault : openingFault b ≡ none
   pub header-is : headerMeant h ≡ headerOf b
+  pub end-is : end ≡ 32 + headerOf b .code-size
 
 -- It is what opening's answer says.
-pub opens : (b : List ℕ) (h : ProgramHeader) (end : ℕ) → openedMeant b (IsOpened h end) ≡ opening b → Opens b h
-unfolding opening
+pub opens : (b : List ℕ) (h : ProgramHeader) (end : ℕ) → openedMeant b (IsOpened h end) ≡ opening b → Opens b h end
+unfolding opening header-size
 opens b h end e = go (openingFault b) refl e
   where
     go : (o : Option ℕ) → openingFault b ≡ o → openedMeant b (IsOpened h end) ≡ elim o [
       | some n ↦ refused n
       | none ↦ value (record { header = headerOf b; code-end = header-size + headerOf b .code-size; code = codeOf b; initialized = dataOf b })
-    ] → Opens b h
+    ] → Opens b h end
     go (some k) q e = let z : _≡_ {A = ℕ} 0 1 = cc in absurd (omega arith)
-    go none q e = record { no-fault = q; header-is = ap (headerIn (headerOf b)) e }
+    go none q e = record { no-fault = q; header-is = ap (headerIn (headerOf b)) e; end-is = ap (endIn 0) e }
 
-module _ {b : List ℕ} {h : ProgramHeader} (o : Opens b h) where
+module _ {b : List ℕ} {h : ProgramHeader} {end : ℕ} (o : Opens b h end) where
   -- a header that assembling does not write is refused
   pub unusual : isUsual (headerMeant h) ≡ false → listingFault b ≡ some (refusal 29 none none)
   unfolding listingFault
   unusual u = rw (listingFault, o .no-fault, sym (ap isUsual (o .header-is)) ∙ u)
 
   -- of another only the words are left to be looked at
-  pub usual : isUsual (headerMeant h) ≡ true → Usual b (settingsMeant (h .config))
-  unfolding listingFault
+  pub usual : isUsual (headerMeant h) ≡ true → Usual b end (settingsMeant (h .config))
+  unfolding listingFault codeOf header-size
   usual u =
       let v : isUsual (headerOf b) ≡ true = sym (ap isUsual (o .header-is)) ∙ u in
       let s = sound b (o .no-fault) in
       let c = customary (headerOf b) v in
+      let n = headerOf b .code-size in
+      let inside : end ≤ length b = omega (arith, s .total, o .end-is) in
       record {
+        in-image = inside;
         coded = record {
-          words = headerOf b .code-size / 4;
-          size = omega (arith, s .fours, s .total, c .no-data);
+          words = n / 4;
+          size = omega (arith, length-take-le end b inside, o .end-is, s .fours);
           most = omega (arith, c .few);
         };
         setup-is = sym (ap (λ (x : Header). x .setup) (o .header-is));
-        code-is = code-all b s (c .no-data);
+        code-is = sym (ap (λ (e : ℕ). drop 32 (take e b)) (o .end-is) ∙ ap (drop 32) (take-add 32 n b) ∙ drop-at (take 32 b) (take n (drop 32 b)) 32 (length-take-le 32 b (s .long)));
         fault-is = rw (listingFault, o .no-fault, v);
       }

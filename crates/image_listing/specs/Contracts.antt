@@ -3,7 +3,7 @@ use Prim.Native.Nat.{ℕ, _+_, _*_, _≤_}
 use mathlib.Core.Path.{_≡_}
 use mathlib.Core.Option.{none, some}
 use mathlib.Core.List.{List, flatMap}
-use lib.ListN.{length, drop}
+use lib.ListN.{length, take, drop}
 use Rattle.text_lexical.specs.Bytes.{Result, value, refused}
 use Rattle.instruction.specs.Operands.{Instruction}
 use Rattle.instruction.specs.Text.{instructionText}
@@ -27,7 +27,7 @@ abbrev pub lengthMeant : WordLength → Result ℕ
 lengthMeant (IsLength n) = value n
 lengthMeant (RefusedWord n) = refused n
 
--- An image whose words are whole, and not too many.
+-- An image up to the end of its code, whose words are whole, and not too many.
 pub record WholeWords (b : List ℕ) : Type 0 where
   pub words : ℕ
   pub size : length b ≡ 32 + 4 * words
@@ -38,11 +38,12 @@ abbrev pub Measures : List ℕ → Measured → Type 0
 Measures ws (IsMeasured n) = (wordsFault 0 ws ≡ none) × (n ≡ length (flatMap wordText ws)) × (n ≤ 40 * length ws)
 Measures ws (FaultyWord n i) = wordsFault 0 ws ≡ some (refusal n (some i) none)
 
--- An image that is refused, if at all, for one of its words; and its settings.
-pub record Usual (b : List ℕ) (setup : Settings) : Type 0 where
-  pub coded : WholeWords b
+-- An image that is refused, if at all, for one of its words; where its code ends, and its settings.
+pub record Usual (b : List ℕ) (end : ℕ) (setup : Settings) : Type 0 where
+  pub in-image : end ≤ length b
+  pub coded : WholeWords (take end b)
   pub setup-is : headerOf b .setup ≡ setup
-  pub code-is : codeOf b ≡ drop 32 b
+  pub code-is : codeOf b ≡ drop 32 (take end b)
   pub fault-is : listingFault b ≡ wordsFault 0 (wordsOf (codeOf b))
 
 abbrev pub listingMeant : Listing → ListAnswer

@@ -71,21 +71,21 @@ fn word_length(word: u32, mnemonics: &[u64; 50], opcodes: &[u8; 50], forms: &[u8
     }
 }
 
-// The lengths of the lines of all words, added.
+// The lengths of the lines of all words, added. `coded` is an image up to the end of its code.
 fn words_length(
-    image: &[u8],
+    coded: &[u8],
     mnemonics: &[u64; 50],
     opcodes: &[u8; 50],
     forms: &[u8; 50],
 ) -> Measured
-    requires { ⌜ WholeWords (now image) ⌝ ∗ ⌜ now mnemonics ≡ mnemonicKeys ⌝ ∗ ⌜ now opcodes ≡ opcodeNumbers ⌝ ∗ ⌜ now forms ≡ formNumbers ⌝ }
-    ensures { λ r. ⌜ Measures (wordsOf (drop 32 (now (image .entry)))) r ⌝ }
+    requires { ⌜ WholeWords (now coded) ⌝ ∗ ⌜ now mnemonics ≡ mnemonicKeys ⌝ ∗ ⌜ now opcodes ≡ opcodeNumbers ⌝ ∗ ⌜ now forms ≡ formNumbers ⌝ }
+    ensures { λ r. ⌜ Measures (wordsOf (drop 32 (now (coded .entry)))) r ⌝ }
 {
     let mut length = 0;
     let mut at = 32;
-    while at < image.len() {
+    while at < coded.len() {
         match word_length(
-            image::program::read_u32(image, at),
+            image::program::read_u32(coded, at),
             mnemonics,
             opcodes,
             forms,
@@ -170,21 +170,22 @@ fn write_word(
     }
 }
 
+// The lines of all words. `coded` is an image up to the end of its code.
 fn write_words(
     text: &mut [u8],
     from: usize,
-    image: &[u8],
+    coded: &[u8],
     mnemonics: &[u64; 50],
     opcodes: &[u8; 50],
     forms: &[u8; 50],
 ) -> usize
-    requires { ⌜ WholeWords (now image) ⌝ ∗ ⌜ from + length (flatMap wordText (wordsOf (drop 32 (now image)))) ≤ length (now text) ⌝ ∗ ⌜ now mnemonics ≡ mnemonicKeys ⌝ ∗ ⌜ now opcodes ≡ opcodeNumbers ⌝ ∗ ⌜ now forms ≡ formNumbers ⌝ }
-    ensures { λ r. ⌜ Written (now (text .entry)) from (flatMap wordText (wordsOf (drop 32 (now (image .entry))))) r (now (text .exit)) ⌝ }
+    requires { ⌜ WholeWords (now coded) ⌝ ∗ ⌜ from + length (flatMap wordText (wordsOf (drop 32 (now coded)))) ≤ length (now text) ⌝ ∗ ⌜ now mnemonics ≡ mnemonicKeys ⌝ ∗ ⌜ now opcodes ≡ opcodeNumbers ⌝ ∗ ⌜ now forms ≡ formNumbers ⌝ }
+    ensures { λ r. ⌜ Written (now (text .entry)) from (flatMap wordText (wordsOf (drop 32 (now (coded .entry))))) r (now (text .exit)) ⌝ }
 {
     let mut place = from;
     let mut at = 32;
-    while at < image.len() {
-        let word = image::program::read_u32(image, at);
+    while at < coded.len() {
+        let word = image::program::read_u32(coded, at);
         place = write_word(text, place, word, mnemonics, opcodes, forms);
         at += 4;
     }
@@ -197,25 +198,25 @@ pub fn list(image: &[u8], text: &mut [u8]) -> Listing
 {
     match image::program::open(image) {
         Opened::Refused(n) => Listing::Refused(n),
-        Opened::Is { header, .. } => {
+        Opened::Is { header, code_end } => {
             if !is_usual(header) {
                 return Listing::Refused(29);
             }
             let config = header.config;
-            list_words(image, config, text)
+            list_words(image, code_end, config, text)
         }
     }
 }
 
-// The text of an image whose header is as assembling writes it.
-fn list_words(image: &[u8], config: Config, text: &mut [u8]) -> Listing
-    requires { ⌜ Usual (now image) (settingsMeant config) ⌝ }
+// The text of an image whose header is as assembling writes it, and whose code ends at `code_end`.
+fn list_words(image: &[u8], code_end: usize, config: Config, text: &mut [u8]) -> Listing
+    requires { ⌜ Usual (now image) «code_end» (settingsMeant config) ⌝ }
     ensures { λ r. ⌜ Lists (now (image .entry)) (now (text .entry)) (now (text .exit)) r ⌝ }
 {
     let mnemonics = instruction::opcode::mnemonics();
     let opcodes = instruction::opcode::opcodes();
     let forms = instruction::opcode::forms();
-    match words_length(image, &mnemonics, &opcodes, &forms) {
+    match words_length(&image[..code_end], &mnemonics, &opcodes, &forms) {
         Measured::Faulty { number, index } => Listing::Faulty { number, index },
         Measured::Is(length) => {
             let needed = settings_length(config) + length;
@@ -223,7 +224,8 @@ fn list_words(image: &[u8], config: Config, text: &mut [u8]) -> Listing
                 return Listing::TooShort(needed);
             }
             let place = write_settings(text, config);
-            write_words(text, place, image, &mnemonics, &opcodes, &forms);
+            let coded = &image[..code_end];
+            write_words(text, place, coded, &mnemonics, &opcodes, &forms);
             Listing::Is(needed)
         }
     }

@@ -1,3 +1,4 @@
 pub mod Rooms
 pub mod Printing
 pub mod Transcripts
+pub mod Examples

@@ -17,15 +17,14 @@ use Rattle.text.specs.Lines.{lines}
 use Rattle.instruction_codec.specs.Contracts.{put, Written}
 use Rattle.instruction.specs.Words.{wordOf}
 use Rattle.image.specs.Settings.{Settings}
-use Rattle.image.specs.Program.{header-size, imageLength}
 use Rattle.image.specs.Assembling.{Walk, finished, stopped, Assembled, accepted, rejected, start, walk, most-bytes, refusing, readTo, reading, assembling}
 use Rattle.image.specs.Listing.{textOf, written, listing}
 use Rattle.image.specs.Meaning.{instructionsOf, settingsOf, imageOf}
 use Rattle.image.specs.Lent.{over, assembled, refusal, answerOf, imageAfter, listed, unlisted, listAnswerOf, textAfter}
 use Rattle.image_listing.specs.Contracts.{Lists}
-use Rattle.image.specs.Zkasm.{most-input, table-room, image-room, refusalText, outputOf, programOutput}
+use Rattle.zkasm.specs.Zkasm.{most-input, table-room, image-room, refusalText, outputOf, programOutput}
 use Rattle.image_listing.specs.declared.disassembler.Listing.the-variants.{Is}
-use Rattle.image.proofs.Images.{image-length}
+use Rattle.image.proofs.Lengths.{source-image-length}
 use Rattle.image.proofs.Over.{take-over, length-over}
 use Rattle.image.proofs.Walking.{MeansIf, reading-means}
 use Rattle.zkasm.specs.Contracts.{Prints}
@@ -147,10 +146,6 @@ module _ (s : List ℕ) (size : ℕ) (short : length s ≤ most-input) (room : i
       go (rejected r) o m e = let z : _≡_ {A = ℕ} 0 1 = cc in absurd (omega arith)
 
 -- The bytes of an image, at the front of the buffer.
-pub image-size : (s : List ℕ) (words : ℕ) → length (instructionsOf present s) ≡ words → length (imageOf present s) ≡ 32 + 4 * words
-unfolding imageOf imageLength header-size
-image-size s words e =
-    image-length (settingsOf present s) (map wordOf (instructionsOf present s)) ∙ ap (λ n. 32 + 4 * n) (length-map (instructionsOf present s) wordOf ∙ e)
-
 pub image-front : (s old : List ℕ) (words : ℕ) → length (instructionsOf present s) ≡ words → take (32 + 4 * words) (over (imageOf present s) old) ≡ imageOf present s
-image-front s old words e = rw (← image-size s words e) (take-over (imageOf present s) old)
+image-front s old words e =
+    rw (← (source-image-length present s ∙ ap (λ (n : ℕ). 32 + 4 * n) e)) (take-over (imageOf present s) old)

@@ -18,7 +18,7 @@ use Rattle.image.specs.Program.{header-size, imageLength}
 use Rattle.image.specs.Assembling.{Effect, nothing, sets, codes, faulty, Context, readOn, contextAfter, readsFrom, reads, Assembled, accepted, rejected, reading, fitted, assembling}
 use Rattle.image.specs.Listing.{textOf, listingFault, written, listing}
 use Rattle.image.specs.Meaning.{codedBy, codedIn, instructionsOf, settingsOf, imageOf}
-use Rattle.image.specs.Zkasm.{most-input, table-room, input-words, image-room, text-room}
+use Rattle.zkasm.specs.Zkasm.{most-input, table-room, input-words, image-room, text-room}
 use Rattle.image.proofs.ConfigLines.{settings-pass}
 use Rattle.image.proofs.Images.{Words}
 use Rattle.image.proofs.Listed.{AllDecoded, words-of-image, image-listed}
@@ -93,7 +93,7 @@ module _ (s : List ℕ) (short : length s ≤ most-input) where
   pub text-short : length (textOf (imageOf present s)) ≤ text-room
   unfolding imageOf
   text-short =
-      let w = words-of-image (settingsOf present s) words (settings-pass present s) (omega (arith, few)) bounded in
+      let w = words-of-image (settingsOf present s) words [] (settings-pass present s) (omega (arith, few)) (omega arith) bounded in
       omega (arith, listed-short (imageOf present s) no-fault, ap length w, few)
 
   -- So the text buffer suffices, and the image is listed.

@@ -15,7 +15,7 @@ use Rattle.libc.specs.Io.{Moved}
 use Rattle.instruction_codec.specs.Contracts.{put}
 use Rattle.instruction_codec.proofs.Writing.{put-append}
 use Rattle.image.specs.Lent.{over}
-use Rattle.image.specs.Zkasm.{programOutput}
+use Rattle.zkasm.specs.Zkasm.{programOutput}
 use Rattle.image.proofs.Over.{length-over, take-over}
 use Rattle.zkasm.specs.Stdin.{input-room, interruption, failureOf, deliveryOf, countOf, stepOf, Transcript, start, next, Writing, printed, told, writingOf}
 use Rattle.zkasm.specs.Contracts.{Delivers, ReadsPiece, Received, Writes, Replies}

@@ -9,7 +9,7 @@ use Rattle.text_lexical.specs.Names.{present}
 use Rattle.instruction_codec.specs.Contracts.{put}
 use Rattle.image.specs.Assembling.{assembling}
 use Rattle.image.specs.Lent.{over, answerOf, imageAfter}
-use Rattle.image.specs.Zkasm.{table-room}
+use Rattle.zkasm.specs.Zkasm.{table-room}
 use Rattle.image_passes.specs.Contracts.{answerMeant}
 use Rattle.image_passes.specs.declared.second_pass.Assembled.{Assembled}
 use Rattle.zkasm.specs.Stdin.{deliveryOf, countOf, Transcript, Writing, printed, told, writingOf}

@@ -9,7 +9,7 @@ use lib.ListN.{length}
 use lib.Dec.{eqb, ltb}
 use lib.IntN.{ℤ, pos, negsuc}
 use Rattle.text_lexical.specs.Bytes.{bytes}
-use Rattle.image.specs.Zkasm.{most-input, programOutput}
+use Rattle.zkasm.specs.Zkasm.{most-input, programOutput}
 use Rattle.zkasm.specs.declared.stdin.Delivery.{Delivery}
 use Rattle.zkasm.specs.declared.stdin.Delivery.the-variants.{Piece, End, Interrupted, Failed}
 use Rattle.zkasm.specs.declared.stdin.Input.{Input}

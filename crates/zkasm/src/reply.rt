@@ -1,7 +1,7 @@
 // What the program writes, and to which descriptor.
 ghost use Prim.Native.Nat.{_≤_};
 ghost use lib.ListN.{length};
-ghost use Rattle.image.specs.Zkasm.{text-room};
+ghost use Rattle.zkasm.specs.Zkasm.{text-room};
 ghost use Rattle.zkasm.specs.Contracts.{Replies};
 use crate::report::report;
 use crate::stdin;

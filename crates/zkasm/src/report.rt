@@ -3,7 +3,7 @@ ghost use mathlib.Core.Path.{_≡_};
 ghost use Prim.Native.Nat.{_≤_};
 ghost use lib.ListN.{length};
 ghost use Rattle.image.specs.Listing.{textOf, written, listing};
-ghost use Rattle.image.specs.Zkasm.{most-input, image-room, text-room, refusalText, programOutput};
+ghost use Rattle.zkasm.specs.Zkasm.{most-input, image-room, text-room, refusalText, programOutput};
 ghost use Rattle.zkasm.specs.Contracts.{AssemblesInput, Prints};
 use image_labels::label::Label;
 use image_listing::disassembler::Listing;

@@ -22,7 +22,7 @@ is-usual-requires : tie.Need-is-usual-requires
 is-usual-requires c κs = search needs
 
 -- the image is opened
-opened : (c : tie.After-header) → Opens (c .before .before .before .before .before .args .image .now) (c .header .given .0 .0)
+opened : (c : tie.After-header) → Opens (c .before .before .before .before .before .args .image .now) (c .header .given .0 .0) (c .header .given .0 .1 .0)
 opened c =
     let o = c .before .before in
     opens (o .before .before .before .args .image .now) (c .header .given .0 .0) (c .header .given .0 .1 .0) (rw (c .header .given .1) at (o .«open» .ensures))

@@ -12,13 +12,13 @@ use Rattle.image_listing.proofs.disassembler.words_length.Statement.{st
 use Rattle.image_listing.proofs.disassembler.words_length.Tie as tie
 
 abbrev Inv-loop : tie.InvT-loop
-Inv-loop image mnemonics opcodes forms length₀ at₀ n at = Measuring image n at
+Inv-loop coded mnemonics opcodes forms length₀ at₀ n at = Measuring coded n at
 
 abbrev μ-loop : tie.MeasureT-loop
-μ-loop image mnemonics opcodes forms length₀ at₀ n at = length image - at
+μ-loop coded mnemonics opcodes forms length₀ at₀ n at = length coded - at
 
 loop-holds : tie.Need-loop-holds Inv-loop μ-loop
-loop-holds c = measuring-none (c .before .args .image .now) (c .before .pre .0)
+loop-holds c = measuring-none (c .before .args .coded .now) (c .before .pre .0)
 
 read-u32-requires : tie.Need-read-u32-requires Inv-loop μ-loop
 read-u32-requires c κs =
@@ -33,7 +33,7 @@ enum-known-number c = search needs
 
 -- the length that was found is that of the word at the place
 line : (c : tie.After-word-length Inv-loop μ-loop) → let k = c .before .before .before in
-    lengthMeant (c .word-length .result) ≡ lineLength (instructionOf (numberAt (k .loop .at) 4 (k .before .before .args .image .now)))
+    lengthMeant (c .word-length .result) ≡ lineLength (instructionOf (numberAt (k .loop .at) 4 (k .before .before .args .coded .now)))
 line c = c .word-length .ensures .0 ∙ ap (λ (w : ℕ). lineLength (instructionOf w)) (c .before .read-u32 .ensures)
 
 sub-t13 : tie.Need-sub-t13 Inv-loop μ-loop

@@ -7,15 +7,15 @@ use Rattle.image_listing.proofs.disassembler.write_words.Statement.{sta
 use Rattle.image_listing.proofs.disassembler.write_words.Tie as tie
 
 abbrev Inv-loop : tie.InvT-loop
-Inv-loop text₀ from image mnemonics opcodes forms place₀ at₀ text place at = Lined text₀ from image text place at
+Inv-loop text₀ from coded mnemonics opcodes forms place₀ at₀ text place at = Lined text₀ from coded text place at
 
 abbrev μ-loop : tie.MeasureT-loop
-μ-loop text₀ from image mnemonics opcodes forms place₀ at₀ text place at = length image - at
+μ-loop text₀ from coded mnemonics opcodes forms place₀ at₀ text place at = length coded - at
 
 loop-holds : tie.Need-loop-holds Inv-loop μ-loop
 loop-holds c =
     let s = c .before .before in
-    lined-none (s .args .text .now) (s .args .from) (s .args .image .now) (s .pre .0)
+    lined-none (s .args .text .now) (s .args .from) (s .args .coded .now) (s .pre .0)
 
 read-u32-requires : tie.Need-read-u32-requires Inv-loop μ-loop
 read-u32-requires c κs =

@@ -40,7 +40,7 @@ use denote.Triple.Walked.{says, Stays, stay-slice, stay-dropped, walkOf, ends-at
 use Rattle.text_lexical.specs.Names.{present}
 use Rattle.image.specs.Assembling.{assembling}
 use Rattle.image.specs.Lent.{answerOf, imageAfter}
-use Rattle.image.specs.Zkasm.{table-room}
+use Rattle.zkasm.specs.Zkasm.{table-room}
 use Rattle.image_labels.specs.declared.label.Label.{Label}
 use Rattle.image_labels.proofs.label.Label as L
 use Rattle.image_labels.proofs.Calls.{Known, calls-to, asks-nothing}

@@ -9,7 +9,7 @@ use Rattle.text_lexical.specs.Names.{present}
 use Rattle.image.specs.Assembling.{assembling}
 use Rattle.image.specs.Listing.{textOf}
 use Rattle.image.specs.Meaning.{imageOf}
-use Rattle.image.specs.Zkasm.{table-room}
+use Rattle.zkasm.specs.Zkasm.{table-room}
 use Rattle.zkasm.proofs.Rooms.{words-few, text-short, never-32}
 use Rattle.zkasm.proofs.Printing.{Listable, listable, output-refused, no-need, image-front}
 use Rattle.zkasm.proofs.report.report_source.Statement.{statement}

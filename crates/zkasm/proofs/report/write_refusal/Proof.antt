@@ -7,7 +7,7 @@ use borrow.Author.Needs.{needs}
 use Rattle.text_lexical.specs.Bytes.{bytes}
 use Rattle.text_lexical.specs.Numbers.{decimal}
 use Rattle.instruction_codec.proofs.Writing.{written-append, room-before, room-behind}
-use Rattle.image.specs.Zkasm.{refusalText}
+use Rattle.zkasm.specs.Zkasm.{refusalText}
 use Rattle.zkasm.proofs.Printing.{prints-written, refusal-short}
 use Rattle.zkasm.proofs.report.write_refusal.Statement.{statement}
 use Rattle.zkasm.proofs.report.write_refusal.Tie as tie
