@@ -216,58 +216,83 @@ const OPCODES: [u8; 50] = [
     0x51, // ebreak
 ];
 
-// A form by its number: R, I, shift, load, store, branch, jump, system.
+// The forms of instructions, as the form column numbers them.
+// `rd, rs1, rs2`
+pub const R_TYPE: u8 = 0;
+
+// `rd, rs1, n`
+pub const I_TYPE: u8 = 1;
+
+// `rd, rs1, n`, where n is a shift amount
+pub const SHIFT: u8 = 2;
+
+// `rd, n(rs1)`
+pub const LOAD: u8 = 3;
+
+// `rs2, n(rs1)`
+pub const STORE: u8 = 4;
+
+// `rs1, rs2, n`
+pub const BRANCH: u8 = 5;
+
+// `rd, n`
+pub const JUMP: u8 = 6;
+
+// without operands
+pub const SYSTEM: u8 = 7;
+
+// Each row's form.
 const FORMS: [u8; 50] = [
-    0, // add
-    0, // sub
-    0, // mul
-    0, // mulh
-    0, // divu
-    0, // remu
-    0, // div
-    0, // rem
-    1, // addi
-    0, // and
-    0, // or
-    0, // xor
-    1, // andi
-    1, // ori
-    1, // xori
-    0, // sll
-    0, // srl
-    0, // sra
-    2, // slli
-    2, // srli
-    2, // srai
-    0, // sltu
-    0, // sgeu
-    0, // slt
-    0, // sge
-    0, // seq
-    0, // sne
-    0, // cmov
-    0, // cmovz
-    0, // cmovnz
-    3, // lb
-    3, // lbu
-    3, // lh
-    3, // lhu
-    3, // lw
-    3, // ld
-    4, // sb
-    4, // sh
-    4, // sw
-    4, // sd
-    5, // beq
-    5, // bne
-    5, // blt
-    5, // bge
-    5, // bltu
-    5, // bgeu
-    6, // jal
-    1, // jalr
-    7, // ecall
-    7, // ebreak
+    R_TYPE, // add
+    R_TYPE, // sub
+    R_TYPE, // mul
+    R_TYPE, // mulh
+    R_TYPE, // divu
+    R_TYPE, // remu
+    R_TYPE, // div
+    R_TYPE, // rem
+    I_TYPE, // addi
+    R_TYPE, // and
+    R_TYPE, // or
+    R_TYPE, // xor
+    I_TYPE, // andi
+    I_TYPE, // ori
+    I_TYPE, // xori
+    R_TYPE, // sll
+    R_TYPE, // srl
+    R_TYPE, // sra
+    SHIFT, // slli
+    SHIFT, // srli
+    SHIFT, // srai
+    R_TYPE, // sltu
+    R_TYPE, // sgeu
+    R_TYPE, // slt
+    R_TYPE, // sge
+    R_TYPE, // seq
+    R_TYPE, // sne
+    R_TYPE, // cmov
+    R_TYPE, // cmovz
+    R_TYPE, // cmovnz
+    LOAD, // lb
+    LOAD, // lbu
+    LOAD, // lh
+    LOAD, // lhu
+    LOAD, // lw
+    LOAD, // ld
+    STORE, // sb
+    STORE, // sh
+    STORE, // sw
+    STORE, // sd
+    BRANCH, // beq
+    BRANCH, // bne
+    BRANCH, // blt
+    BRANCH, // bge
+    BRANCH, // bltu
+    BRANCH, // bgeu
+    JUMP, // jal
+    I_TYPE, // jalr
+    SYSTEM, // ecall
+    SYSTEM, // ebreak
 ];
 
 // Where a mnemonic may stand: the row at its key's residue modulo 293, by which all fifty differ; 50 where there is none.

@@ -11,7 +11,14 @@ ghost use Rattle.instruction.specs.Contracts.{rowAt, formAt, formNumbers, opcod
 ghost use Rattle.instruction_codec.specs.Contracts.{decodedMeant, formWord, Power, Signed};
 use instruction::instruction::Instruction;
 use instruction::instruction::Operands;
+use instruction::opcode::BRANCH;
+use instruction::opcode::I_TYPE;
+use instruction::opcode::JUMP;
+use instruction::opcode::LOAD;
+use instruction::opcode::R_TYPE;
 use instruction::opcode::Row;
+use instruction::opcode::SHIFT;
+use instruction::opcode::STORE;
 use text_lexical::number::Whole;
 use text_lexical::register::Register;
 
@@ -142,9 +149,9 @@ fn is_clear(form: u8, word: u32) -> bool
     ensures { λ r. ⌜ r ≡ ltb word (2 ^ unusedFrom (places (formAt form))) ⌝ }
 {
     match form {
-        0 => word < 0x80000,
-        2 => word < 0x800000,
-        1 | 3..=6 => true,
+        R_TYPE => word < 0x80000,
+        SHIFT => word < 0x800000,
+        I_TYPE | LOAD | STORE | BRANCH | JUMP => true,
         _ => word < 0x80,
     }
 }
@@ -178,11 +185,11 @@ fn number_at(form: u8, word: u32) -> Whole
     ensures { λ r. ⌜ numberFor (places (formAt form)) (wholeMeant r) ≡ numberIn word (places (formAt form)) ⌝ }
 {
     match form {
-        2 => Whole {
+        SHIFT => Whole {
             negative: false,
             magnitude: (word / 0x8000 % 0x100) as u64,
         },
-        6 => signed(word / 0x800, 0x100000),
+        JUMP => signed(word / 0x800, 0x100000),
         _ => signed(word / 0x8000, 0x10000),
     }
 }
@@ -195,7 +202,7 @@ fn operands_of(form: u8, word: u32) -> Operands
     let high = register_at(word, 0x800);
     let third = register_at(word, 0x8000);
     let number = number_at(form, word);
-    if form == 4 {
+    if form == STORE {
         return Operands {
             first: high,
             second: low,
