@@ -1,82 +1,21 @@
--- The header of an image as the code writes it and reads it, and opening.
-use mathlib.Core.Path.{_≡_, refl, sym, ap, ap₂, subst, _∙_}
-use Prim.Native.Nat.{ℕ, _+_, _-_, _*_, _/_, _%_, _^_, _≤_, _<_}
+-- The header of an image as the code reads it, and opening.
+use mathlib.Core.Path.{_≡_, sym, ap, _∙_}
+use Prim.Native.Nat.{ℕ, _+_, _-_, _*_, _%_, _≤_, _<_}
 use native.Mathlib.Nat.{add-zero}
-use native.Mathlib.Numerals.{add-one}
 use native.Mathlib.Omega.{arith}
 use mathlib.Core.Option.{none, some}
-use mathlib.Core.List.{List, [], _∷_, _++_}
-use lib.ListN.{length, take, drop, set, getD, length-set, length-drop}
-use lib.Seq.{take-suc, take-all, getD-drop}
+use mathlib.Core.List.{List, [], _∷_}
+use lib.ListN.{length, take, drop, getD, length-drop}
+use lib.Seq.{getD-drop}
 use borrow.Author.Tests.{eq-eqb, ne-eqb, lt-ltb, le-ltb}
 use Rattle.text_lexical.specs.Bytes.{value, refused}
-use Rattle.text_lexical.specs.Numbers.{little, unlittle}
-use Rattle.instruction_codec.specs.Contracts.{put, Written}
-use Rattle.instruction_codec.proofs.Writing.{put-none, written-byte, written-append}
+use Rattle.text_lexical.specs.Numbers.{unlittle}
 use Rattle.image.specs.Settings.{settingsFault}
 use Rattle.image.specs.Program.{Header, magic, version, header-size, numberAt, headerOf, codeOf, dataOf}
 use Rattle.image.specs.Opening.{headerFault, openingFault, opening}
 use Rattle.image.specs.Contracts.{headerMeant, openedMeant}
 use Rattle.image.specs.declared.program.ProgramHeader.{ProgramHeader}
 use Rattle.image.specs.declared.program.Opened.the-variants.{Is as IsOpened}
-
--- ---- bytes written
-
--- So many of some bytes are written.
-pub record Copied (l : List ℕ) (at : ℕ) (bytes : List ℕ) (i : ℕ) (m : List ℕ) : Type 0 where
-  pub some-of : i ≤ length bytes
-  pub long : length m ≡ length l
-  pub so-far : Written l at (take i bytes) (at + i) m
-
--- None at first,
-pub copied-none : (l : List ℕ) (at : ℕ) (bytes : List ℕ) → Copied l at bytes 0 l
-copied-none l at bytes =
-    record { some-of = omega arith; long = refl; so-far = record { ends = refl; holds = sym (put-none l at) } }
-
--- one more each time,
-pub copied-more : {l : List ℕ} {at : ℕ} {bytes : List ℕ} {i : ℕ} {m : List ℕ} → Copied l at bytes i m → at + length bytes ≤ length l → i < length bytes
-    → Copied l at bytes (i + 1) (set m (at + i) (getD bytes i 0))
-copied-more {l} {at} {bytes} {i} {m} c room h =
-    let e : take i bytes ++ (getD bytes i 0 ∷ []) ≡ take (i + 1) bytes = rw (add-one i) (sym (take-suc bytes i 0 h)) in
-    let w = written-append (c .so-far) (omega arith) (written-byte m (at + i) (getD bytes i 0) (omega (arith, c .long))) in
-    record {
-      some-of = omega arith;
-      long = length-set m (at + i) (getD bytes i 0) ∙ c .long;
-      so-far = record { ends = omega (arith, w .ends, ap length e); holds = w .holds ∙ ap (put l at) e };
-    }
-
--- and all in the end.
-pub copied-all : {l : List ℕ} {at : ℕ} {bytes : List ℕ} {i : ℕ} {m : List ℕ} → Copied l at bytes i m → length bytes ≤ i → Written l at bytes (at + i) m
-copied-all {l} {at} {bytes} {i} {m} c h = rw (take-all i bytes h) at (c .so-far)
-
--- A byte, stored behind what is written.
-byte-behind : {l : List ℕ} {at : ℕ} {s : List ℕ} {p : ℕ} {m : List ℕ} → Written l at s p m → at ≤ length l → (b q : ℕ) → q ≡ p → q < length m
-    → Written l at (s ++ (b ∷ [])) (q + 1) (set m q b)
-byte-behind {l} {at} {s} {p} {m} w h b q e r = written-append w h (subst (λ (x : ℕ). Written m x (b ∷ []) (q + 1) (set m q b)) e (written-byte m q b r))
-
--- Four bytes, each stored at its place.
-pub written-four : (l : List ℕ) (at a b c d : ℕ) → at + 4 ≤ length l
-    → Written l at (a ∷ b ∷ c ∷ d ∷ []) (at + 4) (set (set (set (set l at a) (at + 1) b) (at + 2) c) (at + 3) d)
-written-four l at a b c d h =
-    let m1 = set l at a in
-    let m2 = set m1 (at + 1) b in
-    let m3 = set m2 (at + 2) c in
-    let n1 : length m1 ≡ length l = length-set l at a in
-    let n2 : length m2 ≡ length m1 = length-set m1 (at + 1) b in
-    let n3 : length m3 ≡ length m2 = length-set m2 (at + 2) c in
-    let w1 = written-byte l at a (omega arith) in
-    let w2 = byte-behind w1 (omega arith) b (at + 1) refl (omega arith) in
-    let w3 = byte-behind w2 (omega arith) c (at + 2) (omega arith) (omega arith) in
-    let w4 = byte-behind w3 (omega arith) d (at + 3) (omega arith) (omega arith) in
-    record { ends = refl; holds = w4 .holds }
-
--- The bytes of a number of 32 bits.
-pub little-four : (v : ℕ) → v < 2 ^ 32 → v % 256 ∷ v / 256 % 256 ∷ v / 65536 % 256 ∷ v / 16777216 ∷ [] ≡ little 4 v
-unfolding little
-little-four v h =
-    let a : v / 65536 % 256 ≡ v / 256 / 256 % 256 = omega arith in
-    let b : v / 16777216 ≡ v / 256 / 256 / 256 % 256 = omega arith in
-    ap₂ (λ (x y : ℕ). v % 256 ∷ v / 256 % 256 ∷ x ∷ y ∷ []) a b
 
 -- ---- bytes read
 

@@ -6,7 +6,7 @@ use native.Mathlib.Numerals.{add-one}
 use mathlib.Core.List.{List, [], _∷_, _++_, append-assoc}
 use lib.ListN.{length, take, drop, set, length-append, length-drop}
 use lib.Seq.{drop-drop, drop-append-add, take-at, set-split}
-use Rattle.instruction_codec.specs.Contracts.{put, Written}
+use Rattle.text_writer.specs.Contracts.{put, Written}
 use Rattle.image.specs.Lent.{over}
 
 module _ {A : Type 0} (xs old : List A) where

@@ -3,7 +3,7 @@ ghost use mathlib.Core.Path.{_≡_};
 ghost use Prim.Native.Nat.{_+_, _≤_};
 ghost use lib.ListN.{length};
 ghost use Rattle.text_lexical.specs.Numbers.{little};
-ghost use Rattle.instruction_codec.specs.Contracts.{Written};
+ghost use Rattle.text_writer.specs.Contracts.{Written};
 ghost use Rattle.image.specs.Program.{headerBytes, headerFor, numberAt, headerOf};
 ghost use Rattle.image.specs.Opening.{headerFault, opening};
 ghost use Rattle.image.specs.Contracts.{settingsMeant, faultMeant, settingBytes, headerMeant, openedMeant};
@@ -31,31 +31,6 @@ pub enum Opened {
     Refused(u8),
 }
 
-// Bytes, written at a place; the answer is the place behind them.
-pub fn write_bytes(out: &mut [u8], at: usize, bytes: &[u8]) -> usize
-    requires { ⌜ at + length (now bytes) ≤ length (now out) ⌝ }
-    ensures { λ r. ⌜ Written (now (out .entry)) at (now (bytes .entry)) r (now (out .exit)) ⌝ }
-{
-    let mut i = 0;
-    while i < bytes.len() {
-        out[at + i] = bytes[i];
-        i += 1;
-    }
-    at + i
-}
-
-// A number of 32 bits, its lowest byte first.
-pub fn write_u32(out: &mut [u8], at: usize, value: u32) -> usize
-    requires { ⌜ at + 4 ≤ length (now out) ⌝ }
-    ensures { λ r. ⌜ Written (now (out .entry)) at (little 4 value) r (now (out .exit)) ⌝ }
-{
-    out[at] = (value % 0x100) as u8;
-    out[at + 1] = (value / 0x100 % 0x100) as u8;
-    out[at + 2] = (value / 0x10000 % 0x100) as u8;
-    out[at + 3] = (value / 0x1000000) as u8;
-    at + 4
-}
-
 // The three settings, a byte each, and no flags.
 fn write_config(out: &mut [u8], at: usize, config: Config) -> usize
     requires { ⌜ at + 4 ≤ length (now out) ⌝ }
@@ -74,13 +49,13 @@ pub fn write_header(image: &mut [u8], config: Config, code_size: u32) -> usize
     ensures { λ r. ⌜ Written (now (image .entry)) 0 (headerBytes (headerFor (settingsMeant config) «code_size» 0)) r (now (image .exit)) ⌝ }
 {
     // magic, version
-    let at = write_bytes(image, 0, b"ZKIR\x04\x00\x03\x00");
+    let at = text_writer::writer::write_bytes(image, 0, b"ZKIR\x04\x00\x03\x00");
     let at = write_config(image, at, config);
     // entry
-    let at = write_bytes(image, at, b"\x00\x10\x00\x00");
-    let at = write_u32(image, at, code_size);
+    let at = text_writer::writer::write_bytes(image, at, b"\x00\x10\x00\x00");
+    let at = text_writer::writer::write_u32(image, at, code_size);
     // data, bss, stack
-    write_bytes(
+    text_writer::writer::write_bytes(
         image,
         at,
         b"\x00\x00\x00\x00\x00\x00\x00\x00\x00\x00\x10\x00",

@@ -10,11 +10,11 @@ use lib.Seq.{length-take-le, drop-drop, take-add, drop-at}
 use borrow.Author.Tests.{le-leb, lt-leb}
 use Rattle.text_lexical.specs.Bytes.{Result, value, refused}
 use Rattle.text_lexical.specs.Numbers.{unlittle}
+use Rattle.text_writer.specs.Contracts.{Written}
+use Rattle.text_writer.proofs.Writing.{written-none, written-length, written-append, room-behind, room-before}
 use Rattle.instruction.specs.Operands.{Instruction}
 use Rattle.instruction.specs.Words.{instructionOf}
 use Rattle.instruction.specs.Text.{instructionText}
-use Rattle.instruction_codec.specs.Contracts.{Written}
-use Rattle.instruction_codec.proofs.Writing.{written-none, written-length, written-append, room-behind, room-before}
 use Rattle.image.specs.Settings.{Settings}
 use Rattle.image.specs.Program.{header-size, Header, numberAt, headerOf, codeOf, dataOf}
 use Rattle.image.specs.Opening.{Opened as MeantOpened, openingFault, opening}

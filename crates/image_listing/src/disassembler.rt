@@ -4,9 +4,9 @@ ghost use mathlib.Core.List.{_++_, flatMap};
 ghost use Prim.Native.Nat.{ℕ, _+_, _≤_};
 ghost use lib.ListN.{length, drop};
 ghost use Rattle.text_lexical.specs.Numbers.{decimal};
+ghost use Rattle.text_writer.specs.Contracts.{Written};
 ghost use Rattle.instruction.specs.Words.{instructionOf};
 ghost use Rattle.instruction.specs.Contracts.{mnemonicKeys, opcodeNumbers, formNumbers};
-ghost use Rattle.instruction_codec.specs.Contracts.{Written};
 ghost use Rattle.image.specs.Listing.{wordsOf, lineText, settingsText, wordText, isUsual};
 ghost use Rattle.image.specs.Contracts.{settingsMeant, headerMeant};
 ghost use Rattle.image_listing.specs.Contracts.{lengthMeant, lineLength, WholeWords, Measures, Usual, Lists};
@@ -108,7 +108,7 @@ fn setting_length(key: usize, value: u8) -> usize
     requires { ⌜ key ≤ 10 ⌝ }
     ensures { λ r. ⌜ r ≡ 10 + key + length (decimal value) ⌝ ∗ ⌜ r ≤ 40 ⌝ }
 {
-    10 + key + instruction_codec::display::decimal_length(value as u64)
+    10 + key + text_writer::writer::decimal_length(value as u64)
 }
 
 fn settings_length(config: Config) -> usize
@@ -125,8 +125,8 @@ fn write_setting(text: &mut [u8], at: usize, front: &[u8], value: u8) -> usize
     requires { ⌜ at + length (lineText (now front ++ decimal value)) ≤ length (now text) ⌝ }
     ensures { λ r. ⌜ Written (now (text .entry)) at (lineText (now (front .entry) ++ decimal value)) r (now (text .exit)) ⌝ }
 {
-    let place = image::program::write_bytes(text, at, front);
-    let end = instruction_codec::display::write_decimal(text, place, value as u64);
+    let place = text_writer::writer::write_bytes(text, at, front);
+    let end = text_writer::writer::write_decimal(text, place, value as u64);
     text[end] = b'\n';
     end + 1
 }

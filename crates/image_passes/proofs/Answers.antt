@@ -13,11 +13,11 @@ use Rattle.text_lexical.specs.Bytes.{ascii, every, run}
 use Rattle.text_lexical.specs.Numbers.{little}
 use Rattle.text_lexical.specs.Names.{present}
 use Rattle.text_lexical.proofs.Strings.{take-run, every-run, past-run}
+use Rattle.text_writer.specs.Contracts.{Written}
+use Rattle.text_writer.proofs.Writing.{written-append}
 use Rattle.text.specs.Lines.{lines, indent, readLine}
 use Rattle.text.specs.Lines.{Line as Record}
 use Rattle.instruction.specs.Words.{wordOf}
-use Rattle.instruction_codec.specs.Contracts.{Written}
-use Rattle.instruction_codec.proofs.Writing.{written-append}
 use Rattle.image.specs.Settings.{Settings, begin}
 use Rattle.image.specs.Program.{headerBytes, headerFor, header-size, image, imageLength}
 use Rattle.image.specs.Assembling.{Label, State, start, Step, next, stop, readOn, entering, doing, step, contextOf, Walk, finished, stopped, walk, Assembled, accepted, refusing, readTo, most-bytes, reading, fitted, assembling}

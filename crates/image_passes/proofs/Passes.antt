@@ -15,10 +15,10 @@ use Rattle.text.specs.Lines.{extended, lines, readLine}
 use Rattle.text.specs.Lines.{Line as Record}
 use Rattle.text.specs.Places.{restAt, endAt}
 use Rattle.text_lexical.proofs.Tests.{split}
+use Rattle.text_writer.specs.Contracts.{Written}
+use Rattle.text_writer.proofs.Writing.{written-none, written-length, written-append, room-behind, room-before}
 use Rattle.text.proofs.Lines.{line-at, last-line}
 use Rattle.instruction.specs.Words.{wordOf}
-use Rattle.instruction_codec.specs.Contracts.{Written}
-use Rattle.instruction_codec.proofs.Writing.{written-none, written-length, written-append, room-behind, room-before}
 use Rattle.image.specs.Settings.{Settings, begin}
 use Rattle.image.specs.Assembling.{Effect, readOn, changedBy, contextAfter, readsFrom, reads}
 use Rattle.image.specs.Meaning.{codedBy, codedIn, instructionsOf}

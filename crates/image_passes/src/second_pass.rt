@@ -4,9 +4,9 @@ ghost use mathlib.Core.List.{flatMap};
 ghost use Prim.Native.Nat.{_+_, _≤_, _<_};
 ghost use lib.ListN.{length};
 ghost use Rattle.text_lexical.specs.Numbers.{little};
+ghost use Rattle.text_writer.specs.Contracts.{Written};
 ghost use Rattle.instruction.specs.Words.{wordOf};
 ghost use Rattle.instruction.specs.Contracts.{opcodeNumbers, partsMeant};
-ghost use Rattle.instruction_codec.specs.Contracts.{Written};
 ghost use Rattle.image.specs.Contracts.{settingsMeant};
 ghost use Rattle.image.specs.declared.config.Checked.the-variants.{Good};
 ghost use Rattle.image_passes.specs.Contracts.{Tables, codedMeant, CodesLine, Readable, codeBytes, Ready, overlong as overlongAnswer, Fills, Finishes};
@@ -100,7 +100,7 @@ fn write_coded(image: &mut [u8], place: usize, coded: Coded) -> usize
 {
     match coded {
         Coded::Nothing => place,
-        Coded::Word(word) => image::program::write_u32(image, place, word),
+        Coded::Word(word) => text_writer::writer::write_u32(image, place, word),
     }
 }
 

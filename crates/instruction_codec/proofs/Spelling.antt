@@ -8,9 +8,9 @@ use lib.ListN.{length, take, drop, getD, set, drop-of-length-le}
 use lib.Seq.{length-take-le, take-suc, take-all, drop-cons}
 use Rattle.text_lexical.specs.Contracts.{packed}
 use Rattle.text_lexical.proofs.Tests.{split}
+use Rattle.text_writer.specs.Contracts.{Written}
+use Rattle.text_writer.proofs.Writing.{written-none, written-byte, written-append, written-length}
 use Rattle.instruction.proofs.Columns.{Short}
-use Rattle.instruction_codec.specs.Contracts.{Written}
-use Rattle.instruction_codec.proofs.Writing.{written-none, written-byte, written-append, written-length}
 
 -- What is left of a spelling's key when so many bytes were taken off it.
 pub record Taken (s : List ℕ) (k rest : ℕ) : Type 0 where

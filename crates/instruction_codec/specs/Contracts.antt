@@ -58,12 +58,3 @@ baseText r = 40 ∷ (registerText (indexOf r) ++ (41 ∷ []))
 -- The text of a form's registers and number, with the mnemonic of a row.
 unfoldable pub formText : Form → ℕ → List ℕ → Option ℤ → List ℕ
 formText f row rs n = rowAt row .mnemonic ++ operandsText (places f) rs n
-
--- A buffer in which a text was put at a place.
-unfoldable pub put : List ℕ → ℕ → List ℕ → List ℕ
-put old at text = take at old ++ (text ++ drop (at + length text) old)
-
--- A text was written at a place: where it ends, and the buffer afterwards.
-pub record Written (old : List ℕ) (at : ℕ) (text : List ℕ) (end : ℕ) (new : List ℕ) : Type 0 where
-  pub ends : end ≡ at + length text
-  pub holds : new ≡ put old at text

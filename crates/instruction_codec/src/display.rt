@@ -5,51 +5,22 @@ ghost use mathlib.Core.Option.{none, some};
 ghost use mathlib.Core.List.{[], _∷_};
 ghost use Prim.Native.Nat.{_+_, _≤_, _<_};
 ghost use lib.ListN.{length};
-ghost use Rattle.text_lexical.specs.Numbers.{decimal, signedDecimal};
+ghost use Rattle.text_lexical.specs.Numbers.{signedDecimal};
 ghost use Rattle.text_lexical.specs.Contracts.{indexOf, wholeMeant};
+ghost use Rattle.text_writer.specs.Contracts.{Written};
 ghost use Rattle.instruction.specs.Table.{R, I, Load, Jump};
 ghost use Rattle.instruction.specs.Text.{registerText};
 ghost use Rattle.instruction.specs.Contracts.{mnemonicKeys, rowAt};
-ghost use Rattle.instruction_codec.specs.Contracts.{nextText, firstText, pairText, baseText, formText, Written};
+ghost use Rattle.instruction_codec.specs.Contracts.{nextText, firstText, pairText, baseText, formText};
 use text_lexical::number::Whole;
 use text_lexical::register::Register;
-
-// How many digits a number has.
-pub fn decimal_length(n: u64) -> usize
-    ensures { λ r. ⌜ r ≡ length (decimal n) ⌝ ∗ ⌜ r ≤ 20 ⌝ }
-{
-    let mut rest = n;
-    let mut length: usize = 1;
-    while 10 <= rest {
-        rest = rest / 10;
-        length += 1;
-    }
-    length
-}
-
-// A number's digits, written from the last to the first.
-pub fn write_decimal(out: &mut [u8], at: usize, n: u64) -> usize
-    requires { ⌜ at + length (decimal n) ≤ length (now out) ⌝ }
-    ensures { λ r. ⌜ Written (now (out .entry)) at (decimal n) r (now (out .exit)) ⌝ }
-{
-    let end = at + decimal_length(n);
-    let mut place = end;
-    let mut rest = n;
-    while 10 <= rest {
-        place -= 1;
-        out[place] = (48 + rest % 10) as u8;
-        rest = rest / 10;
-    }
-    out[at] = (48 + rest % 10) as u8;
-    end
-}
 
 // A whole number takes its digits and, below 0, a sign; -0 is 0.
 fn number_length(number: Whole) -> usize
     ensures { λ r. ⌜ r ≡ length (signedDecimal (wholeMeant number)) ⌝ ∗ ⌜ r ≤ 21 ⌝ }
 {
     let magnitude = number.magnitude;
-    let digits = decimal_length(magnitude);
+    let digits = text_writer::writer::decimal_length(magnitude);
     if number.negative {
         if 0 < magnitude {
             return 1 + digits;
@@ -66,17 +37,17 @@ fn write_number(out: &mut [u8], at: usize, number: Whole) -> usize
     if number.negative {
         if 0 < magnitude {
             out[at] = b'-';
-            return write_decimal(out, at + 1, magnitude);
+            return text_writer::writer::write_decimal(out, at + 1, magnitude);
         }
     }
-    write_decimal(out, at, magnitude)
+    text_writer::writer::write_decimal(out, at, magnitude)
 }
 
 fn register_length(register: Register) -> usize
     ensures { λ r. ⌜ r ≡ length (registerText (indexOf register)) ⌝ ∗ ⌜ r ≤ 3 ⌝ }
 {
     let index = register.index();
-    1 + decimal_length(index as u64)
+    1 + text_writer::writer::decimal_length(index as u64)
 }
 
 fn write_register(out: &mut [u8], at: usize, register: Register) -> usize
@@ -85,7 +56,7 @@ fn write_register(out: &mut [u8], at: usize, register: Register) -> usize
 {
     let index = register.index();
     out[at] = b'r';
-    write_decimal(out, at + 1, index as u64)
+    text_writer::writer::write_decimal(out, at + 1, index as u64)
 }
 
 // A register, with a comma and a space after it.

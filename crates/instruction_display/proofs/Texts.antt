@@ -7,12 +7,13 @@ use mathlib.Core.List.{List, append-nil}
 use lib.ListN.{length}
 use lib.Dec.{ltb}
 use Rattle.text_lexical.specs.Contracts.{wholeMeant}
+use Rattle.text_writer.specs.Contracts.{Written}
 use Rattle.instruction.specs.Table.{Form, I, Shift, Load, Store, Branch, System, places}
 use Rattle.instruction.specs.Text.{placesText, operandsText, instructionText}
 use Rattle.instruction.specs.Contracts.{rowAt, registersFor, numberFor, registersOf, partsOf, instructionMeant}
 use Rattle.instruction.specs.declared.instruction.Instruction.{Instruction}
 use Rattle.instruction.proofs.Parts.{case-row}
-use Rattle.instruction_codec.specs.Contracts.{formText, Written}
+use Rattle.instruction_codec.specs.Contracts.{formText}
 use Rattle.instruction_codec.proofs.Pieces.{memory-length}
 
 module _ (k : ℕ) (i j : Instruction) (e : i ≡ j) (below : ltb k 50 ≡ true) (mnemonic : partsOf j .mnemonic ≡ rowAt k .mnemonic) where

@@ -4,7 +4,7 @@ ghost use Prim.Native.Nat.{_+_, _≤_};
 ghost use lib.ListN.{length};
 ghost use Rattle.instruction.specs.Text.{instructionText};
 ghost use Rattle.instruction.specs.Contracts.{mnemonicKeys, instructionMeant};
-ghost use Rattle.instruction_codec.specs.Contracts.{Written};
+ghost use Rattle.text_writer.specs.Contracts.{Written};
 use instruction::instruction::Instruction;
 use instruction::opcode::*;
 use instruction_codec::display::i_type_length;

@@ -13,8 +13,8 @@ use Rattle.text_lexical.specs.Bytes.{bytes, ascii, every, before}
 use Rattle.text_lexical.specs.Numbers.{decimal}
 use Rattle.text_lexical.specs.Names.{present}
 use Rattle.text_lexical.proofs.Numbers.{decimal-length}
+use Rattle.text_writer.specs.Contracts.{put, Written}
 use Rattle.text.specs.Lines.{lines}
-use Rattle.instruction_codec.specs.Contracts.{put, Written}
 use Rattle.instruction.specs.Words.{wordOf}
 use Rattle.image.specs.Settings.{Settings}
 use Rattle.image.specs.Assembling.{Walk, finished, stopped, Assembled, accepted, rejected, start, walk, most-bytes, refusing, readTo, reading, assembling}

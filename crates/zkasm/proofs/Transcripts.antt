@@ -12,8 +12,8 @@ use lib.Dec.{eqb, ltb}
 use lib.IntN.{ℤ, pos, negsuc}
 use borrow.Author.Tests.{ltb-true, ltb-false}
 use Rattle.libc.specs.Io.{Moved}
-use Rattle.instruction_codec.specs.Contracts.{put}
-use Rattle.instruction_codec.proofs.Writing.{put-append}
+use Rattle.text_writer.specs.Contracts.{put}
+use Rattle.text_writer.proofs.Writing.{put-append}
 use Rattle.image.specs.Lent.{over}
 use Rattle.zkasm.specs.Zkasm.{programOutput}
 use Rattle.image.proofs.Over.{length-over, take-over}

@@ -6,7 +6,7 @@ use lib.ListN.{length, take}
 use lib.IntN.{ℤ}
 use Rattle.libc.specs.Io.{Moved}
 use Rattle.text_lexical.specs.Names.{present}
-use Rattle.instruction_codec.specs.Contracts.{put}
+use Rattle.text_writer.specs.Contracts.{put}
 use Rattle.image.specs.Assembling.{assembling}
 use Rattle.image.specs.Lent.{over, answerOf, imageAfter}
 use Rattle.zkasm.specs.Zkasm.{table-room}

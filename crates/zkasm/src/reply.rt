@@ -22,7 +22,7 @@ pub fn answer_input(out: &mut [u8]) -> Reply
     match stdin::read_input(&mut input) {
         Input::Whole(n) => Reply::Output(report(&input[..n], out)),
         Input::TooLong => Reply::Output(report(&input, out)),
-        Input::Incomplete => Reply::Error(image::program::write_bytes(
+        Input::Incomplete => Reply::Error(text_writer::writer::write_bytes(
             out,
             0,
             b"zkasm: standard input could not be read to its end\n",

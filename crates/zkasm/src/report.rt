@@ -14,11 +14,11 @@ fn write_refusal(out: &mut [u8], number: u8, line: usize) -> usize
     requires { ⌜ text-room ≤ length (now out) ⌝ }
     ensures { λ r. ⌜ Prints (refusalText number line) (now (out .entry)) (now (out .exit)) r ⌝ }
 {
-    let at = image::program::write_bytes(out, 0, b"refused ");
-    let at = instruction_codec::display::write_decimal(out, at, number as u64);
-    let at = image::program::write_bytes(out, at, b" line ");
-    let at = instruction_codec::display::write_decimal(out, at, line as u64);
-    image::program::write_bytes(out, at, b"\n")
+    let at = text_writer::writer::write_bytes(out, 0, b"refused ");
+    let at = text_writer::writer::write_decimal(out, at, number as u64);
+    let at = text_writer::writer::write_bytes(out, at, b" line ");
+    let at = text_writer::writer::write_decimal(out, at, line as u64);
+    text_writer::writer::write_bytes(out, at, b"\n")
 }
 
 // The text of an image that has one, and for which there is room.

@@ -99,7 +99,7 @@ fn read_piece(input: &mut [u8], filled: usize, piece: &mut [u8]) -> Delivery
     let left = input.len() - filled;
     let delivery = read_some(&mut piece[..left]);
     if let Delivery::Piece(n) = delivery {
-        image::program::write_bytes(input, filled, &piece[..n]);
+        text_writer::writer::write_bytes(input, filled, &piece[..n]);
     }
     delivery
 }

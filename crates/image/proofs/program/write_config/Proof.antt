@@ -3,7 +3,7 @@ use native.Mathlib.Omega.{arith}
 use lib.ListN.{length-set}
 use borrow.Author.Needs.{needs}
 use Rattle.image.specs.Settings.{settings}
-use Rattle.image.proofs.Heads.{written-four}
+use Rattle.text_writer.proofs.Writing.{written-four}
 use Rattle.image.proofs.program.write_config.Statement.{statement}
 use Rattle.image.proofs.program.write_config.Tie as tie
 

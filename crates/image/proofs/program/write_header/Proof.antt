@@ -2,7 +2,7 @@
 use native.Mathlib.Omega.{arith}
 use borrow.Author.Needs.{needs}
 use Rattle.text_lexical.specs.Numbers.{little}
-use Rattle.instruction_codec.proofs.Writing.{written-append}
+use Rattle.text_writer.proofs.Writing.{written-append}
 use Rattle.image.specs.Settings.{settings}
 use Rattle.image.specs.Program.{magic, version, entry, stack-size, headerBytes, headerFor}
 use Rattle.image.proofs.program.write_header.Statement.{statement}

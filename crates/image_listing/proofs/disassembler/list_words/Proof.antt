@@ -7,7 +7,7 @@ use native.Mathlib.Omega.{arith}
 use lib.ListN.{length, take, drop, length-append}
 use lib.Seq.{length-take-le}
 use borrow.Author.Needs.{needs}
-use Rattle.instruction_codec.proofs.Writing.{written-append, room-behind}
+use Rattle.text_writer.proofs.Writing.{written-append, room-behind}
 use Rattle.image.specs.Listing.{wordsOf, settingsText, wordText, textOf, refusal, listingFault}
 use Rattle.image.specs.Contracts.{settingsMeant}
 use Rattle.image_listing.specs.Contracts.{Measures}

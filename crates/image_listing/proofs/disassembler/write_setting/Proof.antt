@@ -5,7 +5,7 @@ use Prim.Native.Nat.{_+_, _≤_, _<_}
 use native.Mathlib.Omega.{arith}
 use lib.ListN.{length, length-append, length-set}
 use Rattle.text_lexical.specs.Numbers.{decimal}
-use Rattle.instruction_codec.proofs.Writing.{written-byte, written-length, written-append}
+use Rattle.text_writer.proofs.Writing.{written-byte, written-length, written-append}
 use Rattle.image.specs.Listing.{lineText}
 use Rattle.image_listing.proofs.Texts.{line-length}
 use Rattle.image_listing.proofs.disassembler.write_setting.Statement.{statement}

@@ -5,7 +5,7 @@ use native.Mathlib.Omega.{arith}
 use lib.ListN.{length}
 use borrow.Author.Needs.{needs}
 use Rattle.text_lexical.specs.Bytes.{bytes}
-use Rattle.instruction_codec.proofs.Writing.{written-append, room-before, room-behind}
+use Rattle.text_writer.proofs.Writing.{written-append, room-before, room-behind}
 use Rattle.image.specs.Settings.{settings, limb-bits-key, data-limbs-key, addr-limbs-key}
 use Rattle.image.specs.Listing.{settingText, settingsText}
 use Rattle.image.specs.declared.config.Config.{Config}

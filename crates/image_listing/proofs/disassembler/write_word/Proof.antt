@@ -7,7 +7,7 @@ use lib.ListN.{length, length-set}
 use borrow.Author.Needs.{needs}
 use Rattle.instruction.specs.Text.{instructionText}
 use Rattle.instruction.specs.Contracts.{instructionMeant}
-use Rattle.instruction_codec.proofs.Writing.{written-none, written-byte, written-length, written-append, room-before, room-behind}
+use Rattle.text_writer.proofs.Writing.{written-none, written-byte, written-length, written-append, room-before, room-behind}
 use Rattle.image.specs.Listing.{lineText, wordText}
 use Rattle.image_listing.proofs.Texts.{word-none, word-line}
 use Rattle.image_listing.proofs.disassembler.write_word.Statement.{statement}

@@ -4,8 +4,8 @@ use Prim.Native.Nat.{_-_}
 use native.Mathlib.Omega.{arith}
 use lib.ListN.{length}
 use borrow.Author.Needs.{needs}
-use Rattle.instruction_codec.specs.Contracts.{Written}
-use Rattle.instruction_codec.proofs.Writing.{written-length}
+use Rattle.text_writer.specs.Contracts.{Written}
+use Rattle.text_writer.proofs.Writing.{written-length}
 use Rattle.image_passes.specs.Contracts.{codeBytes}
 use Rattle.image_passes.proofs.Passes.{Worded, worded-none, ends-behind, worded-room, worded-more, worded-all}
 use Rattle.image_passes.proofs.second_pass.second_pass.Statement.{statement}

@@ -6,7 +6,7 @@ use mathlib.Core.List.{flatMap, append-nil}
 use lib.ListN.{length}
 use borrow.Author.Needs.{needs}
 use Rattle.text_lexical.specs.Numbers.{little}
-use Rattle.instruction_codec.proofs.Writing.{written-none}
+use Rattle.text_writer.proofs.Writing.{written-none}
 use Rattle.image_passes.specs.Contracts.{codedMeant}
 use Rattle.image_passes.specs.declared.second_pass.Coded.{Coded}
 use Rattle.image_passes.specs.declared.second_pass.Coded.the-variants.{Word}

@@ -4,7 +4,7 @@ use mathlib.Core.Path.{_≡_, refl, _∙_}
 use native.Mathlib.Omega.{arith}
 use lib.ListN.{length}
 use borrow.Author.Needs.{needs}
-use Rattle.instruction_codec.proofs.Writing.{written-length}
+use Rattle.text_writer.proofs.Writing.{written-length}
 use Rattle.image.specs.Program.{headerFor}
 use Rattle.image.specs.Contracts.{settingsMeant}
 use Rattle.image_passes.specs.Contracts.{codeBytes}

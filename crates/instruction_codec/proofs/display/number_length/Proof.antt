@@ -4,7 +4,7 @@ use native.Mathlib.Omega.{arith}
 use lib.ListN.{length}
 use borrow.Author.Needs.{needs}
 use Rattle.text_lexical.specs.Numbers.{signedDecimal}
-use Rattle.instruction_codec.proofs.Decimals.{signed-minus, signed-zero}
+use Rattle.text_writer.proofs.Decimals.{signed-minus, signed-zero}
 use Rattle.instruction_codec.proofs.display.number_length.Statement.{statement}
 use Rattle.instruction_codec.proofs.display.number_length.Tie as tie
 

@@ -6,8 +6,8 @@ use native.Mathlib.Omega.{arith}
 use lib.ListN.{length, length-set, length-append}
 use borrow.Author.Needs.{needs}
 use Rattle.text_lexical.specs.Contracts.{indexOf}
+use Rattle.text_writer.proofs.Writing.{written-byte, written-append, room-behind}
 use Rattle.instruction.specs.Text.{registerText}
-use Rattle.instruction_codec.proofs.Writing.{written-byte, written-append, room-behind}
 use Rattle.instruction_codec.proofs.display.write_base.Statement.{statement}
 use Rattle.instruction_codec.proofs.display.write_base.Tie as tie
 

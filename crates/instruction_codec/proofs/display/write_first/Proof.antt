@@ -2,7 +2,7 @@
 use native.Mathlib.Omega.{arith}
 use lib.ListN.{length-set}
 use borrow.Author.Needs.{needs}
-use Rattle.instruction_codec.proofs.Writing.{written-byte, written-append}
+use Rattle.text_writer.proofs.Writing.{written-byte, written-append}
 use Rattle.instruction_codec.proofs.display.write_first.Statement.{statement}
 use Rattle.instruction_codec.proofs.display.write_first.Tie as tie
 

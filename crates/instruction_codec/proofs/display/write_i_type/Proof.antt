@@ -6,10 +6,10 @@ use lib.ListN.{length}
 use borrow.Author.Needs.{needs}
 use Rattle.text_lexical.specs.Numbers.{signedDecimal}
 use Rattle.text_lexical.specs.Contracts.{wholeMeant}
+use Rattle.text_writer.proofs.Writing.{written-append, room-before, room-behind}
 use Rattle.instruction.specs.Contracts.{rowAt}
 use Rattle.instruction_codec.specs.Contracts.{pairText}
 use Rattle.instruction_codec.proofs.Pieces.{i-type-text}
-use Rattle.instruction_codec.proofs.Writing.{written-append, room-before, room-behind}
 use Rattle.instruction_codec.proofs.display.write_i_type.Statement.{statement}
 use Rattle.instruction_codec.proofs.display.write_i_type.Tie as tie
 

@@ -5,8 +5,8 @@ use native.Mathlib.Omega.{arith}
 use lib.ListN.{length, set, length-set}
 use borrow.Author.Needs.{needs}
 use Rattle.text_lexical.specs.Contracts.{indexOf}
+use Rattle.text_writer.proofs.Writing.{written-byte, written-append, room-before, room-behind}
 use Rattle.instruction.specs.Text.{registerText}
-use Rattle.instruction_codec.proofs.Writing.{written-byte, written-append, room-before, room-behind}
 use Rattle.instruction_codec.proofs.display.write_next.Statement.{statement}
 use Rattle.instruction_codec.proofs.display.write_next.Tie as tie
 

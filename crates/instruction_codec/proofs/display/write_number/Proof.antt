@@ -7,8 +7,8 @@ use lib.ListN.{length, length-set}
 use borrow.Author.Needs.{needs}
 use Rattle.text_lexical.specs.Numbers.{decimal, signedDecimal}
 use Rattle.text_lexical.specs.Contracts.{wholeMeant}
-use Rattle.instruction_codec.proofs.Decimals.{signed-minus, signed-zero}
-use Rattle.instruction_codec.proofs.Writing.{written-byte, written-append}
+use Rattle.text_writer.proofs.Writing.{written-byte, written-append}
+use Rattle.text_writer.proofs.Decimals.{signed-minus, signed-zero}
 use Rattle.instruction_codec.proofs.display.write_number.Statement.{statement}
 use Rattle.instruction_codec.proofs.display.write_number.Tie as tie
 

@@ -2,7 +2,7 @@
 use native.Mathlib.Omega.{arith}
 use borrow.Author.Needs.{needs}
 use Rattle.instruction_codec.specs.Contracts.{nextText, firstText}
-use Rattle.instruction_codec.proofs.Writing.{written-append, room-before, room-behind}
+use Rattle.text_writer.proofs.Writing.{written-append, room-before, room-behind}
 use Rattle.instruction_codec.proofs.display.write_pair.Statement.{statement}
 use Rattle.instruction_codec.proofs.display.write_pair.Tie as tie
 

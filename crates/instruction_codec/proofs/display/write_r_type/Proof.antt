@@ -5,11 +5,11 @@ use native.Mathlib.Omega.{arith}
 use lib.ListN.{length}
 use borrow.Author.Needs.{needs}
 use Rattle.text_lexical.specs.Contracts.{indexOf}
+use Rattle.text_writer.proofs.Writing.{written-append, room-before, room-behind}
 use Rattle.instruction.specs.Text.{registerText}
 use Rattle.instruction.specs.Contracts.{rowAt}
 use Rattle.instruction_codec.specs.Contracts.{pairText}
 use Rattle.instruction_codec.proofs.Pieces.{r-type-text}
-use Rattle.instruction_codec.proofs.Writing.{written-append, room-before, room-behind}
 use Rattle.instruction_codec.proofs.display.write_r_type.Statement.{statement}
 use Rattle.instruction_codec.proofs.display.write_r_type.Tie as tie
 

@@ -3,7 +3,7 @@ use native.Mathlib.Omega.{arith}
 use lib.ListN.{length-set}
 use borrow.Author.Needs.{needs}
 use Rattle.instruction.specs.Text.{registerText}
-use Rattle.instruction_codec.proofs.Writing.{written-byte, written-append}
+use Rattle.text_writer.proofs.Writing.{written-byte, written-append}
 use Rattle.instruction_codec.proofs.display.write_register.Statement.{statement}
 use Rattle.instruction_codec.proofs.display.write_register.Tie as tie
 

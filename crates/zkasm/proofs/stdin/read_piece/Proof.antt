@@ -8,7 +8,7 @@ use lib.Seq.{length-take-le}
 use borrow.Author.Needs.{needs}
 use denote.Enum.Declared.{tagOf}
 use types.Run.{OneOf, miss}
-use Rattle.instruction_codec.proofs.Writing.{put-none}
+use Rattle.text_writer.proofs.Writing.{put-none}
 use Rattle.zkasm.specs.Stdin.{countOf}
 use Rattle.zkasm.specs.Contracts.{Delivers}
 use Rattle.zkasm.specs.declared.stdin.Delivery.{Delivery}

@@ -1,11 +1,11 @@
--- `image::program::write_u32` meets its contract.
+-- `text_writer::writer::write_u32` meets its contract.
 use Prim.Native.Nat.{_/_, _%_}
 use native.Mathlib.Omega.{arith}
 use lib.ListN.{length-set}
 use borrow.Author.Needs.{needs}
-use Rattle.image.proofs.Heads.{written-four, little-four}
-use Rattle.image.proofs.program.write_u32.Statement.{statement}
-use Rattle.image.proofs.program.write_u32.Tie as tie
+use Rattle.text_writer.proofs.Writing.{written-four, little-four}
+use Rattle.text_writer.proofs.writer.write_u32.Statement.{statement}
+use Rattle.text_writer.proofs.writer.write_u32.Tie as tie
 
 cast-out : tie.Need-cast-out
 cast-out c = search needs

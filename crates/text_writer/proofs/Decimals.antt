@@ -7,8 +7,8 @@ use lib.ListN.{length, set, length-append, length-set}
 use borrow.Author.Tests.{lt-ltb, le-ltb}
 use Rattle.text_lexical.specs.Numbers.{minus, decimalIn, decimal, signedDecimal}
 use Rattle.text_lexical.proofs.Tests.{split}
-use Rattle.instruction_codec.specs.Contracts.{put, Written}
-use Rattle.instruction_codec.proofs.Writing.{put-byte, put-before}
+use Rattle.text_writer.specs.Contracts.{put, Written}
+use Rattle.text_writer.proofs.Writing.{put-byte, put-before}
 
 -- ---- the last digit
 

@@ -1,10 +1,10 @@
--- `image::program::write_bytes` meets its contract. The loop's invariant: the first i bytes are written.
+-- `text_writer::writer::write_bytes` meets its contract. The loop's invariant: the first i bytes are written.
 use Prim.Native.Nat.{_-_}
 use native.Mathlib.Omega.{arith}
 use lib.ListN.{length}
-use Rattle.image.proofs.Heads.{Copied, copied-none, copied-more, copied-all}
-use Rattle.image.proofs.program.write_bytes.Statement.{statement}
-use Rattle.image.proofs.program.write_bytes.Tie as tie
+use Rattle.text_writer.proofs.Writing.{Copied, copied-none, copied-more, copied-all}
+use Rattle.text_writer.proofs.writer.write_bytes.Statement.{statement}
+use Rattle.text_writer.proofs.writer.write_bytes.Tie as tie
 
 abbrev Inv-loop : tie.InvT-loop
 Inv-loop out₀ at bytes i₀ out i = Copied out₀ at bytes i out

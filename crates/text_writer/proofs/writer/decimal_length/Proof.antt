@@ -1,4 +1,4 @@
--- `instruction_codec::display::decimal_length` meets its contract. The loop's invariant: the digits that are counted, with those that are left, are one more
+-- `text_writer::writer::decimal_length` meets its contract. The loop's invariant: the digits that are counted, with those that are left, are one more
 -- than the number has.
 use Prim.Native.Nat.{_+_}
 use mathlib.Core.Path.{_≡_, ap}
@@ -6,9 +6,9 @@ use native.Mathlib.Omega.{arith}
 use lib.ListN.{length}
 use Rattle.text_lexical.specs.Numbers.{decimal}
 use Rattle.text_lexical.proofs.Numbers.{decimal-length}
-use Rattle.instruction_codec.proofs.Decimals.{decimal-one, decimal-longer}
-use Rattle.instruction_codec.proofs.display.decimal_length.Statement.{statement}
-use Rattle.instruction_codec.proofs.display.decimal_length.Tie as tie
+use Rattle.text_writer.proofs.Decimals.{decimal-one, decimal-longer}
+use Rattle.text_writer.proofs.writer.decimal_length.Statement.{statement}
+use Rattle.text_writer.proofs.writer.decimal_length.Tie as tie
 
 abbrev Inv-loop : tie.InvT-loop
 Inv-loop n rest₀ count₀ rest count = count + length (decimal rest) ≡ length (decimal n) + 1

@@ -1,11 +1,11 @@
--- `instruction_codec::display::write_decimal` meets its contract. The loop's invariant: the digits behind `place` are written, and those of `rest` are not.
+-- `text_writer::writer::write_decimal` meets its contract. The loop's invariant: the digits behind `place` are written, and those of `rest` are not.
 use mathlib.Core.Path.{ap}
 use native.Mathlib.Omega.{arith}
 use lib.ListN.{length, length-set}
 use borrow.Author.Needs.{needs}
-use Rattle.instruction_codec.proofs.Decimals.{Unwritten, decimal-one, decimal-longer, unwritten-all, unwritten-less, unwritten-none}
-use Rattle.instruction_codec.proofs.display.write_decimal.Statement.{statement}
-use Rattle.instruction_codec.proofs.display.write_decimal.Tie as tie
+use Rattle.text_writer.proofs.Decimals.{Unwritten, decimal-one, decimal-longer, unwritten-all, unwritten-less, unwritten-none}
+use Rattle.text_writer.proofs.writer.write_decimal.Statement.{statement}
+use Rattle.text_writer.proofs.writer.write_decimal.Tie as tie
 
 abbrev Inv-loop : tie.InvT-loop
 Inv-loop out₀ at n end place₀ rest₀ out place rest = Unwritten out₀ at n out place rest

@@ -1,0 +1,2 @@
+// Writers of bytes, below everything that writes an image or a text.
+pub mod writer;
