@@ -41,14 +41,15 @@ use denote.Triple.Statement.{Contract, Triple}
 use denote.Triple.Table.{entered, cited}
 use denote.Steps.{nothing, owned, heard}
 use denote.Triple.Walked.{says, Stays, stay-slice, stay-dropped, walkOf, ends-at, walked, Goes, goes-slice, goes-dropped, walk-meets}
+use Rattle.walking.proofs.Again.{lends, ends}
+use Rattle.walking.proofs.Calls.{Known, calls-to}
+use Rattle.walking.proofs.Facts.{says-both, needs-both}
+use Rattle.walking.proofs.Locals.{Locals, frees-all}
+use Rattle.walking.proofs.Numbers.{Numbers, cells}
 use Rattle.image_labels.specs.declared.label.Label.{Label}
 use Rattle.image_labels.specs.Tree.{unlinked}
 use Rattle.image_labels.proofs.label.Label as L
 use Rattle.image_labels.proofs.label.Label.Laws as L′
-use Rattle.image_labels.proofs.Again.{lends, ends}
-use Rattle.image_labels.proofs.Calls.{Known, calls-to}
-use Rattle.image_labels.proofs.Facts.{says-both, needs-both}
-use Rattle.image_labels.proofs.Locals.{Locals, frees-all}
 use Rattle.image_labels.proofs.label.unlink as unlink
 use Rattle.image_labels.proofs.label.unlink.Symbol as unlink-def
 use Rattle.image_labels.proofs.label.unlink.Symbol.{name as #unlink}
@@ -65,7 +66,7 @@ use Rattle.image_passes.proofs.second_pass.finish.Symbol as finish-def
 use Rattle.image_passes.proofs.second_pass.finish.Symbol.{name as #finish}
 use Rattle.image_passes.proofs.second_pass.finish.Met as finish-thm
 use Rattle.image_assembler.specs.Contracts.{Starts, Walks, Assembles}
-use Rattle.image_assembler.proofs.Shared.{pval, PassIs, count-is, rval, Numbers, cells, Constants, constantVals, constants, Shared, shared-twice, Alive, Others}
+use Rattle.image_assembler.proofs.Shared.{pval, PassIs, count-is, rval, Constants, constantVals, constants, Shared, shared-twice, Alive, Others}
 use Rattle.image_assembler.proofs.Walks.{walks-fits, walks-ready, walks-end}
 use Rattle.image_assembler.proofs.assembler.walk as walk
 use Rattle.image_assembler.proofs.assembler.walk.Symbol as walk-def

@@ -47,6 +47,11 @@ use denote.Triple.Statement.{Contract, Triple}
 use denote.Triple.Table.{entered, cited}
 use denote.Steps.{nothing, owned, heard}
 use denote.Triple.Walked.{says, Stays, stay-slice, stay-none-ref, stay-none-slice, walkOf, ends-at, walked, goes-slice, goes-none-ref, goes-none-slice, walk-meets}
+use Rattle.walking.proofs.Again.{lends, ends}
+use Rattle.walking.proofs.Calls.{Known, calls-to, calls-to-last}
+use Rattle.walking.proofs.Facts.{says-both, needs-both, heard-both}
+use Rattle.walking.proofs.Locals.{Locals, frees-all, behind}
+use Rattle.walking.proofs.Numbers.{Numbers, cells}
 use Rattle.image_labels.specs.Contracts.{countBehind, Enters}
 use Rattle.image_labels.specs.Tree.{unlinked, TreeBehind}
 use Rattle.image_labels.specs.declared.label.Label.{Label}
@@ -55,10 +60,6 @@ use Rattle.image_labels.proofs.label.Entered as R
 use Rattle.image_labels.proofs.label.Entered.Laws as R′
 use Rattle.image_labels.proofs.label.Label as L
 use Rattle.image_labels.proofs.label.Label.Laws as L′
-use Rattle.image_labels.proofs.Again.{lends, ends}
-use Rattle.image_labels.proofs.Calls.{Known, calls-to, calls-to-last}
-use Rattle.image_labels.proofs.Facts.{says-both, needs-both, heard-both}
-use Rattle.image_labels.proofs.Locals.{Locals, frees-all, behind}
 use Rattle.image_labels.proofs.Row.{vals}
 use Rattle.image_labels.proofs.label.enter as enter-label
 use Rattle.image_labels.proofs.label.enter.Symbol as enter-def
@@ -77,7 +78,7 @@ use Rattle.image_passes.proofs.first_pass.go_on.Symbol as go-on-def
 use Rattle.image_passes.proofs.first_pass.go_on.Symbol.{name as #go-on}
 use Rattle.image_passes.proofs.first_pass.go_on.Met as go-on-thm
 use Rattle.image_assembler.specs.Contracts.{Starts, Walks}
-use Rattle.image_assembler.proofs.Shared.{pval, PassIs, label-is, count-is, Numbers, cells, Constants, constantVals, constants, Shared, shared-twice, Alive, Others}
+use Rattle.image_assembler.proofs.Shared.{pval, PassIs, label-is, count-is, Constants, constantVals, constants, Shared, shared-twice, Alive, Others}
 use Rattle.image_assembler.proofs.Walks.{Walking, walking-begin, walking-long, walking-enterable, walking-on, walking-ends, walks-long, left, nearer}
 use Rattle.image_assembler.proofs.assembler.walk.Key.{name as #walk}
 use Rattle.image_assembler.proofs.assembler.walk as walks
