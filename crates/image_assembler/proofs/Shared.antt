@@ -1,4 +1,4 @@
--- What the walks of this crate share: the machine values of a pass and of an answer, and the source and the constant tables, which are lent as `&` and passed on to callees.
+-- What the walks of this crate share: the machine values of a pass, of what it holds and of an answer, and the source and the constant tables, which are lent as `&` and passed on to callees.
 --     Shared           what is had of these.        shared-twice     it can be had twice.        Alive    the tokens of their lifetimes, and Others those but the source's
 --     lends-tables     the three locals that hold the constant tables are lent as `&`, to be shared with the source.        tables-back     they come back
 use Prim.Native.Nat.{ℕ}
@@ -27,25 +27,53 @@ use Rattle.walking.proofs.Numbers.{Numbers, NumbersAre, In, ref, Away, lends-lo
 use Rattle.image_labels.proofs.label.Label as L
 use Rattle.image_labels.proofs.Row.{vals}
 use Rattle.image_passes.specs.declared.first_pass.Pass.{Pass}
+use Rattle.image_passes.specs.declared.first_pass.Pass.the-variants.{AtLabel, Ended}
+use Rattle.image_passes.specs.declared.first_pass.LabelLine.{LabelLine}
+use Rattle.image_passes.specs.declared.first_pass.Outcome.{Outcome}
 use Rattle.image_passes.specs.declared.second_pass.Assembled.{Assembled}
 use Rattle.image_passes.proofs.first_pass.Pass as P
 use Rattle.image_passes.proofs.first_pass.Pass.Laws as P′
+use Rattle.image_passes.proofs.first_pass.LabelLine as Q
+use Rattle.image_passes.proofs.first_pass.LabelLine.Laws as Q′
+use Rattle.image_passes.proofs.first_pass.Outcome as O
+use Rattle.image_passes.proofs.first_pass.Outcome.Laws as O′
 use Rattle.image_passes.proofs.second_pass.Assembled as R
 use Rattle.image_passes.proofs.second_pass.Assembled.Laws as R′
 
--- ---- a pass, and an answer
+-- ---- a pass, a line with a label, an outcome and an answer
 
 abbrev pub pval : Pass → Val
-pval = LL.val P.the-type P′.the-laws
+pval = EL.val P.the-type P′.the-laws
 
 abbrev pub PassIs : Pass → Type 0
 PassIs p = Is P.the-row p (pval p ∷ [])
 
-pub label-is : (p : Pass) → PassIs p → Is L.the-row (p .label) (vals (p .label))
-label-is p is = LL.owed P.the-type P′.the-laws p _ is .1 .0
+abbrev pub lval : LabelLine → Val
+lval = LL.val Q.the-type Q′.the-laws
 
-pub count-is : (p : Pass) → PassIs p → Is usize (p .labels) (vint w64 (p .labels) ∷ [])
-count-is p is = LL.owed P.the-type P′.the-laws p _ is .1 .1 .0
+abbrev pub LabelLineIs : LabelLine → Type 0
+LabelLineIs p = Is Q.the-row p (lval p ∷ [])
+
+abbrev pub oval : Outcome → Val
+oval = LL.val O.the-type O′.the-laws
+
+abbrev pub OutcomeIs : Outcome → Type 0
+OutcomeIs o = Is O.the-row o (oval o ∷ [])
+
+pub label-line-is : (p : LabelLine) → PassIs (AtLabel p) → LabelLineIs p
+label-line-is p is = EL.owed P.the-type P′.the-laws (AtLabel p) _ is .0
+
+pub outcome-is : (o : Outcome) → PassIs (Ended o) → OutcomeIs o
+outcome-is o is = EL.owed P.the-type P′.the-laws (Ended o) _ is .0
+
+pub label-is : (p : LabelLine) → LabelLineIs p → Is L.the-row (p .label) (vals (p .label))
+label-is p is = LL.owed Q.the-type Q′.the-laws p _ is .0
+
+pub labels-before-is : (p : LabelLine) → LabelLineIs p → Is usize (p .labels) (vint w64 (p .labels) ∷ [])
+labels-before-is p is = LL.owed Q.the-type Q′.the-laws p _ is .1 .0
+
+pub labels-entered-is : (o : Outcome) → OutcomeIs o → Is usize (o .labels) (vint w64 (o .labels) ∷ [])
+labels-entered-is o is = LL.owed O.the-type O′.the-laws o _ is .0
 
 abbrev pub rval : Assembled → Val
 rval = EL.val R.the-type R′.the-laws
