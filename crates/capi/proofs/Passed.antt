@@ -34,15 +34,16 @@ use denote.Triple.Spec.{Meets}
 use denote.Triple.Statement.{Contract, Triple}
 use denote.Steps.{nothing, owned, heard}
 use denote.Triple.Walked.{says, Stays, stay-dropped, gave-slice, gave-ref, walkOf, ends-at, walked, goes-dropped, goes-gave-slice, goes-gave-ref, walk-meets}
+use Rattle.walking.proofs.Calls.{Known, calls-to}
+use Rattle.walking.proofs.Numbers.{Numbers}
 use Rattle.image_labels.specs.declared.label.Label.{Label}
 use Rattle.image_labels.proofs.label.Label as L
-use Rattle.image_labels.proofs.Calls.{Known, calls-to}
 use Rattle.image_passes.specs.Contracts.{answerMeant}
 use Rattle.image_passes.specs.declared.second_pass.Assembled.{Assembled}
 use Rattle.image_passes.proofs.second_pass.Assembled as R
 use Rattle.image_passes.proofs.second_pass.Assembled.Laws as R′
 use Rattle.image_assembler.specs.Contracts.{Assembles}
-use Rattle.image_assembler.proofs.Shared.{Numbers, rval}
+use Rattle.image_assembler.proofs.Shared.{rval}
 use Rattle.image_assembler.proofs.assembler.assemble as assemble
 use Rattle.capi.specs.Contracts.{Handed, AssembleCall}
 use Rattle.capi.proofs.Answers.{assemble-called}

@@ -28,10 +28,10 @@ use denote.Builtin.{u8}
 use denote.Enum.Laws as EL
 use denote.Triple.Statement.{Contract, Triple}
 use denote.Steps.{nothing, heard}
+use Rattle.walking.proofs.Again.{lends, ends, LentAgain}
+use Rattle.walking.proofs.Calls.{Known, calls-to}
 use Rattle.image_labels.specs.declared.label.Label.{Label}
 use Rattle.image_labels.proofs.label.Label as L
-use Rattle.image_labels.proofs.Again.{lends, ends, LentAgain}
-use Rattle.image_labels.proofs.Calls.{Known, calls-to}
 use Rattle.image_labels.proofs.Owned.{TableIs, In, Away, lends-front, front-back}
 use Rattle.image_passes.specs.declared.second_pass.Assembled.{Assembled}
 use Rattle.image_passes.proofs.second_pass.Assembled as R

@@ -14,7 +14,6 @@ use Rattle.text_lexical.proofs.Tests.{by-test}
 use Rattle.image.specs.Assembling.{isKnown, most-bytes}
 use Rattle.image.specs.Assembling.{Label as Meant}
 use Rattle.image.specs.Lent.{over}
-use Rattle.image.specs.declared.config.Checked.the-variants.{Good}
 use Rattle.image_labels.specs.Contracts.{entryOf, InText, spelled, anyNamed, entryFault, enteredMeant, countBehind, Enters, Spelled}
 use Rattle.image_labels.specs.Tree.{unlinked, Bare, Tree, TreeBehind, Enterable}
 use Rattle.image_labels.proofs.Named.{spelled-long}
@@ -22,13 +21,15 @@ use Rattle.image_labels.proofs.Finding.{unlinked-long}
 use Rattle.image_labels.specs.declared.label.Label.{Label}
 use Rattle.image_labels.specs.declared.label.Entered.{Entered}
 use Rattle.image_labels.specs.declared.label.Entered.the-variants.{New, Duplicate, Full}
-use Rattle.image_passes.specs.Contracts.{Stands, Begins, withEntry, labelAt, GoesOn, Ready, overlong, Finishes}
+use Rattle.image_passes.specs.Contracts.{LabelNext, Progress, Sound, SoundPass, NotBefore, Begins, withEntry, labelAt, GoesOn, overlong, Finishable, Finishes}
 use Rattle.image_passes.specs.declared.first_pass.Pass.{Pass}
+use Rattle.image_passes.specs.declared.first_pass.Pass.the-variants.{AtLabel, Ended}
+use Rattle.image_passes.specs.declared.first_pass.LabelLine.{LabelLine}
+use Rattle.image_passes.specs.declared.first_pass.Outcome.{Outcome}
 use Rattle.image_passes.specs.declared.second_pass.Assembled.{Assembled}
-use Rattle.image_passes.proofs.Answers.{stands-ready, stands-answers, overlong-answers}
-use Rattle.image.specs.Contracts.{settingsMeant}
+use Rattle.image_passes.proofs.Answers.{ends-ready, ends-answers, overlong-answers}
 use Rattle.image.proofs.Over.{take-over, length-over, over-more}
-use Rattle.image_assembler.specs.Contracts.{Standing, Walks, Assembles}
+use Rattle.image_assembler.specs.Contracts.{Holds, Walks, Assembles}
 
 -- ---- labels and their entries
 
@@ -67,108 +68,34 @@ counted ls l Full = refl
 
 -- ---- the walk
 
--- How it begins.
-standing-begin : {s : List ℕ} {p : Pass} (old : List Label) → Begins s p → Standing s old old p
-unfolding over
-standing-begin old b =
-    record { labels = []; stands = b .stands (length old); sound = b .sound; table-is = refl; fits = omega arith; spelled = tt }
-
-module _ {s : List ℕ} {old table : List Label} {p : Pass} (w : Standing s old table p) where
-  standing-long : length table ≡ length old
-  standing-long = table-long s old table (w .labels) (w .table-is) (w .fits)
-
-  module _ (found : p .found ≡ true) where
-    standing-in-text : InText s (p .label)
-    standing-in-text = w .sound found .in-text
-
-    abbrev name : List ℕ
-    name = spelled s (p .label)
-
-    entry-is : entryOf (labelAt s p) ≡ p .label
-    entry-is = λ i. record { start = p .label .start; length = spelled-long s (p .label) standing-in-text i; address = p .label .address }
-
-    known-is : anyNamed s (take (p .labels) table) name ≡ isKnown (w .labels) name
-    known-is = rw (w .stands .count) (table-known s old table (w .labels) (w .table-is) name (w .spelled))
-
-    -- The label is entered, or refused, and the walk goes on.
-    module _ {table′ : List Label} {e : Entered} {r : Pass} (x : Enters s table (p .labels) (p .label) table′ e) (g : GoesOn s p e r) where
-      fault-is : enteredMeant e ≡ entryFault (isKnown (w .labels) name) (ltb (length (w .labels)) (length old))
-      fault-is = x .answer ∙ rw (known-is, w .stands .count, standing-long)
-
-      holds-is : table′ ≡ elim (isKnown (w .labels) name) [ true ↦ table | false ↦ set table (length (w .labels)) (p .label) ]
-      holds-is = x .holds ∙ ap₂ (λ (b : Bool) (n : ℕ). elim b [ true ↦ table | false ↦ set table n (p .label) ]) known-is (w .stands .count)
-
-      stands-on : Stands s (length old) (withEntry e (w .labels) (labelAt s p)) r
-      stands-on = g .stands (length old) (w .labels) (w .stands) found fault-is
-
-      -- The labels are counted.
-      count-on : r .labels ≡ countBehind (p .labels) e
-      count-on = stands-on .count ∙ counted (w .labels) (labelAt s p) e ∙ ap (λ (n : ℕ). countBehind n e) (sym (w .stands .count))
-
-      refused-on : Stands s (length old) (w .labels) r → table′ ≡ table → Standing s old table′ r
-      refused-on t h =
-          record {
-            labels = w .labels;
-            stands = t;
-            sound = g .sound;
-            table-is = h ∙ w .table-is;
-            fits = w .fits;
-            spelled = w .spelled;
-          }
-
-      entered-on : Stands s (length old) (w .labels ++ (labelAt s p ∷ [])) r → length (w .labels) < length old → table′ ≡ set table (length (w .labels)) (p .label) → Standing s old table′ r
-      entered-on t l h =
-          record {
-            labels = w .labels ++ (labelAt s p ∷ []);
-            stands = t;
-            sound = g .sound;
-            table-is = h ∙ ap (set table (length (w .labels))) (sym entry-is) ∙ table-more s old table (w .labels) (w .table-is) (labelAt s p) l;
-            fits = omega (arith, l, length-append (w .labels) (labelAt s p ∷ []));
-            spelled = spelled-more s (w .labels) (labelAt s p) (w .spelled) (ap (spelled s) entry-is) (subst (InText s) (sym entry-is) standing-in-text);
-          }
-
-      standing-on : Standing s old table′ r
-      unfolding entryFault
-      standing-on = go (isKnown (w .labels) name) (ltb (length (w .labels)) (length old)) refl e stands-on fault-is holds-is
-        where
-          go : (a b : Bool) → ltb (length (w .labels)) (length old) ≡ b → (k : Entered) → Stands s (length old) (withEntry k (w .labels) (labelAt s p)) r → enteredMeant k ≡ entryFault a b
-              → table′ ≡ elim a [ true ↦ table | false ↦ set table (length (w .labels)) (p .label) ] → Standing s old table′ r
-          go true b l Duplicate t q h = refused-on t h
-          go true b l Full t q h = let y : _≡_ {A = ℕ} 4 5 = cc in absurd (omega arith)
-          go true b l New t q h = let y : _≡_ {A = ℕ} 0 1 = cc in absurd (omega arith)
-          go false true l New t q h = entered-on t (ltb-true (length (w .labels)) (length old) l) h
-          go false true l Duplicate t q h = let y : _≡_ {A = ℕ} 0 1 = cc in absurd (omega arith)
-          go false true l Full t q h = let y : _≡_ {A = ℕ} 0 1 = cc in absurd (omega arith)
-          go false false l Full t q h = refused-on t (h ∙ full l)
-            where
-              full : ltb (length (w .labels)) (length old) ≡ false → set table (length (w .labels)) (p .label) ≡ table
-              full z = set-out table (length (w .labels)) (p .label) (omega (arith, ltb-false (length (w .labels)) (length old) z, standing-long))
-          go false false l Duplicate t q h = let y : _≡_ {A = ℕ} 4 5 = cc in absurd (omega arith)
-          go false false l New t q h = let y : _≡_ {A = ℕ} 0 1 = cc in absurd (omega arith)
-
-  -- It ends.
-  module _ (ended : p .found ≡ false) where
-    standing-ready : p .fault ≡ Good → Ready s (p .words) (settingsMeant (p .config))
-    standing-ready f = stands-ready (w .stands) ended f
-
-    standing-ends : {image image′ : List ℕ} {r : Assembled} → Finishes s p image image′ r → Assembles s old image table image′ r
-    standing-ends f =
-        let a = stands-answers (w .stands) ended f in
-        record { answer = a .answer; table-holds = w .table-is ∙ ap (λ (ls : List Meant). over (map entryOf ls) old) (a .labels-are); image-holds = a .image-holds }
-
--- ---- the walk over a table whose labels are trees
+-- The labels that have been entered where the walk stands.
+abbrev pub labelsOf : Pass → ℕ
+labelsOf (AtLabel p) = p .labels
+labelsOf (Ended o) = o .labels
 
 -- Where it stands: the labels so far, and their trees.
 pub record Walking (s : List ℕ) (old table : List Label) (roots : List ℕ) (p : Pass) : Type 0 where
-  pub standing : Standing s old (unlinked (p .labels) table) p
-  pub tree : Tree s table roots (p .labels)
+  pub labels : List Meant
+  pub stands : Progress s (length old) labels p
+  pub sound : SoundPass s p
+  pub holds : Holds s old (unlinked (labelsOf p) table) labels
+  pub tree : Tree s table roots (labelsOf p)
 
+-- The labels are counted.
+counted-by : (s : List ℕ) (room : ℕ) (ls : List Meant) (p : Pass) → Progress s room ls p → labelsOf p ≡ length ls
+counted-by s room ls (AtLabel p) h = h .count
+counted-by s room ls (Ended o) h = h .count
+
+-- How it begins.
 pub walking-begin : {s : List ℕ} {p : Pass} {roots : List ℕ} (old : List Label) → Begins s p → Bare roots → Walking s old old roots p
-unfolding unlinked
+unfolding unlinked over
 walking-begin {s} {p} {roots} old b bare =
-    let none : p .labels ≡ 0 = b .stands (length old) .count in
+    let none : labelsOf p ≡ 0 = counted-by s (length old) [] p (b .stands (length old)) in
     record {
-      standing = subst (λ (n : ℕ). Standing s old (unlinked n old) p) (sym none) (standing-begin old b);
+      labels = [];
+      stands = b .stands (length old);
+      sound = b .sound;
+      holds = subst (λ (n : ℕ). Holds s old (unlinked n old) []) (sym none) (record { table-is = refl; fits = omega arith; spelled = tt });
       tree = record {
         in-table = rw none (omega arith);
         in-text = λ i h. absurd (omega arith);
@@ -180,69 +107,126 @@ walking-begin {s} {p} {roots} old b bare =
       };
     }
 
-module _ {s : List ℕ} {old table : List Label} {roots : List ℕ} {p : Pass} (w : Walking s old table roots p) where
-  pub walking-long : length table ≡ length old
-  walking-long = sym (unlinked-long (p .labels) table) ∙ standing-long (w .standing)
+holds-long : {s : List ℕ} {old table : List Label} {ls : List Meant} → Holds s old table ls → length table ≡ length old
+holds-long {s} {old} {table} {ls} h = table-long s old table ls (h .table-is) (h .fits)
 
-  -- What entering a label asks for.
-  pub walking-enterable : p .found ≡ true → Enterable s (p .labels) (p .label)
+pub walking-long : {s : List ℕ} {old table : List Label} {roots : List ℕ} {p : Pass} → Walking s old table roots p → length table ≡ length old
+walking-long {table = table} {p = p} w = sym (unlinked-long (labelsOf p) table) ∙ holds-long (w .holds)
+
+-- A label is entered, or refused.
+module _ {s : List ℕ} {old table : List Label} {p : LabelLine} {ls : List Meant} (n : LabelNext s (length old) ls p) (inside : InText s (p .label)) (h : Holds s old table ls) where
+  abbrev name : List ℕ
+  name = spelled s (p .label)
+
+  entry-is : entryOf (labelAt s p) ≡ p .label
+  entry-is = λ i. record { start = p .label .start; length = spelled-long s (p .label) inside i; address = p .label .address }
+
+  known-is : anyNamed s (take (p .labels) table) name ≡ isKnown ls name
+  known-is = rw (n .count) (table-known s old table ls (h .table-is) name (h .spelled))
+
+  module _ {table′ : List Label} {e : Entered} (x : Enters s table (p .labels) (p .label) table′ e) where
+    fault-is : enteredMeant e ≡ entryFault (isKnown ls name) (ltb (length ls) (length old))
+    fault-is = x .answer ∙ rw (known-is, n .count, holds-long h)
+
+    holds-is : table′ ≡ elim (isKnown ls name) [ true ↦ table | false ↦ set table (length ls) (p .label) ]
+    holds-is = x .holds ∙ ap₂ (λ (b : Bool) (m : ℕ). elim b [ true ↦ table | false ↦ set table m (p .label) ]) known-is (n .count)
+
+    kept-on : table′ ≡ table → Holds s old table′ ls
+    kept-on k = record { table-is = k ∙ h .table-is; fits = h .fits; spelled = h .spelled }
+
+    entered-on : length ls < length old → table′ ≡ set table (length ls) (p .label) → Holds s old table′ (ls ++ (labelAt s p ∷ []))
+    entered-on l k =
+        record {
+          table-is = k ∙ ap (set table (length ls)) (sym entry-is) ∙ table-more s old table ls (h .table-is) (labelAt s p) l;
+          fits = omega (arith, l, length-append ls (labelAt s p ∷ []));
+          spelled = spelled-more s ls (labelAt s p) (h .spelled) (ap (spelled s) entry-is) (subst (InText s) (sym entry-is) inside);
+        }
+
+    holds-on : Holds s old table′ (withEntry e ls (labelAt s p))
+    unfolding entryFault
+    holds-on = go (isKnown ls name) (ltb (length ls) (length old)) refl e fault-is holds-is
+      where
+        go : (a b : Bool) → ltb (length ls) (length old) ≡ b → (k : Entered) → enteredMeant k ≡ entryFault a b
+            → table′ ≡ elim a [ true ↦ table | false ↦ set table (length ls) (p .label) ] → Holds s old table′ (withEntry k ls (labelAt s p))
+        go true b l Duplicate q k = kept-on k
+        go true b l Full q k = let y : _≡_ {A = ℕ} 4 5 = cc in absurd (omega arith)
+        go true b l New q k = let y : _≡_ {A = ℕ} 0 1 = cc in absurd (omega arith)
+        go false true l New q k = entered-on (ltb-true (length ls) (length old) l) k
+        go false true l Duplicate q k = let y : _≡_ {A = ℕ} 0 1 = cc in absurd (omega arith)
+        go false true l Full q k = let y : _≡_ {A = ℕ} 0 1 = cc in absurd (omega arith)
+        go false false l Full q k = kept-on (k ∙ full l)
+          where
+            full : ltb (length ls) (length old) ≡ false → set table (length ls) (p .label) ≡ table
+            full z = set-out table (length ls) (p .label) (omega (arith, ltb-false (length ls) (length old) z, holds-long h))
+        go false false l Duplicate q k = let y : _≡_ {A = ℕ} 4 5 = cc in absurd (omega arith)
+        go false false l New q k = let y : _≡_ {A = ℕ} 0 1 = cc in absurd (omega arith)
+
+-- It stands at a label.
+module _ {s : List ℕ} {old table : List Label} {roots : List ℕ} {p : LabelLine} (w : Walking s old table roots (AtLabel p)) where
+  -- What entering the label asks for.
+  pub walking-enterable : Enterable s (p .labels) (p .label)
   unfolding most-bytes
-  walking-enterable found =
-      let k = w .standing .sound found in
+  walking-enterable =
+      let k = w .sound in
       record { in-text = k .in-text; short = k .short; few = omega (arith, k .short, k .line-fits, k .few-labels); near = k .near }
 
-  pub walking-on : {table′ : List Label} {roots′ : List ℕ} {e : Entered} {r : Pass} → p .found ≡ true → Enters s (unlinked (p .labels) table) (p .labels) (p .label) (unlinked (countBehind (p .labels) e) table′) e
+  -- It goes on.
+  pub walking-on : {table′ : List Label} {roots′ : List ℕ} {e : Entered} {r : Pass}
+      → Enters s (unlinked (p .labels) table) (p .labels) (p .label) (unlinked (countBehind (p .labels) e) table′) e
       → TreeBehind s table roots (p .labels) (p .label) table′ roots′ e → GoesOn s p e r → Walking s old table′ roots′ r
-  walking-on {table′} {roots′} {e} {r} found x t g =
-      let n : r .labels ≡ countBehind (p .labels) e = count-on (w .standing) found x g in
+  walking-on {table′} {roots′} {e} {r} x t g =
+      let on : Progress s (length old) (withEntry e (w .labels) (labelAt s p)) r = g .stands (length old) (w .labels) (w .stands) (fault-is (w .stands) (w .sound .in-text) (w .holds) x) in
+      let n : labelsOf r ≡ countBehind (p .labels) e = counted-by s (length old) _ r on ∙ counted (w .labels) (labelAt s p) e ∙ ap (λ (m : ℕ). countBehind m e) (sym (w .stands .count)) in
       record {
-        standing = subst (λ (k : ℕ). Standing s old (unlinked k table′) r) (sym n) (standing-on (w .standing) found x g);
-        tree = subst (Tree s table′ roots′) (sym n) (behind e t);
+        labels = withEntry e (w .labels) (labelAt s p);
+        stands = on;
+        sound = g .sound;
+        holds = subst (λ (m : ℕ). Holds s old (unlinked m table′) (withEntry e (w .labels) (labelAt s p))) (sym n) (holds-on (w .stands) (w .sound .in-text) (w .holds) x);
+        tree = subst (Tree s table′ roots′) (sym n) (after e t);
       }
     where
       kept : (roots′ ≡ roots) × (table′ ≡ table) → Tree s table′ roots′ (p .labels)
       kept t = subst (λ (r : List ℕ). Tree s table′ r (p .labels)) (sym (t .0)) (subst (λ (z : List Label). Tree s z roots (p .labels)) (sym (t .1)) (w .tree))
 
-      behind : (k : Entered) → TreeBehind s table roots (p .labels) (p .label) table′ roots′ k → Tree s table′ roots′ (countBehind (p .labels) k)
-      behind New t = t .1
-      behind Duplicate t = kept t
-      behind Full t = kept t
-
-  -- It has ended.
-  pub walking-ends : p .found ≡ false → Walks s old table roots p
-  walking-ends ended = record { standing = w .standing; tree = w .tree; ended = ended }
-
-module _ {s : List ℕ} {old table : List Label} {roots : List ℕ} {p : Pass} (w : Walks s old table roots p) where
-  pub walks-long : length table ≡ length old
-  walks-long = sym (unlinked-long (p .labels) table) ∙ standing-long (w .standing)
-
-  -- What `unlink` asks for.
-  pub walks-fits : p .labels ≤ length table
-  walks-fits = omega (arith, w .standing .stands .count, w .standing .fits, walks-long)
-
-  -- What `finish` asks for.
-  pub walks-ready : p .fault ≡ Good → Ready s (p .words) (settingsMeant (p .config))
-  walks-ready = standing-ready (w .standing) (w .ended)
-
-  -- The second walk has ended too, and the entries are unlinked.
-  pub walks-end : {table′ : List Label} {image image′ : List ℕ} {r : Assembled} → table′ ≡ unlinked (p .labels) table → Finishes s p image image′ r → Assembles s old image table′ image′ r
-  walks-end {image = image} {image′ = image′} {r = r} e f = subst (λ (t : List Label). Assembles s old image t image′ r) (sym e) (standing-ends (w .standing) (w .ended) f)
+      after : (k : Entered) → TreeBehind s table roots (p .labels) (p .label) table′ roots′ k → Tree s table′ roots′ (countBehind (p .labels) k)
+      after New t = t .1
+      after Duplicate t = kept t
+      after Full t = kept t
 
 -- What is left, counted in lines.
 abbrev pub left : List ℕ → Pass → ℕ
-left s p = elim (p .found) [ true ↦ length s + 2 - p .line | false ↦ 0 ]
+left s (AtLabel p) = length s + 2 - p .line
+left s (Ended o) = 0
 
-pub nearer : {s : List ℕ} {old table : List Label} {roots : List ℕ} {p r : Pass} {e : Entered} → Walking s old table roots p → p .found ≡ true → GoesOn s p e r → left s r < left s p
-nearer {s} {old} {table} {roots} {p} {r} w found g = by-test (r .found) more done
+pub nearer : {s : List ℕ} {p : LabelLine} {r : Pass} {e : Entered} → Sound s p → GoesOn s p e r → left s r < left s (AtLabel p)
+nearer {s} {p} {r} k g = go r (g .after)
   where
-    fits : p .line ≤ length s + 1
-    fits = w .standing .sound found .line-fits
+    go : (r : Pass) → NotBefore (p .line + 1) r → left s r < left s (AtLabel p)
+    go (AtLabel q) b = omega (arith, k .line-fits, b)
+    go (Ended o) b = omega (arith, k .line-fits)
 
-    more : r .found ≡ true → left s r < left s p
-    more f = let b = g .behind f in rw (found, f) (omega (arith, fits, b))
+-- It has ended.
+pub walking-ends : {s : List ℕ} {old table : List Label} {roots : List ℕ} {o : Outcome} → Walking s old table roots (Ended o) → Walks s old table roots o
+walking-ends w = record { labels = w .labels; ends = w .stands; holds = w .holds; tree = w .tree }
 
-    done : r .found ≡ false → left s r < left s p
-    done f = rw (found, f) (omega (arith, fits))
+module _ {s : List ℕ} {old table : List Label} {roots : List ℕ} {o : Outcome} (w : Walks s old table roots o) where
+  pub walks-long : length table ≡ length old
+  walks-long = sym (unlinked-long (o .labels) table) ∙ holds-long (w .holds)
+
+  -- What `unlink` asks for.
+  pub walks-fits : o .labels ≤ length table
+  walks-fits = omega (arith, w .ends .count, w .holds .fits, walks-long)
+
+  -- What `finish` asks for.
+  pub walks-ready : Finishable s (o .verdict)
+  walks-ready = ends-ready s (length old) (w .labels) (o .verdict) (w .ends .judges)
+
+  -- The second walk has ended too, and the entries are unlinked.
+  pub walks-end : {table′ : List Label} {image image′ : List ℕ} {r : Assembled} → table′ ≡ unlinked (o .labels) table → Finishes s (o .labels) image image′ r (o .verdict)
+      → Assembles s old image table′ image′ r
+  walks-end e f =
+      let a = ends-answers (w .ends) f in
+      record { answer = a .answer; table-holds = e ∙ w .holds .table-is ∙ ap (λ (ls : List Meant). over (map entryOf ls) old) (a .labels-are); image-holds = a .image-holds }
 
 -- ---- a source that is too long
 

@@ -3,6 +3,7 @@ ghost use Rattle.image_labels.specs.Tree.{Bare};
 ghost use Rattle.image_passes.specs.Contracts.{Tables};
 ghost use Rattle.image_assembler.specs.Contracts.{Starts, Walks, Assembles};
 use image_labels::label::Label;
+use image_passes::first_pass::Outcome;
 use image_passes::first_pass::Pass;
 use image_passes::second_pass::Assembled;
 
@@ -14,16 +15,27 @@ fn walk(
     mnemonics: &[u64; 50],
     forms: &[u8; 50],
     slots: &[u8; 293],
-) -> Pass
+) -> Outcome
     requires { ⌜ Tables (now mnemonics) (now forms) (now slots) ⌝ ∗ ⌜ Starts (now source) (now roots) ⌝ }
     ensures { λ r. ⌜ Walks (now (source .entry)) (now (table .entry)) (now (table .exit)) (now (roots .exit)) r ⌝ }
 {
     let mut pass = image_passes::first_pass::begin(source, mnemonics, forms, slots);
-    while pass.found {
-        let entered = image_labels::label::enter(source, table, roots, pass.labels, pass.label);
-        pass = image_passes::first_pass::go_on(source, pass, entered, mnemonics, forms, slots);
+    loop {
+        match pass {
+            Pass::AtLabel(at) => {
+                let entered = image_labels::label::enter(source, table, roots, at.labels, at.label);
+                pass = image_passes::first_pass::go_on(
+                    source,
+                    at,
+                    entered,
+                    mnemonics,
+                    forms,
+                    slots,
+                );
+            }
+            Pass::Ended(outcome) => return outcome,
+        }
     }
-    pass
 }
 
 // Both walks over a source, while its labels can be found. Then the links are taken out of the table, whatever the answer.
@@ -39,9 +51,16 @@ fn rooted(
     requires { ⌜ Tables (now mnemonics) (now forms) (now slots) ⌝ ∗ ⌜ Starts (now source) (now roots) ⌝ }
     ensures { λ r. ⌜ Assembles (now (source .entry)) (now (table .entry)) (now (image .entry)) (now (table .exit)) (now (image .exit)) r ⌝ }
 {
-    let pass = walk(source, table, roots, mnemonics, forms, slots);
-    let assembled = image_passes::second_pass::finish(source, image, pass, mnemonics, forms, slots);
-    image_labels::label::unlink(table, pass.labels);
+    let outcome = walk(source, table, roots, mnemonics, forms, slots);
+    let assembled = image_passes::second_pass::finish(
+        source,
+        image,
+        outcome,
+        mnemonics,
+        forms,
+        slots,
+    );
+    image_labels::label::unlink(table, outcome.labels);
     assembled
 }
 

@@ -20,11 +20,11 @@ use denote.Laws.{Is, Tells}
 use denote.Array.{Array}
 use denote.Slice.{Room, finally}
 use denote.Struct.Laws as LL
+use Rattle.walking.proofs.Arrays as Arrays
 use Rattle.image_labels.specs.declared.label.Label.{Label}
 use Rattle.image_labels.proofs.label.Label as L
 use Rattle.image_labels.proofs.label.Label.Laws as L′
 use Rattle.image_labels.proofs.Row.{vals}
-use Rattle.image_labels.proofs.Arrays as Arrays
 
 abbrev pub Table : ℕ → RattleType
 Table n = Array L.the-row n

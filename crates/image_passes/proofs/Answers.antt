@@ -9,7 +9,7 @@ use lib.ListN.{length, take, length-map}
 use lib.Seq.{take-all}
 use lib.Dec.{leb}
 use borrow.Author.Tests.{le-leb, lt-leb}
-use Rattle.text_lexical.specs.Bytes.{ascii, every, run}
+use Rattle.text_lexical.specs.Bytes.{ascii, every, run, before}
 use Rattle.text_lexical.specs.Numbers.{little}
 use Rattle.text_lexical.specs.Names.{present}
 use Rattle.text_lexical.proofs.Strings.{take-run, every-run, past-run}
@@ -20,18 +20,18 @@ use Rattle.text.specs.Lines.{Line as Record}
 use Rattle.instruction.specs.Words.{wordOf}
 use Rattle.image.specs.Settings.{Settings, begin}
 use Rattle.image.specs.Program.{headerBytes, headerFor, header-size, image, imageLength}
-use Rattle.image.specs.Assembling.{Label, State, start, Step, next, stop, readOn, entering, doing, step, contextOf, Walk, finished, stopped, walk, Assembled, accepted, refusing, readTo, most-bytes, reading, fitted, assembling}
+use Rattle.image.specs.Assembling.{Label, State, start, Step, next, stop, readOn, entering, doing, step, contextOf, Walk, finished, stopped, walk, Refusal, Assembled, accepted, rejected, refusing, readTo, most-bytes, reading, fitted, assembling}
 use Rattle.image.specs.Meaning.{instructionsOf, settingsOf, imageOf}
 use Rattle.image.specs.Lent.{answerOf, entered, imageAfter}
 use Rattle.image.specs.Contracts.{settingsMeant}
-use Rattle.image_passes.specs.Contracts.{allRead, codeBytes, Reached, Stands, Stops, Scans, Begins, Ready, answerMeant, Fills, Finishes}
+use Rattle.image_passes.specs.Contracts.{allRead, codeBytes, whole, Reached, Judges, WalkEnds, Progress, refusedPass, Scans, Begins, Ready, answerMeant, Fills, Finishable, Finishes}
 use Rattle.image.specs.declared.config.Config.{Config}
-use Rattle.image.specs.declared.config.Checked.{Checked}
-use Rattle.image.specs.declared.config.Checked.the-variants.{Good, Refused as RefusedCheck}
 use Rattle.image_passes.specs.declared.first_pass.Pass.{Pass}
+use Rattle.image_passes.specs.declared.first_pass.Outcome.{Outcome}
+use Rattle.image_passes.specs.declared.first_pass.Verdict.{Verdict}
+use Rattle.image_passes.specs.declared.first_pass.Verdict.the-variants.{Refused as Rejected, Finished}
 use Rattle.image_passes.specs.declared.second_pass.Assembled.{Assembled as Answered}
 use Rattle.image_passes.specs.declared.second_pass.Assembled.the-variants.{Is, Refused, TooShort}
-use Rattle.image_passes.proofs.Scanning.{found-not}
 use Rattle.image.proofs.Images.{code-length, header-length}
 use Rattle.image.proofs.Walking.{MeansIf, reading-means}
 use Rattle.image.proofs.Over.{written-over}
@@ -91,25 +91,13 @@ module _ {s : List ℕ} {words : ℕ} {setup : Settings} (r : Ready s words setu
 
 -- ---- before any line
 
-module _ (s : List ℕ) (room : ℕ) {p : Pass} where
-  -- A source that is refused before any line.
-  begins-refused : {n rust line : ℕ} → Stops n rust line 0 p → reading present s room ≡ refusing n rust line [] none → Stands s room [] p
-  begins-refused k e =
-      record {
-        count = k .labels-are;
-        at-label = λ f. found-not (sym f ∙ k .not-found);
-        at-end = λ f. rw (k .fault-is, k .rust-is, k .line-is) e;
-      }
-
-  module _ (short : length s ≤ most-bytes) where
-    pub high-byte : {line : ℕ} → run ascii s < length s → line ≡ length (lines (take (run ascii s) s)) → Stops 2 0 line 0 p → Stands s room [] p
-    unfolding reading
-    high-byte {line} h e k =
-        let a : every ascii s ≡ false = not-every h in
-        begins-refused k (rw (reading, le-leb (length s) most-bytes short, a, e, take-run ascii s))
-      where
-        not-every : run ascii s < length s → every ascii s ≡ false
-        not-every h = ap (every ascii) (sym (take-all (length s) s (omega arith))) ∙ past-run ascii s (length s) h (omega arith)
+-- A source with a byte above 127.
+high-byte : (s : List ℕ) (room : ℕ) {line : ℕ} → length s ≤ most-bytes → run ascii s < length s → line ≡ length (lines (take (run ascii s) s)) → Progress s room [] (refusedPass 2 0 line 0)
+unfolding reading
+high-byte s room {line} short h e = record { count = refl; judges = rw (reading, le-leb (length s) most-bytes short, not-every h, e, take-run ascii s) }
+  where
+    not-every : run ascii s < length s → every ascii s ≡ false
+    not-every h = ap (every ascii) (sym (take-all (length s) s (omega arith))) ∙ past-run ascii s (length s) h (omega arith)
 
 -- The first line is reached.
 pub reached-first : (s : List ℕ) (room : ℕ) (c : Config) → settingsMeant c ≡ begin → length s ≤ most-bytes → length s ≤ run ascii s → Reached s room 1 0 [] 0 (settingsMeant c)
@@ -128,46 +116,44 @@ reached-first s room c e short clean =
     all-ascii = ap (every ascii) (sym (sym (take-run ascii s) ∙ take-all (run ascii s) s clean)) ∙ every-run ascii s
 
 -- What the walk begins with.
-module _ {s : List ℕ} {p : Pass} where
-  module _ (short : length s ≤ most-bytes) where
-    pub begins-high : {line : ℕ} → run ascii s < length s → line ≡ length (lines (take (run ascii s) s)) → Stops 2 0 line 0 p → Begins s p
-    begins-high h e k = record { stands = λ room. high-byte s room short h e k; sound = λ g. found-not (sym g ∙ k .not-found) }
+module _ {s : List ℕ} (short : length s ≤ most-bytes) where
+  pub begins-high : {line : ℕ} → run ascii s < length s → line ≡ length (lines (take (run ascii s) s)) → Begins s (refusedPass 2 0 line 0)
+  begins-high h e = record { stands = λ room. high-byte s room short h e; sound = tt }
 
-    pub begins-scan : (c : Config) → settingsMeant c ≡ begin → length s ≤ run ascii s → Scans s 0 1 0 0 (settingsMeant c) p → Begins s p
-    begins-scan c e clean k = record { stands = λ room. k .stands room [] refl (reached-first s room c e short clean); sound = k .sound }
+  pub begins-scan : {p : Pass} (c : Config) → settingsMeant c ≡ begin → length s ≤ run ascii s → Scans s 0 1 0 0 (settingsMeant c) p → Begins s p
+  begins-scan c e clean k = record { stands = λ room. k .stands room [] refl (reached-first s room c e short clean); sound = k .sound }
 
 -- ---- the end
 
--- What a source means whose walk has finished.
-pub stands-ready : {s : List ℕ} {room : ℕ} {ls : List Label} {p : Pass} → Stands s room ls p → p .found ≡ false → p .fault ≡ Good → Ready s (p .words) (settingsMeant (p .config))
-unfolding readTo
-stands-ready {s} {room} {ls} {p} t f g =
-    let (c, (st, (e, l, w, k))) = rw g at (t .at-end f) in
-    let u : MeansIf present s (accepted st) = rw (c, e) at (reading-means present s room) in
-    record {
-      readable = walk-reads room 1 0 start (lines s) (rw e tt);
-      words-are = ap (λ l. length l) (sym (u .instructions)) ∙ w;
-      most = rw (← w) (u .few);
-      setup-is = sym (u .setup) ∙ k;
-    }
-
--- A pass with a refusal finishes so; and one without.
-refused-good : {X : Type 0} {n : ℕ} → _≡_ {A = Checked} (RefusedCheck n) Good → X
-refused-good z = let y : _≡_ {A = ℕ} 0 1 = cc in absurd (omega arith)
-
-pub finishes-refused : (s : List ℕ) (p : Pass) (old : List ℕ) (n : ℕ) → p .fault ≡ RefusedCheck n → Finishes s p old old (Refused n (p .«rust_line») (p .line) (p .labels))
-finishes-refused s p old n e =
-    record {
-      refused = λ m f. let g : n ≡ m = ap number (sym e ∙ f) in (ap (λ (k : ℕ). Refused k (p .«rust_line») (p .line) (p .labels)) g, refl);
-      filled = λ g. refused-good (sym e ∙ g);
-    }
+-- An accepted source has been walked to its end.
+accepted-done : (s : List ℕ) (room : ℕ) {st : State} → reading present s room ≡ accepted st → Done (whole s room)
+unfolding reading refusing readTo
+accepted-done s room {st} e = go (leb (length s) most-bytes) (every ascii s) e
   where
-    number : Checked → ℕ
-    number Good = 0
-    number (RefusedCheck k) = k
+    not-accepted : {X : Type 0} {r : Refusal} → _≡_ {A = Assembled} (rejected r) (accepted st) → X
+    not-accepted z = let y : _≡_ {A = ℕ} 0 1 = cc in absurd (omega arith)
 
-pub finishes-filled : {s : List ℕ} {p : Pass} {old new : List ℕ} {r : Answered} → p .fault ≡ Good → Fills s (p .words) (p .labels) (settingsMeant (p .config)) old new r → Finishes s p old new r
-finishes-filled e f = record { refused = λ n g. refused-good (sym g ∙ e); filled = λ g. f }
+    by : (w : Walk) → readTo w ≡ accepted st → Done w
+    by (finished x) z = tt
+    by (stopped n line x) z = not-accepted z
+
+    go : (a b : Bool) → elim a [ false ↦ refusing 1 0 0 [] none | true ↦ elim b [ false ↦ refusing 2 0 (length (lines (before ascii s))) [] none | true ↦ readTo (whole s room) ] ] ≡ accepted st
+        → Done (whole s room)
+    go false b z = not-accepted z
+    go true false z = not-accepted z
+    go true true z = by (whole s room) z
+
+-- What a source means whose walk has finished.
+pub ends-ready : (s : List ℕ) (room : ℕ) (ls : List Label) (v : Verdict) → Judges s room ls v → Finishable s v
+ends-ready s room ls (Rejected n rust line) j = tt
+ends-ready s room ls (Finished words c) j =
+    let u : MeansIf present s (accepted (j .state)) = rw (j .accepts) at (reading-means present s room) in
+    record {
+      readable = walk-reads room 1 0 start (lines s) (accepted-done s room (j .accepts));
+      words-are = ap (λ l. length l) (sym (u .instructions)) ∙ j .words-are;
+      most = rw (← j .words-are) (u .few);
+      setup-is = sym (u .setup) ∙ j .setup-is;
+    }
 
 -- What assembling answers, what its image buffer holds, and which labels it has entered.
 pub record Answers (s : List ℕ) (room : ℕ) (ls : List Label) (old new : List ℕ) (r : Answered) : Type 0 where
@@ -175,41 +161,33 @@ pub record Answers (s : List ℕ) (room : ℕ) (ls : List Label) (old new : List
   pub image-holds : new ≡ imageAfter present s (assembling present s room (length old)) old
   pub labels-are : ls ≡ entered (assembling present s room (length old))
 
-pub stands-answers : {s : List ℕ} {room : ℕ} {ls : List Label} {p : Pass} {old new : List ℕ} {r : Answered} → Stands s room ls p → p .found ≡ false → Finishes s p old new r
+pub ends-answers : {s : List ℕ} {room : ℕ} {ls : List Label} {o : Outcome} {old new : List ℕ} {r : Answered} → WalkEnds s room ls o → Finishes s (o .labels) old new r (o .verdict)
     → Answers s room ls old new r
 unfolding readTo assembling fitted refusing answerOf entered imageAfter
-stands-answers {s} {room} {ls} {p} {old} {new} {r} t f h = go (p .fault) refl
+ends-answers {s} {room} {ls} {o} {old} {new} {r} t h = go (o .verdict) (t .judges) h
   where
-    go : (k : Checked) → p .fault ≡ k → Answers s room ls old new r
-    go (RefusedCheck n) g =
-        let e : reading present s room ≡ refusing n (p .«rust_line») (p .line) ls none = rw g at (t .at-end f) in
-        let a : assembling present s room (length old) ≡ refusing n (p .«rust_line») (p .line) ls none = ap (fitted (length old)) e in
-        let (x, y) = h .refused n g in
+    go : (v : Verdict) → Judges s room ls v → Finishes s (o .labels) old new r v → Answers s room ls old new r
+    go (Rejected n rust line) e (x, y) =
+        let a : assembling present s room (length old) ≡ refusing n rust line ls none = ap (fitted (length old)) e in
         record {
           answer = ap answerMeant x ∙ rw (t .count) (ap answerOf (sym a));
           image-holds = y ∙ ap (λ (z : Assembled). imageAfter present s z old) (sym a);
           labels-are = ap entered (sym a);
         }
-    go Good g =
-        let (c, (st, (e, l, w, k))) = rw g at (t .at-end f) in
-        by-room (h .filled g) st (c ∙ ap readTo e) l w k
+    go (Finished words c) j fills = on (leb (imageLength (length (j .state .instructions))) (length old)) refl
       where
-        by-room : Fills s (p .words) (p .labels) (settingsMeant (p .config)) old new r → (st : State) → reading present s room ≡ accepted st → st .labels ≡ ls
-            → length (st .instructions) ≡ p .words → st .setup ≡ settingsMeant (p .config) → Answers s room ls old new r
-        by-room fills st e l w k = on (leb (imageLength (length (st .instructions))) (length old)) refl
-          where
-            on : (b : Bool) → leb (imageLength (length (st .instructions))) (length old) ≡ b → Answers s room ls old new r
-            on true q =
-                let a : assembling present s room (length old) ≡ accepted st = ap (fitted (length old)) e ∙ rw (fitted, q) in
-                let x = rw (← w, q, ← w, ← k, t .count, ← l) at (fills .answer) in
-                let y = rw (← w, q) at (fills .holds) in
-                record { answer = x ∙ ap answerOf (sym a); image-holds = y ∙ ap (λ (z : Assembled). imageAfter present s z old) (sym a); labels-are = sym l ∙ ap entered (sym a) }
-            on false q =
-                let n = imageLength (length (st .instructions)) in
-                let a : assembling present s room (length old) ≡ refusing 23 0 0 (st .labels) (some n) = ap (fitted (length old)) e ∙ rw (fitted, q) in
-                let x = rw (← w, q, ← w, t .count, ← l) at (fills .answer) in
-                let y = rw (← w, q) at (fills .holds) in
-                record { answer = x ∙ ap answerOf (sym a); image-holds = y ∙ ap (λ (z : Assembled). imageAfter present s z old) (sym a); labels-are = sym l ∙ ap entered (sym a) }
+        on : (b : Bool) → leb (imageLength (length (j .state .instructions))) (length old) ≡ b → Answers s room ls old new r
+        on true q =
+            let a : assembling present s room (length old) ≡ accepted (j .state) = ap (fitted (length old)) (j .accepts) ∙ rw (fitted, q) in
+            let x = rw (← j .words-are, q, ← j .words-are, ← j .setup-is, t .count, ← j .labels-are) at (fills .answer) in
+            let y = rw (← j .words-are, q) at (fills .holds) in
+            record { answer = x ∙ ap answerOf (sym a); image-holds = y ∙ ap (λ (z : Assembled). imageAfter present s z old) (sym a); labels-are = sym (j .labels-are) ∙ ap entered (sym a) }
+        on false q =
+            let n = imageLength (length (j .state .instructions)) in
+            let a : assembling present s room (length old) ≡ refusing 23 0 0 (j .state .labels) (some n) = ap (fitted (length old)) (j .accepts) ∙ rw (fitted, q) in
+            let x = rw (← j .words-are, q, ← j .words-are, t .count, ← j .labels-are) at (fills .answer) in
+            let y = rw (← j .words-are, q) at (fills .holds) in
+            record { answer = x ∙ ap answerOf (sym a); image-holds = y ∙ ap (λ (z : Assembled). imageAfter present s z old) (sym a); labels-are = sym (j .labels-are) ∙ ap entered (sym a) }
 
 -- A source that is too long.
 pub overlong-answers : (s : List ℕ) (room : ℕ) (old : List ℕ) → most-bytes < length s → Answers s room [] old old (Refused 1 0 0 0)

@@ -1,10 +1,10 @@
 -- Laws of the first walk: what a line that has been reached leads to, and what a label leads to that is entered or refused.
-use Prim.Native.Nat.{ℕ, suc, _+_, _≤_, _<_}
-use mathlib.Core.Path.{_≡_, refl, sym, ap, _∙_}
+use Prim.Native.Nat.{ℕ, suc, _+_, _*_, _≤_, _<_}
+use mathlib.Core.Path.{_≡_, refl, sym, ap, ap₂, _∙_}
 use native.Mathlib.Omega.{arith}
 use native.Mathlib.Numerals.{add-one}
 use mathlib.Core.Bool.{Bool, true, false}
-use mathlib.Core.Option.{none, some}
+use mathlib.Core.Option.{Option, none, some}
 use mathlib.Core.List.{List, [], _∷_, _++_}
 use lib.ListN.{length, take, drop, length-append}
 use lib.Dec.{ltb}
@@ -14,160 +14,158 @@ use Rattle.text_lexical.proofs.Tests.{split}
 use Rattle.text.specs.Lines.{lines, indent, readLine}
 use Rattle.text.specs.Places.{restAt, endAt}
 use Rattle.text.proofs.Lines.{line-at, last-line}
-use Rattle.instruction.specs.Operands.{Instruction}
 use Rattle.image.specs.Settings.{Settings}
 use Rattle.image.specs.Program.{entry}
-use Rattle.image.specs.Assembling.{State, start, Step, next, stop, isKnown, withLabel, enter, readOn, step, contextOf, Walk, finished, stopped, walk, rustLine, readTo}
+use Rattle.image.specs.Assembling.{State, Step, next, stop, isKnown, withLabel, enter, Read as MeantRead, readOn, changedBy, entering, doing, step, contextOf, Walk, finished, stopped, walk, rustLine, refusing, readTo}
 use Rattle.image.specs.Assembling.{Label as Meant}
 use Rattle.image.specs.Meaning.{codedBy}
-use Rattle.image.specs.Contracts.{settingsMeant, faultMeant}
+use Rattle.image.specs.Contracts.{settingsMeant}
 use Rattle.image.specs.declared.config.Config.{Config}
-use Rattle.image.specs.declared.config.Checked.{Checked}
-use Rattle.image.specs.declared.config.Checked.the-variants.{Good, Refused}
 use Rattle.image_labels.specs.Contracts.{spelled, entryFault}
 use Rattle.image_labels.specs.declared.label.Entered.the-variants.{New, Duplicate, Full}
-use Rattle.image_passes.specs.Contracts.{effectAt, labelStep, onward, Comes, whole, Clean, Reached, behindLine, AtLabel, Stands, Sound, Stops, Ends, labelledPass, ScanFrom, Scans, labelAt, GoesOn}
+use Rattle.image_passes.specs.Contracts.{contextFor, labelIf, LineIs, effectAt, grown, RestDone, RestIs, whole, Clean, Reached, LabelNext, Progress, refusedPass, finishedPass, labelPass, RestFits, Sound, ScanFrom, Scans, labelAt, OnlyAfter, GoesOn}
+use Rattle.image_passes.specs.declared.line.Read.{Read}
 use Rattle.image_passes.specs.declared.first_pass.Pass.{Pass}
-use Rattle.image_passes.specs.declared.first_pass.Step.{Step as Stepped}
-use Rattle.image_passes.proofs.Passes.{line-split}
+use Rattle.image_passes.specs.declared.first_pass.Pass.the-variants.{AtLabel, Ended}
+use Rattle.image_passes.specs.declared.first_pass.LabelLine.{LabelLine}
+use Rattle.image_passes.specs.declared.first_pass.Rest.{Rest}
+use Rattle.image_passes.specs.declared.first_pass.Rest.the-variants.{Refused, Done}
+use Rattle.image_passes.proofs.Steps.{rest-is, rest-fits}
 
--- What is found is not also not found.
-pub found-not : {X : Type 0} → _≡_ {A = Bool} true false → X
-found-not z = let y : _≡_ {A = ℕ} 0 1 = cc in absurd (omega arith)
+-- ---- after a line
 
--- ---- a walk that has ended
+-- What is after a line that ends at a place, by what it leads to: the next line, if there is one.
+unfoldable afterLine : List ℕ → ℕ → ℕ → ℕ → Step → Walk
+afterLine s room line end (stop n st) = stopped n line st
+afterLine s room line end (next st) =
+    elim (ltb end (length s)) [ true ↦ walk present room (suc line) (suc end) st (lines (drop (suc end) s)) | false ↦ finished st ]
 
-module _ {s : List ℕ} {room : ℕ} {ls : List Meant} {p : Pass} {labels : ℕ} (count : labels ≡ length ls) where
-  -- with the refusal of a line
-  pub stands-stopped : {n line : ℕ} → Stops n (rustLine n line) line labels p → Clean s room → (st : State) → whole s room ≡ stopped n line st → st .labels ≡ ls
-      → Stands s room ls p
-  unfolding readTo
-  stands-stopped h c st e l =
-      record {
-        count = h .labels-are ∙ count;
-        at-label = λ f. found-not (sym f ∙ h .not-found);
-        at-end = λ f. rw (h .fault-is, h .rust-is, h .line-is, ← l) (c ∙ ap readTo e);
-      }
+-- A line whose label, if it has one, is entered: what is left is what it does.
+record Doing (s : List ℕ) (room line at : ℕ) (labels : List Meant) (words : ℕ) (setup : Settings) : Type 0 where
+  pub clean : Clean s room
+  pub state : State
+  pub comes : whole s room ≡ afterLine s room line (endAt s at) (doing (effectAt s at setup) (next state))
+  pub labels-are : state .labels ≡ labels
+  pub words-are : length (state .instructions) ≡ words
+  pub setup-is : state .setup ≡ setup
 
-  -- behind the last line
-  pub stands-ended : {words : ℕ} {c : Config} → Ends labels words c p → Clean s room → (st : State) → whole s room ≡ finished st → st .labels ≡ ls
-      → length (st .instructions) ≡ words → st .setup ≡ settingsMeant c → Stands s room ls p
-  stands-ended h c st e l w k =
-      record {
-        count = h .labels-are ∙ count;
-        at-label = λ f. found-not (sym f ∙ h .not-found);
-        at-end = λ f. rw (h .fault-is, h .words-are, h .config-is) (c, (st, (e, l, w, k)));
-      }
+-- The walk has ended with the refusal of a line.
+ends-refused : {s : List ℕ} {room line n labels : ℕ} {ls : List Meant} → labels ≡ length ls → Clean s room → (st : State) → whole s room ≡ stopped n line st → st .labels ≡ ls
+    → Progress s room ls (refusedPass n (rustLine n line) line labels)
+unfolding readTo
+ends-refused {s} {room} {line} {n} count c st e l =
+    record { count = count; judges = c ∙ ap readTo e ∙ ap (λ (x : List Meant). refusing n (rustLine n line) line x none) l }
+
+module _ {s : List ℕ} {room line at : ℕ} {ls : List Meant} {words : ℕ} {setup : Settings} (d : Doing s room line at ls words setup) where
+  -- The line is refused.
+  doing-refused : {n labels : ℕ} → RestIs s at words setup (Refused n) → labels ≡ length ls → Progress s room ls (refusedPass n (rustLine n line) line labels)
+  unfolding afterLine
+  doing-refused h count =
+      ends-refused count (d .clean) (d .state) (d .comes ∙ ap (afterLine s room line (endAt s at)) (h (d .state) (d .words-are))) (d .labels-are)
+
+  -- It is not.
+  module _ {words′ end : ℕ} {c : Config} (h : RestDone s at words setup words′ c end) where
+    abbrev after : State
+    after = grown (d .state) (effectAt s at setup)
+
+    comes-after : whole s room ≡ afterLine s room line end (next after)
+    comes-after =
+        d .comes ∙ ap (afterLine s room line (endAt s at)) (h .does (d .state) (d .words-are)) ∙ ap (λ (e : ℕ). afterLine s room line e (next after)) (sym (h .ends))
+
+    after-words : length (after .instructions) ≡ words′
+    after-words = length-append (d .state .instructions) (codedBy (effectAt s at setup)) ∙ omega (arith, h .counts, d .words-are)
+
+    after-setup : after .setup ≡ settingsMeant c
+    after-setup = ap (λ (x : Settings). changedBy x (effectAt s at setup)) (d .setup-is) ∙ sym (h .settings)
+
+    -- It is the last line,
+    doing-last : {labels : ℕ} → length s ≤ end → labels ≡ length ls → Progress s room ls (finishedPass labels words′ c)
+    unfolding afterLine readTo
+    doing-last z count =
+        let e : whole s room ≡ finished after = comes-after ∙ rw (afterLine, le-ltb end (length s) z) in
+        record {
+          count = count;
+          judges =
+              record {
+                state = after;
+                accepts = d .clean ∙ ap readTo e;
+                labels-are = d .labels-are;
+                words-are = after-words;
+                setup-is = after-setup;
+              };
+        }
+
+    -- or there is another after it.
+    doing-on : end < length s → Reached s room (line + 1) (end + 1) ls words′ (settingsMeant c)
+    unfolding afterLine
+    doing-on z =
+        record {
+          clean = d .clean;
+          state = after;
+          on = rw (add-one line, add-one end) (sym (comes-after ∙ rw (afterLine, lt-ltb end (length s) z)));
+          labels-are = d .labels-are;
+          words-are = after-words;
+          setup-is = after-setup;
+        }
 
 -- ---- a line that has been reached
 
-module _ {s : List ℕ} {room line at : ℕ} {ls : List Meant} {words : ℕ} {setup : Settings} (q : Reached s room line at ls words setup) (inside : at ≤ length s)
-    (r : Stepped) (h : Comes s at words setup r) where
-  abbrev here : List Instruction
-  here = codedBy (effectAt s at setup)
+module _ {s : List ℕ} {room line at : ℕ} {ls : List Meant} {words : ℕ} {setup : Settings} (q : Reached s room line at ls words setup) (inside : at ≤ length s) where
+  abbrev place : ℕ
+  place = at + indent (restAt s at)
+
+  abbrev reads : MeantRead
+  reads = readOn (record { setup = setup }) (readLine present (restAt s at))
 
   abbrev stepped : Step
-  stepped = step room (q .state) (at + indent (restAt s at)) (readOn (contextOf (q .state)) (readLine present (restAt s at)))
+  stepped = step room (q .state) place (readOn (contextOf (q .state)) (readLine present (restAt s at)))
 
-  step-is : stepped ≡ onward (faultMeant (r .fault)) here (settingsMeant (r .config)) (labelStep s r room (q .state))
-  step-is = h .steps room (q .state) (q .setup-is) (q .words-are)
+  next-place : at + suc (length (restAt s at)) ≡ suc (endAt s at)
+  unfolding endAt
+  next-place = omega arith
 
-  goes : (d : Step) → stepped ≡ d → (rest : List (List ℕ)) → lines (drop at s) ≡ restAt s at ∷ rest
-      → whole s room ≡ elim d [ next st ↦ walk present room (suc line) (at + suc (length (restAt s at))) st rest | stop n st ↦ stopped n line st ]
-  unfolding walk
-  goes d e rest l = sym (q .on) ∙ ap (walk present room line at (q .state)) l ∙ rw (walk, e)
-
-  -- it is refused
-  comes-stop : (n : ℕ) (st : State) → stepped ≡ stop n st → whole s room ≡ stopped n line st
-  comes-stop n st e = let (rest, l) = line-split s at inside in goes (stop n st) e rest l
-
-  -- it is not, and ends at a place
-  comes-next : (st : State) → stepped ≡ next st → r .end ≡ endAt s at → whole s room ≡ behindLine s room line (r .end) (next st)
-  unfolding behindLine walk endAt
-  comes-next st e ends =
-      split (r .end) (length s)
-      (λ b.
-      let a : at + suc (length (restAt s at)) ≡ suc (r .end) = omega (arith, ends) in
-      let l = line-at s at inside (rw (← ends) b) in
-      rw (behindLine, lt-ltb (r .end) (length s) b) (rw (a, ← ends) at (goes (next st) e _ l)))
-      (λ b. rw (behindLine, le-ltb (r .end) (length s) b) (goes (next st) e [] (last-line s at inside (rw (← ends) b))))
-
-  -- what a line with a label leads to
-  labelled-comes : r .labelled ≡ true
-      → whole s room ≡ behindLine s room line (r .end) (onward (faultMeant (r .fault)) here (settingsMeant (r .config)) (enter room (q .state) (r .start) (take (r .length) (drop (r .start) s))))
-  unfolding labelStep onward behindLine
-  labelled-comes b = by-fault (r .fault) refl (enter room (q .state) (r .start) (take (r .length) (drop (r .start) s))) entered
+  -- what it leads to, if it is not the last one,
+  there : endAt s at < length s → walk present room line at (q .state) (lines (drop at s)) ≡ afterLine s room line (endAt s at) stepped
+  unfolding walk afterLine
+  there b = ap (walk present room line at (q .state)) (line-at s at inside b) ∙ go stepped
     where
-      entered : labelStep s r room (q .state) ≡ enter room (q .state) (r .start) (take (r .length) (drop (r .start) s))
-      entered = rw (labelStep, b)
+      go : (d : Step) → elim d [ next st ↦ walk present room (suc line) (at + suc (length (restAt s at))) st (lines (drop (suc (endAt s at)) s)) | stop n st ↦ stopped n line st ]
+          ≡ afterLine s room line (endAt s at) d
+      go (stop n st) = refl
+      go (next st) = rw (afterLine, lt-ltb (endAt s at) (length s) b, next-place)
 
-      by-fault : (f : Checked) → r .fault ≡ f → (d : Step) → labelStep s r room (q .state) ≡ d
-          → whole s room ≡ behindLine s room line (r .end) (onward (faultMeant f) here (settingsMeant (r .config)) d)
-      by-fault (Refused n) f (stop m st) e = comes-stop m st (step-is ∙ rw (f, e))
-      by-fault (Refused n) f (next st) e = comes-stop n st (step-is ∙ rw (f, e))
-      by-fault Good f (stop m st) e = comes-stop m st (step-is ∙ rw (f, e))
-      by-fault Good f (next st) e = comes-next _ (step-is ∙ rw (f, e)) (h .ends f)
+  -- and if it is
+  at-last : length s ≤ endAt s at → walk present room line at (q .state) (lines (drop at s)) ≡ afterLine s room line (endAt s at) stepped
+  unfolding walk afterLine
+  at-last b = ap (walk present room line at (q .state)) (last-line s at inside b) ∙ go stepped
+    where
+      go : (d : Step) → elim d [ next st ↦ walk present room (suc line) (at + suc (length (restAt s at))) st [] | stop n st ↦ stopped n line st ] ≡ afterLine s room line (endAt s at) d
+      go (stop n st) = refl
+      go (next st) = rw (afterLine, le-ltb (endAt s at) (length s) b)
 
-  -- The walk stands at its label.
-  pub reached-label : r .labelled ≡ true → (labels : ℕ) → labels ≡ length ls → Stands s room ls (labelledPass r words line labels)
-  unfolding entry
-  reached-label b labels count =
+  line-comes : whole s room ≡ afterLine s room line (endAt s at) (step room (q .state) place reads)
+  unfolding contextOf
+  line-comes =
+      sym (q .on) ∙ split (endAt s at) (length s) there at-last
+      ∙ ap (λ (x : Settings). afterLine s room line (endAt s at) (step room (q .state) place (readOn (record { setup = x }) (readLine present (restAt s at))))) (q .setup-is)
+
+  -- A line without a label.
+  plain-doing : reads .label ≡ none → Doing s room line at ls words setup
+  unfolding step entering
+  plain-doing e =
       record {
-        count = count;
-        at-label = λ f.
-            record {
-              clean = q .clean;
-              state = q .state;
-              labels-are = q .labels-are;
-              address-is = rw (q .words-are);
-              instructions = here;
-              words-are = λ g. rw (q .words-are) (h .counts g);
-              comes = labelled-comes b;
-            };
-        at-end = λ f. found-not f;
+        clean = q .clean;
+        state = q .state;
+        comes = line-comes ∙ ap (λ (o : Option (List ℕ)). afterLine s room line (endAt s at) (doing (effectAt s at setup) (entering room (q .state) place o))) e;
+        labels-are = q .labels-are;
+        words-are = q .words-are;
+        setup-is = q .setup-is;
       }
 
-  -- A line without a label,
-  module _ (b : r .labelled ≡ false) where
-    plain-step : stepped ≡ onward (faultMeant (r .fault)) here (settingsMeant (r .config)) (next (q .state))
-    unfolding labelStep
-    plain-step = step-is ∙ rw (labelStep, b)
-
-    -- which is refused,
-    pub reached-stop : {n labels : ℕ} {p : Pass} → r .fault ≡ Refused n → Stops n (rustLine n line) line labels p → labels ≡ length ls → Stands s room ls p
-    unfolding onward
-    reached-stop {n} f k count = stands-stopped count k (q .clean) (q .state) (comes-stop n (q .state) (plain-step ∙ rw f)) (q .labels-are)
-
-    -- or is not.
-    module _ (f : r .fault ≡ Good) where
-      abbrev grown : State
-      grown = record { labels = q .state .labels; instructions = q .state .instructions ++ here; setup = settingsMeant (r .config) }
-
-      plain-next : stepped ≡ next grown
-      unfolding onward
-      plain-next = plain-step ∙ rw f
-
-      grown-words : length (grown .instructions) ≡ r .words
-      grown-words = length-append (q .state .instructions) here ∙ omega (arith, h .counts f, q .words-are)
-
-      -- the last line
-      pub reached-end : {labels : ℕ} {p : Pass} → length s ≤ r .end → Ends labels (r .words) (r .config) p → labels ≡ length ls → Stands s room ls p
-      unfolding behindLine
-      reached-end z k count =
-          stands-ended count k (q .clean) grown (comes-next grown plain-next (h .ends f) ∙ rw (behindLine, le-ltb (r .end) (length s) z)) (q .labels-are) grown-words refl
-
-      -- another behind it
-      pub reached-on : r .end < length s → Reached s room (line + 1) (r .end + 1) ls (r .words) (settingsMeant (r .config))
-      unfolding behindLine
-      reached-on z =
-          record {
-            clean = q .clean;
-            state = grown;
-            on = rw (add-one line, add-one (r .end)) (sym (comes-next grown plain-next (h .ends f) ∙ rw (behindLine, lt-ltb (r .end) (length s) z)));
-            labels-are = q .labels-are;
-            words-are = grown-words;
-            setup-is = refl;
-          }
+  -- A line with one.
+  label-comes : {u : List ℕ} → reads .label ≡ some u → whole s room ≡ afterLine s room line (endAt s at) (doing (effectAt s at setup) (enter room (q .state) place u))
+  unfolding step entering
+  label-comes e = line-comes ∙ ap (λ (o : Option (List ℕ)). afterLine s room line (endAt s at) (doing (effectAt s at setup) (entering room (q .state) place o))) e
 
 -- ---- from line to line
 
@@ -175,73 +173,83 @@ module _ {s : List ℕ} {room line at : ℕ} {ls : List Meant} {words : ℕ} {se
 pub record Scanning (s : List ℕ) (from first labels before : ℕ) (settings : Settings) (at line words : ℕ) (c : Config) : Type 0 where
   pub safe : ScanFrom s at line labels words
   pub reached : (room : ℕ) (ls : List Meant) → Reached s room first from ls before settings → Reached s room line at ls words (settingsMeant c)
-  pub behind : first ≤ line
+  pub after : first ≤ line
 
 pub scanning-none : {s : List ℕ} {from first labels before : ℕ} {c : Config} → ScanFrom s from first labels before → Scanning s from first labels before (settingsMeant c) from first before c
-scanning-none h = record { safe = h; reached = λ room ls q. q; behind = omega arith }
+scanning-none h = record { safe = h; reached = λ room ls q. q; after = omega arith }
+
+-- A line that is not refused ends where it begins, or after that.
+pub ends-after : {s : List ℕ} {at words : ℕ} {setup : Settings} {words′ end : ℕ} {c : Config} → RestDone s at words setup words′ c end → at ≤ end
+unfolding endAt
+ends-after h = omega (arith, h .ends)
 
 module _ {s : List ℕ} {from first labels before : ℕ} {settings : Settings} {at line words : ℕ} {c : Config} (w : Scanning s from first labels before settings at line words c)
-    (r : Stepped) (h : Comes s at words (settingsMeant c) r) where
-  -- A line takes a byte at least.
-  pub ends-behind : r .fault ≡ Good → at ≤ r .end
-  unfolding endAt
-  ends-behind f = omega (arith, h .ends f)
+    (r : Read) (h : LineIs s at (contextFor c) r) where
+  -- its label
+  label-is : {b : Bool} → r .labelled ≡ b → readOn (contextFor c) (readLine present (restAt s at)) .label ≡ labelIf b (take (r .length) (drop (r .start) s))
+  label-is b = ap (λ (x : MeantRead). x .label) (sym (h .reads)) ∙ ap (λ (x : Bool). labelIf x (take (r .length) (drop (r .start) s))) b
 
   -- A label.
-  pub scans-label : r .labelled ≡ true → Scans s from first labels before settings (labelledPass r words line labels)
-  scans-label b =
+  pub scans-label : {rest : Rest} → r .labelled ≡ true → RestIs s at words (settingsMeant c) rest → RestFits line rest
+      → Scans s from first labels before settings (labelPass (r .start) (r .length) words line labels rest)
+  unfolding entry
+  scans-label b k f =
       record {
-        stands = λ room ls e q. reached-label (w .reached room ls q) (w .safe .in-text) r h b labels e;
-        sound = λ f.
+        stands = λ room ls e q.
+            record {
+              count = e;
+              at = at;
+              in-text = w .safe .in-text;
+              words = words;
+              setup = settingsMeant c;
+              reached = w .reached room ls q;
+              reads = label-is b;
+              starts = h .starts b;
+              address-is = refl;
+              rest-is = k;
+            };
+        sound =
             record {
               short = w .safe .short;
               in-text = h .in-text;
               near = omega (arith, w .safe .few-words);
-              few-lines = λ g. omega (arith, w .safe .few-lines, ends-behind g);
               line-fits = omega (arith, w .safe .few-lines, w .safe .in-text);
               few-labels = w .safe .few-labels;
-              few-words = λ g. h .most g (w .safe .few-words);
+              rest-fits = f;
             };
-        behind = λ f. w .behind;
+        after = w .after;
       }
 
   module _ (b : r .labelled ≡ false) where
-    -- A refusal.
-    pub scans-stop : {n : ℕ} {p : Pass} → r .fault ≡ Refused n → Stops n (rustLine n line) line labels p → Scans s from first labels before settings p
-    scans-stop f k =
-        record {
-          stands = λ room ls e q. reached-stop (w .reached room ls q) (w .safe .in-text) r h b f k e;
-          sound = λ g. found-not (sym g ∙ k .not-found);
-          behind = λ g. found-not (sym g ∙ k .not-found);
-        }
+    what-is-left : (room : ℕ) (ls : List Meant) → Reached s room first from ls before settings → Doing s room line at ls words (settingsMeant c)
+    what-is-left room ls q = plain-doing (w .reached room ls q) (w .safe .in-text) (label-is b)
 
-    module _ (f : r .fault ≡ Good) where
+    -- A refusal.
+    pub scans-refused : {n : ℕ} → RestIs s at words (settingsMeant c) (Refused n) → Scans s from first labels before settings (refusedPass n (rustLine n line) line labels)
+    scans-refused k = record { stands = λ room ls e q. doing-refused (what-is-left room ls q) k e; sound = tt; after = tt }
+
+    module _ {words′ end : ℕ} {d : Config} (k : RestDone s at words (settingsMeant c) words′ d end) where
       -- The last line.
-      pub scans-end : {p : Pass} → length s ≤ r .end → Ends labels (r .words) (r .config) p → Scans s from first labels before settings p
-      scans-end z k =
-          record {
-            stands = λ room ls e q. reached-end (w .reached room ls q) (w .safe .in-text) r h b f z k e;
-            sound = λ g. found-not (sym g ∙ k .not-found);
-            behind = λ g. found-not (sym g ∙ k .not-found);
-          }
+      pub scans-last : length s ≤ end → Scans s from first labels before settings (finishedPass labels words′ d)
+      scans-last z = record { stands = λ room ls e q. doing-last (what-is-left room ls q) k z e; sound = tt; after = tt }
 
       -- The next line.
-      pub scans-on : r .end < length s → Scanning s from first labels before settings (r .end + 1) (line + 1) (r .words) (r .config)
-      scans-on z =
+      pub scans-on : RestFits line (Done words′ d end) → end < length s → Scanning s from first labels before settings (end + 1) (line + 1) words′ d
+      scans-on f z =
           record {
             safe =
                 record {
                   short = w .safe .short;
                   in-text = omega arith;
-                  few-lines = omega (arith, w .safe .few-lines, ends-behind f);
+                  few-lines = omega (arith, f .0);
                   few-labels = omega (arith, w .safe .few-labels);
-                  few-words = h .most f (w .safe .few-words);
+                  few-words = f .1;
                 };
-            reached = λ room ls q. reached-on (w .reached room ls q) (w .safe .in-text) r h b f z;
-            behind = omega (arith, w .behind);
+            reached = λ room ls q. doing-on (what-is-left room ls q) k z;
+            after = omega (arith, w .after);
           }
 
--- ---- behind a label
+-- ---- after a label
 
 -- A label is refused, or entered, as document 01 has it.
 module _ (room : ℕ) (st : State) (at : ℕ) (u : List ℕ) where
@@ -263,135 +271,89 @@ module _ (room : ℕ) (st : State) (at : ℕ) (u : List ℕ) where
       go false true e = refl
       go false false e = let y : _≡_ {A = ℕ} 0 1 = cc in absurd (omega arith)
 
-module _ {s : List ℕ} {p : Pass} {room : ℕ} {ls : List Meant} (stood : Stands s room ls p) (found : p .found ≡ true) where
-  abbrev a : AtLabel s room ls p
-  a = stood .at-label found
-
+module _ {s : List ℕ} {p : LabelLine} {room : ℕ} {ls : List Meant} (a : LabelNext s room ls p) where
   abbrev name : List ℕ
   name = spelled s (p .label)
 
   abbrev known : Bool
   known = isKnown ls name
 
+  abbrev st : State
+  st = a .reached .state
+
+  comes-there : whole s room ≡ afterLine s room (p .line) (endAt s (a .at)) (doing (effectAt s (a .at) (a .setup)) (enter room st (p .label .start) name))
+  comes-there =
+      label-comes (a .reached) (a .in-text) (a .reads)
+      ∙ ap (λ (n : ℕ). afterLine s room (p .line) (endAt s (a .at)) (doing (effectAt s (a .at) (a .setup)) (enter room st n name))) (sym (a .starts))
+
   -- The label is refused.
-  pub label-refused : {n : ℕ} {r : Pass} → some n ≡ entryFault known (ltb (length ls) room) → Stops n (rustLine n (p .line)) (p .line) (p .labels) r → Stands s room ls r
-  unfolding onward behindLine
-  label-refused {n} e k =
-      let x : enter room (a .state) (p .label .start) name ≡ stop n (a .state) = enter-refused room (a .state) (p .label .start) name n (rw (a .labels-are) e) in
-      stands-stopped (stood .count) k (a .clean) (a .state) (a .comes ∙ rw x) (a .labels-are)
+  pub label-refused : {n : ℕ} → some n ≡ entryFault known (ltb (length ls) room) → Progress s room ls (refusedPass n (rustLine n (p .line)) (p .line) (p .labels))
+  unfolding afterLine doing
+  label-refused {n} e =
+      let x : enter room st (p .label .start) name ≡ stop n st = enter-refused room st (p .label .start) name n (rw (a .reached .labels-are) e) in
+      ends-refused (a .count) (a .reached .clean) st (comes-there ∙ rw x) (a .reached .labels-are)
 
   -- It is entered.
   module _ (e : none ≡ entryFault known (ltb (length ls) room)) where
     abbrev named : State
-    named = withLabel (a .state) (p .label .start) name
-
-    entered-is : enter room (a .state) (p .label .start) name ≡ next named
-    entered-is = enter-good room (a .state) (p .label .start) name (rw (a .labels-are) e)
-
-    named-labels : named .labels ≡ ls ++ (labelAt s p ∷ [])
-    unfolding withLabel
-    named-labels = rw (a .labels-are, ← a .address-is)
+    named = withLabel st (p .label .start) name
 
     named-count : p .labels + 1 ≡ length (ls ++ (labelAt s p ∷ []))
-    named-count = sym (length-append ls (labelAt s p ∷ []) ∙ ap (λ (n : ℕ). n + 1) (sym (stood .count)))
+    named-count = sym (length-append ls (labelAt s p ∷ []) ∙ ap (λ (n : ℕ). n + 1) (sym (a .count)))
 
-    abbrev outcome : Checked → Walk
-    outcome k = behindLine s room (p .line) (p .end) (onward (faultMeant k) (a .instructions) (settingsMeant (p .config)) (next named))
-
-    comes-behind : whole s room ≡ outcome (p .fault)
-    comes-behind = a .comes ∙ ap (λ (d : Step). behindLine s room (p .line) (p .end) (onward (faultMeant (p .fault)) (a .instructions) (settingsMeant (p .config)) d)) entered-is
-
-    -- What is behind it is refused.
-    pub behind-refused : {n : ℕ} {r : Pass} → p .fault ≡ Refused n → Stops n (rustLine n (p .line)) (p .line) (p .labels + 1) r → Stands s room (ls ++ (labelAt s p ∷ [])) r
-    unfolding onward behindLine
-    behind-refused {n} f k = stands-stopped named-count k (a .clean) named (comes-behind ∙ ap outcome f) named-labels
-
-    -- It is not.
-    module _ (f : p .fault ≡ Good) where
-      abbrev onto : State
-      onto = record { labels = named .labels; instructions = named .instructions ++ a .instructions; setup = settingsMeant (p .config) }
-
-      comes-onto : whole s room ≡ behindLine s room (p .line) (p .end) (next onto)
-      unfolding onward
-      comes-onto = comes-behind ∙ ap outcome f
-
-      onto-words : length (onto .instructions) ≡ p .words
-      unfolding withLabel
-      onto-words = length-append (a .state .instructions) (a .instructions) ∙ sym (a .words-are f)
-
-      pub behind-end : {r : Pass} → length s ≤ p .end → Ends (p .labels + 1) (p .words) (p .config) r → Stands s room (ls ++ (labelAt s p ∷ [])) r
-      unfolding behindLine
-      behind-end z k =
-          stands-ended named-count k (a .clean) onto (comes-onto ∙ rw (behindLine, le-ltb (p .end) (length s) z)) named-labels onto-words refl
-
-      pub behind-on : p .end < length s → Reached s room (p .line + 1) (p .end + 1) (ls ++ (labelAt s p ∷ [])) (p .words) (settingsMeant (p .config))
-      unfolding behindLine
-      behind-on z =
-          record {
-            clean = a .clean;
-            state = onto;
-            on = rw (add-one (p .line), add-one (p .end)) (sym (comes-onto ∙ rw (behindLine, lt-ltb (p .end) (length s) z)));
-            labels-are = named-labels;
-            words-are = onto-words;
-            setup-is = refl;
-          }
+    label-doing : Doing s room (p .line) (a .at) (ls ++ (labelAt s p ∷ [])) (a .words) (a .setup)
+    unfolding withLabel
+    label-doing =
+        let x : enter room st (p .label .start) name ≡ next named = enter-good room st (p .label .start) name (rw (a .reached .labels-are) e) in
+        let at-address : entry + 4 * length (st .instructions) ≡ p .label .address = ap (λ (n : ℕ). entry + 4 * n) (a .reached .words-are) ∙ sym (a .address-is) in
+        record {
+          clean = a .reached .clean;
+          state = named;
+          comes = comes-there ∙ ap (λ (d : Step). afterLine s room (p .line) (endAt s (a .at)) (doing (effectAt s (a .at) (a .setup)) d)) x;
+          labels-are = ap₂ (λ (l : List Meant) (n : ℕ). l ++ (record { spelling = name; start = p .label .start; address = n } ∷ [])) (a .reached .labels-are) at-address;
+          words-are = a .reached .words-are;
+          setup-is = a .reached .setup-is;
+        }
 
 -- ---- going on
 
-module _ {s : List ℕ} {p r : Pass} where
-  pub goes-duplicate : Stops 4 (rustLine 4 (p .line)) (p .line) (p .labels) r → GoesOn s p Duplicate r
-  goes-duplicate k =
-      record {
-        stands = λ room ls t f e. label-refused t f e k;
-        sound = λ g. found-not (sym g ∙ k .not-found);
-        behind = λ g. found-not (sym g ∙ k .not-found);
-        entered = λ g. found-not (sym g ∙ k .not-found);
-      }
+module _ {s : List ℕ} {p : LabelLine} where
+  pub goes-duplicate : GoesOn s p Duplicate (refusedPass 4 (rustLine 4 (p .line)) (p .line) (p .labels))
+  goes-duplicate = record { stands = λ room ls a e. label-refused a e; sound = tt; after = tt; entered = tt }
 
-  pub goes-full : Stops 5 (rustLine 5 (p .line)) (p .line) (p .labels) r → GoesOn s p Full r
-  goes-full k =
-      record {
-        stands = λ room ls t f e. label-refused t f e k;
-        sound = λ g. found-not (sym g ∙ k .not-found);
-        behind = λ g. found-not (sym g ∙ k .not-found);
-        entered = λ g. found-not (sym g ∙ k .not-found);
-      }
+  pub goes-full : GoesOn s p Full (refusedPass 5 (rustLine 5 (p .line)) (p .line) (p .labels))
+  goes-full = record { stands = λ room ls a e. label-refused a e; sound = tt; after = tt; entered = tt }
 
-  pub goes-stop : {n : ℕ} → p .fault ≡ Refused n → Stops n (rustLine n (p .line)) (p .line) (p .labels + 1) r → GoesOn s p New r
-  goes-stop h k =
-      record {
-        stands = λ room ls t f e. behind-refused t f e h k;
-        sound = λ g. found-not (sym g ∙ k .not-found);
-        behind = λ g. found-not (sym g ∙ k .not-found);
-        entered = λ g. refl;
-      }
+  pub goes-refused : {n : ℕ} → p .rest ≡ Refused n → GoesOn s p New (refusedPass n (rustLine n (p .line)) (p .line) (p .labels + 1))
+  goes-refused k =
+      record { stands = λ room ls a e. doing-refused (label-doing a e) (rw k at (a .rest-is)) (named-count a e); sound = tt; after = tt; entered = tt }
 
-  module _ (h : p .fault ≡ Good) where
-    pub goes-end : length s ≤ p .end → Ends (p .labels + 1) (p .words) (p .config) r → GoesOn s p New r
-    goes-end z k =
+  module _ {words end : ℕ} {c : Config} (k : p .rest ≡ Done words c end) where
+    pub goes-last : length s ≤ end → GoesOn s p New (finishedPass (p .labels + 1) words c)
+    goes-last z =
+        record { stands = λ room ls a e. doing-last (label-doing a e) (rw k at (a .rest-is)) z (named-count a e); sound = tt; after = tt; entered = tt }
+
+    -- From where it goes on.
+    pub goes-from : Sound s p → end < length s → ScanFrom s (end + 1) (p .line + 1) (p .labels + 1) words
+    goes-from d z =
+        let f = rw k at (d .rest-fits) in
         record {
-          stands = λ room ls t f e. behind-end t f e h z k;
-          sound = λ g. found-not (sym g ∙ k .not-found);
-          behind = λ g. found-not (sym g ∙ k .not-found);
-          entered = λ g. refl;
+          short = d .short;
+          in-text = omega arith;
+          few-lines = omega (arith, f .0);
+          few-labels = omega (arith, d .few-labels);
+          few-words = f .1;
         }
 
-    pub goes-scan : p .end < length s → Scans s (p .end + 1) (p .line + 1) (p .labels + 1) (p .words) (settingsMeant (p .config)) r → GoesOn s p New r
-    goes-scan z k =
+    pub goes-scan : {r : Pass} → end < length s → Scans s (end + 1) (p .line + 1) (p .labels + 1) words (settingsMeant c) r → GoesOn s p New r
+    goes-scan {r} z g =
         record {
-          stands = λ room ls t f e. k .stands room (ls ++ (labelAt s p ∷ [])) (named-count t f e) (behind-on t f e h z);
-          sound = k .sound;
-          behind = λ g. omega (arith, k .behind g);
-          entered = λ g. refl;
+          stands = λ room ls a e. g .stands room (ls ++ (labelAt s p ∷ [])) (named-count a e) (doing-on (label-doing a e) (rw k at (a .rest-is)) z);
+          sound = g .sound;
+          after = g .after;
+          entered = only r;
         }
-
--- From where it goes on.
-pub goes-from : {s : List ℕ} {p : Pass} → p .fault ≡ Good → Sound s p → p .end < length s → ScanFrom s (p .end + 1) (p .line + 1) (p .labels + 1) (p .words)
-goes-from h d z =
-    record {
-      short = d .short;
-      in-text = omega arith;
-      few-lines = omega (arith, d .few-lines h);
-      few-labels = omega (arith, d .few-labels);
-      few-words = d .few-words h;
-    }
+      where
+        only : (r : Pass) → OnlyAfter New r
+        only (AtLabel q) = refl
+        only (Ended o) = tt

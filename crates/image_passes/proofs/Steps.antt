@@ -24,24 +24,23 @@ use Rattle.text.specs.declared.lexer.Token.{Token}
 use Rattle.text.specs.declared.parser.Line.{Line}
 use Rattle.text.proofs.Fronts.{part-cons}
 use Rattle.text.proofs.Recording.{LineRead, line-read}
-use Rattle.instruction.specs.Operands.{Instruction, markByte, readInstruction, behind}
+use Rattle.instruction.specs.Operands.{markByte, readInstruction, behind}
 use Rattle.instruction_operands.proofs.Line.{behind-none}
 use Rattle.image.specs.Settings.{Settings, configured}
-use Rattle.image.specs.Assembling.{State, next, stop, Kind, empty, labelled, config, ignored, plain, identifierKind, kindOf, isKnown, withLabel, enter, Context, nothing, codes, sets, faulty, setting, coding, afterLabel, readKind, readOn, changedBy, entering, withSettings, most-words, withInstruction, doing, step, contextOf}
+use Rattle.image.specs.Assembling.{State, next, Kind, empty, labelled, config, ignored, plain, identifierKind, kindOf, Context, nothing, codes, sets, faulty, setting, coding, afterLabel, readKind, readOn, changedBy, withSettings, most-words, withInstruction, doing}
 use Rattle.image.specs.Assembling.{Effect as MeantEffect, Read as MeantRead}
 use Rattle.image.specs.Meaning.{codedBy}
-use Rattle.image.specs.Contracts.{settingsMeant, faultMeant, recordMeant}
+use Rattle.image.specs.Contracts.{settingsMeant, recordMeant}
 use Rattle.instruction.specs.Words.{wordOf}
 use Rattle.instruction.specs.Contracts.{partsMeant}
 use Rattle.instruction.specs.declared.instruction.Operands.{Operands}
 use Rattle.instruction_line.specs.Contracts.{IsInstruction, IsLabel, IsEmpty}
-use Rattle.image_passes.specs.Contracts.{Told, wordFault, contextFor, effectMeant, InTable, labelIf, readMeant, RecordIs, endOf, LineIs, effectAt, faultAfter, wordsAfter, configAfter, stepAfter, labelStep, onward, Comes, CodesLine}
+use Rattle.image_passes.specs.Contracts.{Told, contextFor, effectMeant, InTable, readMeant, RecordIs, endOf, LineIs, effectAt, oneMore, restOf, RestIs, RestFits, CodesLine}
 use Rattle.image.specs.declared.config.Config.{Config}
-use Rattle.image.specs.declared.config.Checked.{Checked}
-use Rattle.image.specs.declared.config.Checked.the-variants.{Good, Refused}
 use Rattle.image_passes.specs.declared.line.Effect.{Effect}
 use Rattle.image_passes.specs.declared.line.Effect.the-variants.{Nothing, Sets, Codes, Faulty}
 use Rattle.image_passes.specs.declared.line.Read.{Read}
+use Rattle.image_passes.specs.declared.first_pass.Rest.the-variants.{Refused, Done}
 use Rattle.image_passes.specs.declared.second_pass.Coded.the-variants.{Word, Nothing as NoWord}
 
 -- ---- the tokens of a record
@@ -278,63 +277,25 @@ module _ (s : List ℕ) (from end : ℕ) (c : Context) where
 
 -- ---- what a line comes to
 
--- Settings that are the same, and no instruction more.
-same-state : (st : State) (setup : Settings) → st .setup ≡ setup
-    → _≡_ {A = State} st (record { labels = st .labels; instructions = st .instructions ++ []; setup = setup })
-same-state st setup e = λ j. record { labels = st .labels; instructions = sym (append-nil (st .instructions)) j; setup = e j }
-
 -- A word more, or too many.
-pub word-none : (words : ℕ) → words < 32768 → Good ≡ wordFault words
-unfolding wordFault most-words
-word-none words h = rw (wordFault, lt-ltb words 32768 h)
+pub word-more : (words : ℕ) (c : Config) (end : ℕ) → words < 32768 → Done (words + 1) c end ≡ oneMore words c end
+unfolding oneMore most-words
+word-more words c end h = rw (oneMore, lt-ltb words 32768 h)
 
-pub word-many : (words : ℕ) → 32768 ≤ words → Refused 22 ≡ wordFault words
-unfolding wordFault most-words
-word-many words h = rw (wordFault, le-ltb words 32768 h)
+pub word-many : (words : ℕ) (c : Config) (end : ℕ) → 32768 ≤ words → Refused 22 ≡ oneMore words c end
+unfolding oneMore most-words
+word-many words c end h = rw (oneMore, le-ltb words 32768 h)
 
--- What an effect does to a state: the fault that it has then, the instruction that it adds and the settings that it leaves.
-does : (e : Effect) (words : ℕ) (c : Config) (st : State) → st .setup ≡ settingsMeant c → length (st .instructions) ≡ words
-    → doing (effectMeant e) (next st) ≡ onward (faultMeant (faultAfter e words)) (codedBy (effectMeant e)) (settingsMeant (configAfter e c)) (next st)
-unfolding doing onward codedBy withSettings withInstruction wordFault
-does Nothing words c st p n = ap (λ (x : State). next x) (same-state st (settingsMeant c) p)
-does (Sets d) words c st p n = ap (λ (x : List Instruction). next (record { labels = st .labels; instructions = x; setup = settingsMeant d })) (sym (append-nil (st .instructions)))
-does (Codes row o) words c st p n = rw (withInstruction, wordFault, n, ← p) (go (ltb words most-words))
-  where
-    go : (b : Bool) → elim b [
-      | true ↦ next (record { labels = st .labels; instructions = st .instructions ++ (partsMeant (record { row = row; operands = o }) ∷ []); setup = st .setup })
-      | false ↦ stop 22 st
-    ] ≡ onward (faultMeant (elim b [ true ↦ Good | false ↦ Refused 22 ])) (partsMeant (record { row = row; operands = o }) ∷ []) (st .setup) (next st)
-    go true = refl
-    go false = refl
-does (Faulty n) words c st p q = refl
+-- A state to which no instruction is added.
+same-state : (st : State) (setup : Settings) → _≡_ {A = State} (record { labels = st .labels; instructions = st .instructions; setup = setup }) (record { labels = st .labels; instructions = st .instructions ++ []; setup = setup })
+same-state st setup = λ j. record { labels = st .labels; instructions = sym (append-nil (st .instructions)) j; setup = setup }
 
--- Good is no refusal.
-no-fault : {X : Type 0} {n : ℕ} → _≡_ {A = Checked} (Refused n) Good → X
-no-fault z = let y : _≡_ {A = ℕ} 0 1 = cc in absurd (omega arith)
-
--- One that is not refused is so many words more, and not too many.
-adds : (e : Effect) (words : ℕ) → faultAfter e words ≡ Good → (wordsAfter e words ≡ words + length (codedBy (effectMeant e))) × (words ≤ 32768 → wordsAfter e words ≤ 32768)
-unfolding codedBy wordFault most-words
-adds Nothing words g = (omega arith, λ h. h)
-adds (Sets d) words g = (omega arith, λ h. h)
-adds (Codes row o) words g = go (ltb words 32768) refl g
-  where
-    go : (b : Bool) → ltb words 32768 ≡ b → elim b [ true ↦ Good | false ↦ Refused 22 ] ≡ Good → (words + 1 ≡ words + 1) × (words ≤ 32768 → words + 1 ≤ 32768)
-    go true l z = (refl, λ h. omega (arith, ltb-true words 32768 l))
-    go false l z = no-fault z
-adds (Faulty n) words g = no-fault g
-
--- Entering a label changes neither settings nor instructions.
-on-label : (e : Effect) (words : ℕ) (c : Config) (room at : ℕ) (st : State) (u : List ℕ) → st .setup ≡ settingsMeant c → length (st .instructions) ≡ words
-    → doing (effectMeant e) (enter room st at u) ≡ onward (faultMeant (faultAfter e words)) (codedBy (effectMeant e)) (settingsMeant (configAfter e c)) (enter room st at u)
-unfolding doing onward enter withLabel
-on-label e words c room at st u p n = go (isKnown (st .labels) u) (ltb (length (st .labels)) room)
-  where
-    go : (v w : Bool) → doing (effectMeant e) (elim v [ true ↦ stop 4 st | false ↦ elim w [ true ↦ next (withLabel st at u) | false ↦ stop 5 st ] ])
-        ≡ onward (faultMeant (faultAfter e words)) (codedBy (effectMeant e)) (settingsMeant (configAfter e c)) (elim v [ true ↦ stop 4 st | false ↦ elim w [ true ↦ next (withLabel st at u) | false ↦ stop 5 st ] ])
-    go true w = refl
-    go false true = does e words c (withLabel st at u) p n
-    go false false = refl
+-- An effect that is not a refusal.
+abbrev Unrefused : MeantEffect → Type 0
+Unrefused nothing = Unit {0}
+Unrefused (sets x) = Unit {0}
+Unrefused (codes i) = Unit {0}
+Unrefused (faulty n) = ⊥
 
 -- An effect that is neither settings nor an instruction.
 abbrev pub Quiet : Effect → Type 0
@@ -349,48 +310,48 @@ module _ (s : List ℕ) (from words : ℕ) (c : Config) (r : Read) (h : LineIs s
   effect-is = ap (λ (x : MeantRead). x .effect) (h .reads)
 
   -- A line that is not refused has no bad token, so it is known where it ends.
-  pub ends-at : faultAfter (r .effect) words ≡ Good → r .end ≡ endAt s from
+  ends-at : Unrefused (effectAt s from (settingsMeant c)) → r .end ≡ endAt s from
   unfolding endOf readOn
-  ends-at g = h .ends ∙ go (readLine present (restAt s from)) refl
+  ends-at g = h .ends ∙ go (readLine present (restAt s from)) g
     where
-      bad-fault : (e : Effect) → effectMeant e ≡ faulty 3 → faultAfter e words ≡ Good → ⊥
-      bad-fault (Faulty n) q z = no-fault z
-      bad-fault Nothing q z = let y : _≡_ {A = ℕ} 0 1 = cc in omega arith
-      bad-fault (Sets d) q z = let y : _≡_ {A = ℕ} 0 1 = cc in omega arith
-      bad-fault (Codes row o) q z = let y : _≡_ {A = ℕ} 0 1 = cc in omega arith
+      go : (o : Option Record) → Unrefused (readOn (contextFor c) o .effect) → elim o [ none ↦ from | some x ↦ endAt s from ] ≡ endAt s from
+      go (some x) k = refl
+      go none k = absurd k
 
-      go : (o : Option Record) → readLine present (restAt s from) ≡ o → elim o [ none ↦ from | some x ↦ endAt s from ] ≡ endAt s from
-      go (some x) e = refl
-      go none e = absurd (bad-fault (r .effect) (effect-is ∙ ap (λ (o : Option Record). readOn (record { setup = settingsMeant c }) o .effect) e) g)
-
-  -- What it leads to from a state.
-  leads : (room : ℕ) (st : State) → st .setup ≡ settingsMeant c → length (st .instructions) ≡ words
-      → step room st (from + indent (restAt s from)) (readMeant s r) ≡ onward (faultMeant (faultAfter (r .effect) words)) (codedBy (effectMeant (r .effect))) (settingsMeant (configAfter (r .effect) c)) (labelStep s (stepAfter r words c) room st)
-  unfolding step entering labelStep
-  leads room st p n = go (r .labelled) refl
+  -- What it comes to, its label aside.
+  pub rest-is : RestIs s from words (settingsMeant c) (restOf (r .effect) words c (r .end))
+  unfolding doing codedBy changedBy withSettings withInstruction oneMore
+  rest-is = go (r .effect) effect-is
     where
-      u : List ℕ
-      u = take (r .length) (drop (r .start) s)
+      go : (e : Effect) → effectMeant e ≡ effectAt s from (settingsMeant c) → RestIs s from words (settingsMeant c) (restOf e words c (r .end))
+      go Nothing q =
+          record { does = λ st n. rw (← q) (ap (λ (x : State). next x) (same-state st (st .setup))); counts = rw (← q) (omega arith); settings = rw (← q); ends = ends-at (rw (← q) tt) }
+      go (Sets d) q =
+          record { does = λ st n. rw (← q) (ap (λ (x : State). next x) (same-state st (settingsMeant d))); counts = rw (← q) (omega arith); settings = rw (← q); ends = ends-at (rw (← q) tt) }
+      go (Codes row o) q = by (ltb words most-words) refl
+        where
+          by : (b : Bool) → ltb words most-words ≡ b → RestIs s from words (settingsMeant c) (elim b [ true ↦ Done (words + 1) c (r .end) | false ↦ Refused 22 ])
+          by true l = record { does = λ st n. rw (← q, withInstruction, n, l); counts = rw (← q); settings = rw (← q); ends = ends-at (rw (← q) tt) }
+          by false l = λ st n. rw (← q, withInstruction, n, l)
+      go (Faulty n) q = λ st k. rw (← q)
 
-      go : (b : Bool) → r .labelled ≡ b
-          → doing (effectMeant (r .effect)) (entering room st (from + indent (restAt s from)) (labelIf b u))
-          ≡ onward (faultMeant (faultAfter (r .effect) words)) (codedBy (effectMeant (r .effect))) (settingsMeant (configAfter (r .effect) c)) (elim b [ true ↦ enter room st (r .start) u | false ↦ next st ])
-      go true e = rw (← h .starts e) (on-label (r .effect) words c room (r .start) st u p n)
-      go false e = does (r .effect) words c st p n
+  -- It leaves room.
+  pub rest-fits : (line : ℕ) → line ≤ from + 1 → words ≤ 32768 → RestFits line (restOf (r .effect) words c (r .end))
+  unfolding endAt oneMore most-words
+  rest-fits line few h = go (r .effect) effect-is
+    where
+      ends-after : Unrefused (effectAt s from (settingsMeant c)) → line ≤ r .end + 1
+      ends-after g = omega (arith, few, ends-at g)
 
-  pub comes : Comes s from words (settingsMeant c) (stepAfter r words c)
-  unfolding contextOf
-  comes =
-      record {
-        steps = λ room st p n.
-            ap (λ (x : Settings). step room st (from + indent (restAt s from)) (readOn (record { setup = x }) (readLine present (restAt s from)))) p
-            ∙ ap (step room st (from + indent (restAt s from))) (sym (h .reads)) ∙ leads room st p n
-            ∙ ap (λ (x : MeantEffect). onward (faultMeant (faultAfter (r .effect) words)) (codedBy x) (settingsMeant (configAfter (r .effect) c)) (labelStep s (stepAfter r words c) room st)) effect-is;
-        counts = λ g. adds (r .effect) words g .0 ∙ ap (λ (x : MeantEffect). words + length (codedBy x)) effect-is;
-        most = λ g. adds (r .effect) words g .1;
-        ends = ends-at;
-        in-text = h .in-text;
-      }
+      go : (e : Effect) → effectMeant e ≡ effectAt s from (settingsMeant c) → RestFits line (restOf e words c (r .end))
+      go Nothing q = (ends-after (rw (← q) tt), h)
+      go (Sets d) q = (ends-after (rw (← q) tt), h)
+      go (Codes row o) q = by (ltb words 32768) refl
+        where
+          by : (b : Bool) → ltb words 32768 ≡ b → RestFits line (elim b [ true ↦ Done (words + 1) c (r .end) | false ↦ Refused 22 ])
+          by true l = (ends-after (rw (← q) tt), omega (arith, ltb-true words 32768 l))
+          by false l = tt
+      go (Faulty n) q = tt
 
   -- Its word, and the settings after it.
   pub codes-word : (row word : ℕ) (o : Operands) → r .effect ≡ Codes row o → word ≡ wordOf (partsMeant (record { row = row; operands = o }))

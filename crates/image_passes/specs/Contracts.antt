@@ -1,5 +1,5 @@
 -- What the values of the two walks mean in terms of the definitions, and what their functions promise. Quotations are document 01's.
-use Prim.Native.Nat.{ℕ, suc, _+_, _*_, _≤_, _<_}
+use Prim.Native.Nat.{ℕ, _+_, _*_, _≤_, _<_}
 use mathlib.Core.Path.{_≡_}
 use mathlib.Core.Bool.{Bool, true, false}
 use mathlib.Core.Option.{Option, none, some}
@@ -12,23 +12,27 @@ use Rattle.text.specs.Lines.{lines, indent, readLine}
 use Rattle.text.specs.Places.{restAt, endAt}
 use Rattle.text.specs.Contracts.{filler, spelling}
 use Rattle.text.specs.declared.parser.Line.{Line}
-use Rattle.instruction.specs.Operands.{Instruction}
 use Rattle.instruction.specs.Words.{wordOf}
 use Rattle.instruction.specs.Contracts.{mnemonicKeys, formNumbers, slotRows, partsMeant}
 use Rattle.instruction_operands.specs.Contracts.{Kept}
 use Rattle.image.specs.Settings.{Settings}
 use Rattle.image.specs.Program.{entry, imageLength}
-use Rattle.image.specs.Assembling.{Label as Meant, State, start, Step as Stepped, next, stop, Kind, empty, labelled, config, ignored, plain, isKnown, enter, Context, Effect as MeantEffect, nothing, sets, codes, faulty, Read as MeantRead, readOn, changedBy, contextOf, most-words, step, Walk, finished, stopped, walk, refusing, readTo, most-bytes, reading}
+use Rattle.image.specs.Assembling.{Label as Meant, State, start, next, stop, Kind, empty, labelled, config, ignored, plain, isKnown, Context, Effect as MeantEffect, nothing, sets, codes, faulty, Read as MeantRead, readOn, changedBy, most-words, Walk, walk, refusing, readTo, most-bytes, reading, accepted, doing}
 use Rattle.image.specs.Lent.{over, Answer, assembled, refusal as refusalAnswer}
 use Rattle.image.specs.Meaning.{codedBy, instructionsOf, settingsOf, imageOf}
-use Rattle.image.specs.Contracts.{settingsMeant, faultMeant, recordMeant}
+use Rattle.image.specs.Contracts.{settingsMeant, recordMeant}
 use Rattle.image.specs.declared.config.Config.{Config}
-use Rattle.image.specs.declared.config.Checked.{Checked}
-use Rattle.image.specs.declared.config.Checked.the-variants.{Good, Refused as RefusedCheck}
 use Rattle.image_labels.specs.Contracts.{InText, spelled, entryFault, enteredMeant}
 use Rattle.image_labels.specs.declared.label.Entered.{Entered}
 use Rattle.image_labels.specs.declared.label.Entered.the-variants.{New, Duplicate, Full}
 use Rattle.image_passes.specs.declared.first_pass.Pass.{Pass}
+use Rattle.image_passes.specs.declared.first_pass.Pass.the-variants.{AtLabel, Ended}
+use Rattle.image_passes.specs.declared.first_pass.LabelLine.{LabelLine}
+use Rattle.image_passes.specs.declared.first_pass.Rest.{Rest}
+use Rattle.image_passes.specs.declared.first_pass.Rest.the-variants.{Refused as RestRefused, Done}
+use Rattle.image_passes.specs.declared.first_pass.Outcome.{Outcome}
+use Rattle.image_passes.specs.declared.first_pass.Verdict.{Verdict}
+use Rattle.image_passes.specs.declared.first_pass.Verdict.the-variants.{Refused as Rejected, Finished}
 use Rattle.image_passes.specs.declared.second_pass.Assembled.{Assembled}
 use Rattle.image_passes.specs.declared.second_pass.Assembled.the-variants.{Is as IsAssembled, Refused, TooShort}
 use Rattle.image_passes.specs.declared.line.LineKind.{LineKind}
@@ -36,7 +40,6 @@ use Rattle.image_passes.specs.declared.line.LineKind.the-variants.{Empty
 use Rattle.image_passes.specs.declared.line.Effect.{Effect}
 use Rattle.image_passes.specs.declared.line.Effect.the-variants.{Nothing, Sets, Codes, Faulty}
 use Rattle.image_passes.specs.declared.line.Read.{Read}
-use Rattle.image_passes.specs.declared.first_pass.Step.{Step}
 use Rattle.image_passes.specs.declared.second_pass.Coded.{Coded as Coding}
 use Rattle.image_passes.specs.declared.second_pass.Coded.the-variants.{Word, Nothing as NoWord}
 use Rattle.image_passes.specs.declared.second_pass.CodedLine.{CodedLine}
@@ -115,61 +118,31 @@ abbrev pub effectAt : List ℕ → ℕ → Settings → MeantEffect
 effectAt s from setup = readOn (record { setup = setup }) (readLine present (restAt s from)) .effect
 
 -- "22 a 32,769th instruction"
-unfoldable pub wordFault : ℕ → Checked
-wordFault words = elim (ltb words most-words) [ true ↦ Good | false ↦ RefusedCheck 22 ]
+unfoldable pub oneMore : ℕ → Config → ℕ → Rest
+oneMore words c end = elim (ltb words most-words) [ true ↦ Done (words + 1) c end | false ↦ RestRefused 22 ]
 
--- The fault, the words and the settings after an effect.
-abbrev pub faultAfter : Effect → ℕ → Checked
-faultAfter (Codes row o) words = wordFault words
-faultAfter (Faulty n) words = RefusedCheck n
-faultAfter Nothing words = Good
-faultAfter (Sets c) words = Good
+-- What a line comes to, its label aside, by what it does and where it ends.
+abbrev pub restOf : Effect → ℕ → Config → ℕ → Rest
+restOf Nothing words c end = Done words c end
+restOf (Sets c′) words c end = Done words c′ end
+restOf (Codes row o) words c end = oneMore words c end
+restOf (Faulty n) words c end = RestRefused n
 
-abbrev pub wordsAfter : Effect → ℕ → ℕ
-wordsAfter (Codes row o) words = words + 1
-wordsAfter (Faulty n) words = words
-wordsAfter Nothing words = words
-wordsAfter (Sets c) words = words
+-- A state after a line that is not refused, its label aside.
+abbrev pub grown : State → MeantEffect → State
+grown st e = record { labels = st .labels; instructions = st .instructions ++ codedBy e; setup = changedBy (st .setup) e }
 
-abbrev pub configAfter : Effect → Config → Config
-configAfter (Sets c′) c = c′
-configAfter (Codes row o) c = c
-configAfter (Faulty n) c = c
-configAfter Nothing c = c
+-- What the line at a place comes to, its label aside, where it is not refused: what it does to a state with so many words, how many there are then, the settings, and where it ends.
+pub record RestDone (s : List ℕ) (at words : ℕ) (setup : Settings) (words′ : ℕ) (c : Config) (end : ℕ) : Type 0 where
+  pub does : (st : State) → length (st .instructions) ≡ words → doing (effectAt s at setup) (next st) ≡ next (grown st (effectAt s at setup))
+  pub counts : words′ ≡ words + length (codedBy (effectAt s at setup))
+  pub settings : settingsMeant c ≡ changedBy setup (effectAt s at setup)
+  pub ends : end ≡ endAt s at
 
--- What a line comes to, by what it reads as.
-abbrev pub stepAfter : Read → ℕ → Config → Step
-stepAfter r words c =
-    record {
-      labelled = r .labelled;
-      start = r .start;
-      length = r .length;
-      fault = faultAfter (r .effect) words;
-      words = wordsAfter (r .effect) words;
-      config = configAfter (r .effect) c;
-      end = r .end;
-    }
-
--- A line's label entered, if it has one.
-unfoldable pub labelStep : List ℕ → Step → ℕ → State → Stepped
-labelStep s r room st =
-    elim (r .labelled) [ true ↦ enter room st (r .start) (take (r .length) (drop (r .start) s)) | false ↦ next st ]
-
--- What is behind it: a refusal, or the line's instruction and the settings.
-unfoldable pub onward : Option ℕ → List Instruction → Settings → Stepped → Stepped
-onward f is setup (stop n st) = stop n st
-onward none is setup (next st) = next (record { labels = st .labels; instructions = st .instructions ++ is; setup = setup })
-onward (some n) is setup (next st) = stop n st
-
--- What the line at a place comes to, behind so many words and with settings.
-pub record Comes (s : List ℕ) (from words : ℕ) (setup : Settings) (r : Step) : Type 0 where
-  pub steps : (room : ℕ) (st : State) → st .setup ≡ setup → length (st .instructions) ≡ words
-      → step room st (from + indent (restAt s from)) (readOn (contextOf st) (readLine present (restAt s from)))
-      ≡ onward (faultMeant (r .fault)) (codedBy (effectAt s from setup)) (settingsMeant (r .config)) (labelStep s r room st)
-  pub counts : r .fault ≡ Good → r .words ≡ words + length (codedBy (effectAt s from setup))
-  pub most : r .fault ≡ Good → words ≤ 32768 → r .words ≤ 32768
-  pub ends : r .fault ≡ Good → r .end ≡ endAt s from
-  pub in-text : r .start + r .length ≤ length s
+-- What it comes to in either case.
+abbrev pub RestIs : List ℕ → ℕ → ℕ → Settings → Rest → Type 0
+RestIs s at words setup (RestRefused n) = (st : State) → length (st .instructions) ≡ words → doing (effectAt s at setup) (next st) ≡ stop n st
+RestIs s at words setup (Done words′ c end) = RestDone s at words setup words′ c end
 
 -- ---- the first walk
 
@@ -180,7 +153,7 @@ whole s room = walk present room 1 0 start (lines s)
 abbrev pub Clean : List ℕ → ℕ → Type 0
 Clean s room = reading present s room ≡ readTo (whole s room)
 
--- A line has been reached, with labels entered, behind so many words and with settings.
+-- A line has been reached, with labels entered, after so many words and with settings.
 pub record Reached (s : List ℕ) (room line at : ℕ) (labels : List Meant) (words : ℕ) (setup : Settings) : Type 0 where
   pub clean : Clean s room
   pub state : State
@@ -189,74 +162,77 @@ pub record Reached (s : List ℕ) (room line at : ℕ) (labels : List Meant) (wo
   pub words-are : length (state .instructions) ≡ words
   pub setup-is : state .setup ≡ setup
 
--- What is behind a line that ends at a place: the next line, if there is one.
-unfoldable pub behindLine : List ℕ → ℕ → ℕ → ℕ → Stepped → Walk
-behindLine s room line end (stop n st) = stopped n line st
-behindLine s room line end (next st) =
-    elim (ltb end (length s)) [ true ↦ walk present room (suc line) (suc end) st (lines (drop (suc end) s)) | false ↦ finished st ]
+-- The walk stands at a line whose label is to be entered after others.
+pub record LabelNext (s : List ℕ) (room : ℕ) (labels : List Meant) (p : LabelLine) : Type 0 where
+  pub count : p .labels ≡ length labels
+  pub at : ℕ
+  pub in-text : at ≤ length s
+  pub words : ℕ
+  pub setup : Settings
+  pub reached : Reached s room (p .line) at labels words setup
+  pub reads : readOn (record { setup = setup }) (readLine present (restAt s at)) .label ≡ some (spelled s (p .label))
+  pub starts : p .label .start ≡ at + indent (restAt s at)
+  pub address-is : p .label .address ≡ entry + 4 * words
+  pub rest-is : RestIs s at words setup (p .rest)
 
--- The walk stands at a line's label, which is to be entered behind others.
-pub record AtLabel (s : List ℕ) (room : ℕ) (labels : List Meant) (p : Pass) : Type 0 where
-  pub clean : Clean s room
+-- A source is accepted, with labels entered, so many words and settings.
+pub record Accepts (s : List ℕ) (room : ℕ) (labels : List Meant) (words : ℕ) (setup : Settings) : Type 0 where
   pub state : State
+  pub accepts : reading present s room ≡ accepted state
   pub labels-are : state .labels ≡ labels
-  pub address-is : p .label .address ≡ entry + 4 * length (state .instructions)
-  pub instructions : List Instruction
-  pub words-are : p .fault ≡ Good → p .words ≡ length (state .instructions) + length instructions
-  pub comes : whole s room
-      ≡ behindLine s room (p .line) (p .end) (onward (faultMeant (p .fault)) instructions (settingsMeant (p .config)) (enter room state (p .label .start) (spelled s (p .label))))
+  pub words-are : length (state .instructions) ≡ words
+  pub setup-is : state .setup ≡ setup
 
--- The walk has ended with labels entered: refused, or behind the last line.
-abbrev pub AtEnd : List ℕ → ℕ → List Meant → Pass → Checked → Type 0
-AtEnd s room labels p (RefusedCheck n) = reading present s room ≡ refusing n (p .«rust_line») (p .line) labels none
-AtEnd s room labels p Good = Clean s room × ((st : State) × ((whole s room ≡ finished st) × (st .labels ≡ labels) × (length (st .instructions) ≡ p .words) × (st .setup ≡ settingsMeant (p .config))))
+-- A verdict is what reading the source comes to, with labels entered.
+abbrev pub Judges : List ℕ → ℕ → List Meant → Verdict → Type 0
+Judges s room labels (Rejected n rust line) = reading present s room ≡ refusing n rust line labels none
+Judges s room labels (Finished words c) = Accepts s room labels words (settingsMeant c)
+
+-- The walk has ended with labels entered.
+pub record WalkEnds (s : List ℕ) (room : ℕ) (labels : List Meant) (o : Outcome) : Type 0 where
+  pub count : o .labels ≡ length labels
+  pub judges : Judges s room labels (o .verdict)
 
 -- Where the first walk stands, with labels entered.
-pub record Stands (s : List ℕ) (room : ℕ) (labels : List Meant) (p : Pass) : Type 0 where
-  pub count : p .labels ≡ length labels
-  pub at-label : p .found ≡ true → AtLabel s room labels p
-  pub at-end : p .found ≡ false → AtEnd s room labels p (p .fault)
+abbrev pub Progress : List ℕ → ℕ → List Meant → Pass → Type 0
+Progress s room labels (AtLabel p) = LabelNext s room labels p
+Progress s room labels (Ended o) = WalkEnds s room labels o
 
--- What is known of a pass at a label: it is a part of the source, at an address below 2^21; a line but the last takes a byte at least, and each has a label at most.
-pub record Sound (s : List ℕ) (p : Pass) : Type 0 where
+-- The walk ends with a refusal,
+abbrev pub refusedPass : ℕ → ℕ → ℕ → ℕ → Pass
+refusedPass number rust line labels = Ended (record { labels = labels; verdict = Rejected number rust line })
+
+-- or after the last line.
+abbrev pub finishedPass : ℕ → ℕ → Config → Pass
+finishedPass labels words c = Ended (record { labels = labels; verdict = Finished words c })
+
+-- A label is to be entered, after so many words.
+abbrev pub labelPass : ℕ → ℕ → ℕ → ℕ → ℕ → Rest → Pass
+labelPass start length words line labels rest =
+    AtLabel (record { label = record { start = start; length = length; address = 0x1000 + 4 * words }; labels = labels; line = line; rest = rest })
+
+-- A line but the last takes a byte at least, and there are no more words than may be.
+abbrev pub RestFits : ℕ → Rest → Type 0
+RestFits line (RestRefused n) = Unit {0}
+RestFits line (Done words c end) = (line ≤ end + 1) × (words ≤ 32768)
+
+-- What is known of a label that is to be entered: it is a part of the source, at an address below 2^21; each line has a label at most.
+pub record Sound (s : List ℕ) (p : LabelLine) : Type 0 where
   pub short : length s ≤ most-bytes
   pub in-text : InText s (p .label)
   pub near : p .label .address < 2097152
-  pub few-lines : p .fault ≡ Good → p .line ≤ p .end + 1
   pub line-fits : p .line ≤ length s + 1
   pub few-labels : p .labels + 1 ≤ p .line
-  pub few-words : p .fault ≡ Good → p .words ≤ 32768
+  pub rest-fits : RestFits (p .line) (p .rest)
 
--- The walk ends with a refusal,
-pub record Stops (number rust line labels : ℕ) (p : Pass) : Type 0 where
-  pub not-found : p .found ≡ false
-  pub labels-are : p .labels ≡ labels
-  pub fault-is : p .fault ≡ RefusedCheck number
-  pub rust-is : p .«rust_line» ≡ rust
-  pub line-is : p .line ≡ line
+abbrev pub SoundPass : List ℕ → Pass → Type 0
+SoundPass s (AtLabel p) = Sound s p
+SoundPass s (Ended o) = Unit {0}
 
--- or behind the last line.
-pub record Ends (labels words : ℕ) (c : Config) (p : Pass) : Type 0 where
-  pub not-found : p .found ≡ false
-  pub labels-are : p .labels ≡ labels
-  pub fault-is : p .fault ≡ Good
-  pub words-are : p .words ≡ words
-  pub config-is : p .config ≡ c
-
--- A label is to be entered, behind so many words.
-abbrev pub labelledPass : Step → ℕ → ℕ → ℕ → Pass
-labelledPass r words line labels =
-    record {
-      found = true;
-      label = record { start = r .start; length = r .length; address = 0x1000 + 4 * words };
-      labels = labels;
-      fault = r .fault;
-      «rust_line» = 0;
-      line = line;
-      words = r .words;
-      config = r .config;
-      end = r .end;
-    }
+-- A pass at a label is not before a line.
+abbrev pub NotBefore : ℕ → Pass → Type 0
+NotBefore line (AtLabel p) = line ≤ p .line
+NotBefore line (Ended o) = Unit {0}
 
 -- From where the walk may go on.
 pub record ScanFrom (s : List ℕ) (at line labels words : ℕ) : Type 0 where
@@ -266,35 +242,39 @@ pub record ScanFrom (s : List ℕ) (at line labels words : ℕ) : Type 0 where
   pub few-labels : labels + 1 ≤ line
   pub few-words : words ≤ 32768
 
--- Where it comes to from there: to the next label, behind the place, or to its end.
+-- Where it comes to from there: to the next label, after the place, or to its end.
 pub record Scans (s : List ℕ) (at line labels words : ℕ) (setup : Settings) (p : Pass) : Type 0 where
-  pub stands : (room : ℕ) (ls : List Meant) → labels ≡ length ls → Reached s room line at ls words setup → Stands s room ls p
-  pub sound : p .found ≡ true → Sound s p
-  pub behind : p .found ≡ true → line ≤ p .line
+  pub stands : (room : ℕ) (ls : List Meant) → labels ≡ length ls → Reached s room line at ls words setup → Progress s room ls p
+  pub sound : SoundPass s p
+  pub after : NotBefore line p
 
 -- The walk from the first line on.
 pub record Begins (s : List ℕ) (p : Pass) : Type 0 where
-  pub stands : (room : ℕ) → Stands s room [] p
-  pub sound : p .found ≡ true → Sound s p
+  pub stands : (room : ℕ) → Progress s room [] p
+  pub sound : SoundPass s p
 
--- The labels behind an attempt to enter one.
+-- The labels after an attempt to enter one.
 abbrev pub withEntry : Entered → List Meant → Meant → List Meant
 withEntry New ls l = ls ++ (l ∷ [])
 withEntry Duplicate ls l = ls
 withEntry Full ls l = ls
 
 -- The label that a pass stands at.
-abbrev pub labelAt : List ℕ → Pass → Meant
+abbrev pub labelAt : List ℕ → LabelLine → Meant
 labelAt s p = record { spelling = spelled s (p .label); start = p .label .start; address = p .label .address }
 
--- The walk behind a label, as document 01 has it entered: "4 duplicate label; 5 new label, table full".
-pub record GoesOn (s : List ℕ) (p : Pass) (e : Entered) (r : Pass) : Type 0 where
-  pub stands : (room : ℕ) (ls : List Meant) → Stands s room ls p → p .found ≡ true
-      → enteredMeant e ≡ entryFault (isKnown ls (spelled s (p .label))) (ltb (length ls) room) → Stands s room (withEntry e ls (labelAt s p)) r
-  pub sound : r .found ≡ true → Sound s r
-  pub behind : r .found ≡ true → p .line < r .line
-  -- behind a refused label there is no other
-  pub entered : r .found ≡ true → e ≡ New
+-- There is no label after a refused one.
+abbrev pub OnlyAfter : Entered → Pass → Type 0
+OnlyAfter e (AtLabel p) = e ≡ New
+OnlyAfter e (Ended o) = Unit {0}
+
+-- The walk after a label, as document 01 has it entered: "4 duplicate label; 5 new label, table full".
+pub record GoesOn (s : List ℕ) (p : LabelLine) (e : Entered) (r : Pass) : Type 0 where
+  pub stands : (room : ℕ) (ls : List Meant) → LabelNext s room ls p → enteredMeant e ≡ entryFault (isKnown ls (spelled s (p .label))) (ltb (length ls) room)
+      → Progress s room (withEntry e ls (labelAt s p)) r
+  pub sound : SoundPass s r
+  pub after : NotBefore (p .line + 1) r
+  pub entered : OnlyAfter e r
 
 -- ---- the second walk
 
@@ -344,7 +324,12 @@ pub record Fills (s : List ℕ) (words labels : ℕ) (setup : Settings) (old new
   pub answer : answerMeant r ≡ elim (leb (imageLength words) (length old)) [ true ↦ assembled words labels setup | false ↦ refusalAnswer 23 0 0 labels (some (imageLength words)) ]
   pub holds : new ≡ elim (leb (imageLength words) (length old)) [ true ↦ over (imageOf present s) old | false ↦ old ]
 
--- What a first walk that has ended comes to, with an image buffer before and after.
-pub record Finishes (s : List ℕ) (p : Pass) (old new : List ℕ) (r : Assembled) : Type 0 where
-  pub refused : (n : ℕ) → p .fault ≡ RefusedCheck n → (r ≡ Refused n (p .«rust_line») (p .line) (p .labels)) × (new ≡ old)
-  pub filled : p .fault ≡ Good → Fills s (p .words) (p .labels) (settingsMeant (p .config)) old new r
+-- What `finish` asks of a verdict.
+abbrev pub Finishable : List ℕ → Verdict → Type 0
+Finishable s (Rejected n rust line) = Unit {0}
+Finishable s (Finished words c) = Ready s words (settingsMeant c)
+
+-- What a first walk that has ended comes to, with so many labels, an image buffer before and after.
+abbrev pub Finishes : List ℕ → ℕ → List ℕ → List ℕ → Assembled → Verdict → Type 0
+Finishes s labels old new r (Rejected n rust line) = (r ≡ Refused n rust line labels) × (new ≡ old)
+Finishes s labels old new r (Finished words c) = Fills s words labels (settingsMeant c) old new r

@@ -7,42 +7,56 @@ ghost use lib.Dec.{ltb};
 ghost use Rattle.text.specs.Lines.{lines};
 ghost use Rattle.image.specs.Assembling.{rustLine, most-bytes};
 ghost use Rattle.image.specs.Contracts.{settingsMeant};
-ghost use Rattle.image_labels.specs.Contracts.{noLabel};
-ghost use Rattle.image_passes.specs.Contracts.{Tables, wordFault, stepAfter, Sound, Stops, Ends, labelledPass, ScanFrom, Scans, Begins, GoesOn};
+ghost use Rattle.image_passes.specs.Contracts.{Tables, refusedPass, finishedPass, oneMore, restOf, labelPass, Sound, ScanFrom, Scans, Begins, GoesOn};
 use crate::line::Effect;
-use crate::line::Read;
-use image::config::Checked;
 use image::config::Config;
 use image_labels::label::Entered;
 use image_labels::label::Label;
 
-// Where the first walk stands: at a line whose label is to be entered, or at its end.
-pub struct Pass {
-    // whether a label is to be entered, and the label
-    pub found: bool,
-    pub label: Label,
-    // the labels entered before
-    pub labels: usize,
-    // what the line is refused for behind its label, or why the walk has ended
-    pub fault: Checked,
-    pub rust_line: usize,
-    pub line: usize,
-    // the words and settings up to the end of the line, and where it ends
-    pub words: usize,
-    pub config: Config,
-    pub end: usize,
+// Where the first walk stands: at a label that is to be entered, or at its end.
+pub enum Pass {
+    AtLabel(LabelLine),
+    Ended(Outcome),
 }
 
-// What a line comes to: where its label stands, if it has one; whether what follows the label is refused; the words and settings after
-// the line; where it ends.
-pub(crate) struct Step {
-    pub(crate) labelled: bool,
-    pub(crate) start: usize,
-    pub(crate) length: usize,
-    pub(crate) fault: Checked,
-    pub(crate) words: usize,
-    pub(crate) config: Config,
-    pub(crate) end: usize,
+// A line whose label is to be entered, after `labels` others, and what the rest of the line comes to.
+pub struct LabelLine {
+    pub label: Label,
+    pub labels: usize,
+    pub line: usize,
+    pub rest: Rest,
+}
+
+// What a line comes to, its label aside.
+pub enum Rest {
+    // The number of the refusal.
+    Refused(u8),
+    // The words and settings up to the end of the line, and where it ends.
+    Done {
+        words: usize,
+        config: Config,
+        end: usize,
+    },
+}
+
+// How the first walk has ended, and how many labels have been entered.
+pub struct Outcome {
+    pub labels: usize,
+    pub verdict: Verdict,
+}
+
+pub enum Verdict {
+    // The number of the refusal, the Rust's line and the true line.
+    Refused {
+        number: u8,
+        rust_line: usize,
+        line: usize,
+    },
+    // The words and settings of a source that has been read to its end.
+    Finished {
+        words: usize,
+        config: Config,
+    },
 }
 
 // The number of the line that a place stands in.
@@ -71,92 +85,54 @@ fn rust_line(number: u8, line: usize) -> usize
     }
 }
 
-fn no_label() -> Label
-    ensures { λ r. ⌜ r ≡ noLabel ⌝ }
-{
-    Label {
-        start: 0,
-        length: 0,
-        address: 0,
-    }
-}
-
 // The walk ends with a refusal.
 fn stopped(number: u8, rust_line: usize, line: usize, labels: usize) -> Pass
-    ensures { λ r. ⌜ Stops number «rust_line» line labels r ⌝ }
+    ensures { λ r. ⌜ r ≡ refusedPass number «rust_line» line labels ⌝ }
 {
-    Pass {
-        found: false,
-        label: no_label(),
-        labels,
-        fault: Checked::Refused(number),
+    let verdict = Verdict::Refused {
+        number,
         rust_line,
         line,
-        words: 0,
-        config: Config::begin(),
-        end: 0,
-    }
+    };
+    Pass::Ended(Outcome { labels, verdict })
 }
 
 // The walk ends with the refusal of a line.
 fn stopped_at(number: u8, line: usize, labels: usize) -> Pass
-    ensures { λ r. ⌜ Stops number (rustLine number line) line labels r ⌝ }
+    ensures { λ r. ⌜ r ≡ refusedPass number (rustLine number line) line labels ⌝ }
 {
     stopped(number, rust_line(number, line), line, labels)
 }
 
-// The walk ends behind the last line.
+// The walk ends after the last line.
 fn finished(labels: usize, words: usize, config: Config) -> Pass
-    ensures { λ r. ⌜ Ends labels words config r ⌝ }
+    ensures { λ r. ⌜ r ≡ finishedPass labels words config ⌝ }
 {
-    Pass {
-        found: false,
-        label: no_label(),
-        labels,
-        fault: Checked::Good,
-        rust_line: 0,
-        line: 0,
-        words,
-        config,
-        end: 0,
-    }
+    let verdict = Verdict::Finished { words, config };
+    Pass::Ended(Outcome { labels, verdict })
 }
 
-// Refuses a 32,769th instruction (22).
-fn counted(words: usize) -> Checked
-    ensures { λ r. ⌜ r ≡ wordFault words ⌝ }
+// A line with an instruction, which is refused if it is the 32,769th (22).
+fn counted(words: usize, config: Config, end: usize) -> Rest
+    ensures { λ r. ⌜ r ≡ oneMore words config end ⌝ }
 {
     if words < 32768 {
-        return Checked::Good;
-    }
-    Checked::Refused(22)
-}
-
-// What a line comes to after so many words and with settings, by what it reads as.
-fn step_of(read: Read, words: usize, config: Config) -> Step
-    requires { ⌜ words ≤ 32768 ⌝ }
-    ensures { λ r. ⌜ r ≡ stepAfter read words config ⌝ }
-{
-    let labelled = read.labelled;
-    let start = read.start;
-    let length = read.length;
-    let end = read.end;
-    let effect = read.effect;
-    match effect {
-        Effect::Nothing => Step {
-            labelled,
-            start,
-            length,
-            fault: Checked::Good,
-            words,
+        return Rest::Done {
+            words: words + 1,
             config,
             end,
-        },
-        Effect::Sets(changed) => Step {
-            labelled,
-            start,
-            length,
-            fault: Checked::Good,
+        };
+    }
+    Rest::Refused(22)
+}
+
+// What a line comes to after so many words and with settings, by what it does and where it ends.
+fn rest_of(effect: Effect, words: usize, config: Config, end: usize) -> Rest
+    ensures { λ r. ⌜ r ≡ restOf effect words config end ⌝ }
+{
+    match effect {
+        Effect::Nothing => Rest::Done { words, config, end },
+        Effect::Sets(changed) => Rest::Done {
             words,
             config: changed,
             end,
@@ -164,25 +140,34 @@ fn step_of(read: Read, words: usize, config: Config) -> Step
         Effect::Codes {
             row: _,
             operands: _,
-        } => Step {
-            labelled,
-            start,
-            length,
-            fault: counted(words),
-            words: words + 1,
-            config,
-            end,
-        },
-        Effect::Faulty(number) => Step {
-            labelled,
-            start,
-            length,
-            fault: Checked::Refused(number),
-            words,
-            config,
-            end,
-        },
+        } => counted(words, config, end),
+        Effect::Faulty(number) => Rest::Refused(number),
     }
+}
+
+// A label is to be entered, after so many words.
+fn at_label(
+    start: usize,
+    length: usize,
+    words: usize,
+    line: usize,
+    labels: usize,
+    rest: Rest,
+) -> Pass
+    requires { ⌜ words ≤ 32768 ⌝ }
+    ensures { λ r. ⌜ r ≡ labelPass start «length» words line labels rest ⌝ }
+{
+    let label = Label {
+        start,
+        length,
+        address: 0x1000 + 4 * (words as u64),
+    };
+    Pass::AtLabel(LabelLine {
+        label,
+        labels,
+        line,
+        rest,
+    })
 }
 
 // The walk goes on from the line that begins at `from` to the next label or the end.
@@ -206,47 +191,27 @@ fn scan(
     let mut config = settings;
     loop {
         let read = crate::line::read_line(source, at, config, mnemonics, forms, slots);
-        let step = step_of(read, words, config);
-        if step.labelled {
-            return at_label(step, words, line, labels);
+        let effect = read.effect;
+        let rest = rest_of(effect, words, config, read.end);
+        if read.labelled {
+            return at_label(read.start, read.length, words, line, labels, rest);
         }
-        let fault = step.fault;
-        if let Checked::Refused(number) = fault {
-            return stopped_at(number, line, labels);
+        match rest {
+            Rest::Refused(number) => return stopped_at(number, line, labels),
+            Rest::Done {
+                words: more,
+                config: changed,
+                end,
+            } => {
+                if source.len() <= end {
+                    return finished(labels, more, changed);
+                }
+                words = more;
+                config = changed;
+                at = end + 1;
+                line += 1;
+            }
         }
-        words = step.words;
-        config = step.config;
-        let end = step.end;
-        if source.len() <= end {
-            return finished(labels, words, config);
-        }
-        at = end + 1;
-        line += 1;
-    }
-}
-
-// A label is to be entered, behind so many words.
-fn at_label(step: Step, words: usize, line: usize, labels: usize) -> Pass
-    requires { ⌜ words ≤ 32768 ⌝ }
-    ensures { λ r. ⌜ r ≡ labelledPass step words line labels ⌝ }
-{
-    let fault = step.fault;
-    let config = step.config;
-    let label = Label {
-        start: step.start,
-        length: step.length,
-        address: 0x1000 + 4 * (words as u64),
-    };
-    Pass {
-        found: true,
-        label,
-        labels,
-        fault,
-        rust_line: 0,
-        line,
-        words: step.words,
-        config,
-        end: step.end,
     }
 }
 
@@ -269,44 +234,43 @@ pub fn begin(source: &[u8], mnemonics: &[u64; 50], forms: &[u8; 50], slots: &[u8
     scan(source, 0, 1, 0, 0, Config::begin(), mnemonics, forms, slots)
 }
 
-// The walk behind a label that has been entered, or refused: the label's refusal, that of its line, or the lines behind it.
+// The walk after a label that has been entered, or refused: the label's refusal, that of its line, or the lines after it.
 pub fn go_on(
     source: &[u8],
-    pass: Pass,
+    at: LabelLine,
     entered: Entered,
     mnemonics: &[u64; 50],
     forms: &[u8; 50],
     slots: &[u8; 293],
 ) -> Pass
-    requires { ⌜ Sound (now source) pass ⌝ ∗ ⌜ Tables (now mnemonics) (now forms) (now slots) ⌝ }
-    ensures { λ r. ⌜ GoesOn (now (source .entry)) pass entered r ⌝ }
+    requires { ⌜ Sound (now source) at ⌝ ∗ ⌜ Tables (now mnemonics) (now forms) (now slots) ⌝ }
+    ensures { λ r. ⌜ GoesOn (now (source .entry)) at entered r ⌝ }
 {
-    let line = pass.line;
+    let line = at.line;
     match entered {
-        Entered::Duplicate => return stopped_at(4, line, pass.labels),
-        Entered::Full => return stopped_at(5, line, pass.labels),
+        Entered::Duplicate => return stopped_at(4, line, at.labels),
+        Entered::Full => return stopped_at(5, line, at.labels),
         Entered::New => {}
     }
-    let labels = pass.labels + 1;
-    let fault = pass.fault;
-    if let Checked::Refused(number) = fault {
-        return stopped_at(number, line, labels);
+    let labels = at.labels + 1;
+    let rest = at.rest;
+    match rest {
+        Rest::Refused(number) => stopped_at(number, line, labels),
+        Rest::Done { words, config, end } => {
+            if source.len() <= end {
+                return finished(labels, words, config);
+            }
+            scan(
+                source,
+                end + 1,
+                line + 1,
+                labels,
+                words,
+                config,
+                mnemonics,
+                forms,
+                slots,
+            )
+        }
     }
-    let words = pass.words;
-    let config = pass.config;
-    let end = pass.end;
-    if source.len() <= end {
-        return finished(labels, words, config);
-    }
-    scan(
-        source,
-        end + 1,
-        line + 1,
-        labels,
-        words,
-        config,
-        mnemonics,
-        forms,
-        slots,
-    )
 }

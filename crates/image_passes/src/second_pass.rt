@@ -8,11 +8,10 @@ ghost use Rattle.text_writer.specs.Contracts.{Written};
 ghost use Rattle.instruction.specs.Words.{wordOf};
 ghost use Rattle.instruction.specs.Contracts.{opcodeNumbers, partsMeant};
 ghost use Rattle.image.specs.Contracts.{settingsMeant};
-ghost use Rattle.image.specs.declared.config.Checked.the-variants.{Good};
-ghost use Rattle.image_passes.specs.Contracts.{Tables, codedMeant, CodesLine, Readable, codeBytes, Ready, overlong as overlongAnswer, Fills, Finishes};
-use crate::first_pass::Pass;
+ghost use Rattle.image_passes.specs.Contracts.{Tables, codedMeant, CodesLine, Readable, codeBytes, Ready, overlong as overlongAnswer, Fills, Finishable, Finishes};
+use crate::first_pass::Outcome;
+use crate::first_pass::Verdict;
 use crate::line::Effect;
-use image::config::Checked;
 use image::config::Config;
 use instruction::instruction::Instruction;
 use instruction::instruction::Operands;
@@ -172,36 +171,40 @@ pub fn overlong() -> Assembled
     }
 }
 
-// What a finished first walk comes to: its refusal, or the image.
+// What a first walk that has ended comes to: its refusal, or the image.
 pub fn finish(
     source: &[u8],
     image: &mut [u8],
-    pass: Pass,
+    outcome: Outcome,
     mnemonics: &[u64; 50],
     forms: &[u8; 50],
     slots: &[u8; 293],
 ) -> Assembled
-    requires { ⌜ (pass .fault ≡ Good → Ready (now source) (pass .words) (settingsMeant (pass .config))) ⌝ ∗ ⌜ Tables (now mnemonics) (now forms) (now slots) ⌝ }
-    ensures { λ r. ⌜ Finishes (now (source .entry)) pass (now (image .entry)) (now (image .exit)) r ⌝ }
+    requires { ⌜ Finishable (now source) (outcome .verdict) ⌝ ∗ ⌜ Tables (now mnemonics) (now forms) (now slots) ⌝ }
+    ensures { λ r. ⌜ Finishes (now (source .entry)) (outcome .labels) (now (image .entry)) (now (image .exit)) r (outcome .verdict) ⌝ }
 {
-    let labels = pass.labels;
-    let fault = pass.fault;
-    if let Checked::Refused(number) = fault {
-        return Assembled::Refused {
+    let labels = outcome.labels;
+    let verdict = outcome.verdict;
+    match verdict {
+        Verdict::Refused {
             number,
-            rust_line: pass.rust_line,
-            line: pass.line,
+            rust_line,
+            line,
+        } => Assembled::Refused {
+            number,
+            rust_line,
+            line,
             labels,
-        };
+        },
+        Verdict::Finished { words, config } => write_image(
+            source,
+            image,
+            words,
+            labels,
+            config,
+            mnemonics,
+            forms,
+            slots,
+        ),
     }
-    write_image(
-        source,
-        image,
-        pass.words,
-        labels,
-        pass.config,
-        mnemonics,
-        forms,
-        slots,
-    )
 }

@@ -40,13 +40,13 @@ use denote.Triple.Spec.{Meets}
 use denote.Triple.Statement.{Contract, Triple}
 use denote.Steps.{nothing, owned, heard}
 use denote.Triple.Walked.{needs, Stays, stay-dropped, gave-slice, gave-ref, walkOf, ends-at, walked, goes-dropped, goes-gave-slice, goes-gave-ref, walk-meets}
+use Rattle.walking.proofs.Calls.{Known, calls-to, asks-nothing}
+use Rattle.walking.proofs.Locals.{Locals, frees-all}
+use Rattle.walking.proofs.Numbers.{Numbers, cells}
 use Rattle.image_labels.specs.declared.label.Label.{Label}
 use Rattle.image_labels.proofs.label.Label as L
 use Rattle.image_labels.proofs.label.Label.Laws as L′
-use Rattle.image_labels.proofs.Calls.{Known, calls-to, asks-nothing}
-use Rattle.image_labels.proofs.Locals.{Locals, frees-all}
 use Rattle.image_labels.proofs.Owned.{Table, row-of, tval, table-tells, table-stored, TableIs, Front, lends-front, front-back}
-use Rattle.image_assembler.proofs.Shared.{Numbers, cells}
 use Rattle.capi.specs.Contracts.{AssembleCall}
 use Rattle.capi.proofs.zkasm_assemble as export
 use Rattle.test_vectors.proofs.calls.Returned as T

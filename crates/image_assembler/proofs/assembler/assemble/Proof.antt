@@ -45,6 +45,12 @@ use denote.Triple.Table.{entered, cited}
 use denote.Triple.Statement.{Contract, Triple}
 use denote.Steps.{nothing, owned, heard}
 use denote.Triple.Walked.{says, Stays, stay-slice, stay-dropped, walkOf, ends-at, walked, goes-slice, goes-dropped, walk-meets}
+use Rattle.walking.proofs.Again.{lends, ends}
+use Rattle.walking.proofs.Arrays.{Front, lends-front, front-back}
+use Rattle.walking.proofs.Calls.{Known, calls-to, asks-nothing}
+use Rattle.walking.proofs.Facts.{says-both}
+use Rattle.walking.proofs.Locals.{Locals, frees-all}
+use Rattle.walking.proofs.Numbers.{cells, aval, tells, NumbersAre, stored, big}
 use Rattle.instruction.specs.Contracts.{mnemonicKeys, formNumbers, slotRows}
 use Rattle.instruction.proofs.opcode.mnemonics as mnemonics
 use Rattle.instruction.proofs.opcode.mnemonics.Symbol as mnemonics-def
@@ -63,11 +69,6 @@ use Rattle.image_labels.specs.Tree.{Bare}
 use Rattle.image_labels.specs.declared.label.Label.{Label}
 use Rattle.image_labels.proofs.label.Label as L
 use Rattle.image_labels.proofs.label.Label.Laws as L′
-use Rattle.image_labels.proofs.Again.{lends, ends}
-use Rattle.image_labels.proofs.Arrays.{Front, lends-front, front-back}
-use Rattle.image_labels.proofs.Calls.{Known, calls-to, asks-nothing}
-use Rattle.image_labels.proofs.Facts.{says-both}
-use Rattle.image_labels.proofs.Locals.{Locals, frees-all}
 use Rattle.image_passes.specs.Contracts.{Tables as Listed, overlong}
 use Rattle.image_passes.specs.declared.second_pass.Assembled.{Assembled}
 use Rattle.image_passes.proofs.second_pass.Assembled as R
@@ -81,7 +82,7 @@ use Rattle.image_passes.proofs.second_pass.overlong.Symbol as over-long-def
 use Rattle.image_passes.proofs.second_pass.overlong.Symbol.{name as #over-long}
 use Rattle.image_passes.proofs.second_pass.overlong.Met as over-long-thm
 use Rattle.image_assembler.specs.Contracts.{Assembles}
-use Rattle.image_assembler.proofs.Shared.{rval, cells, aval, tells, NumbersAre, stored, Constants, constantVals, Source, Shared, shared-twice, Alive, Others, lives, wholes, refs, lends-tables, tables-back, big}
+use Rattle.image_assembler.proofs.Shared.{rval, Constants, constantVals, Source, Shared, shared-twice, Alive, Others, lives, wholes, refs, lends-tables, tables-back}
 use Rattle.image_assembler.proofs.Walks.{overlong-assembles}
 use Rattle.image_assembler.proofs.assembler.empty_roots as empty
 use Rattle.image_assembler.proofs.assembler.empty_roots.Symbol as empty-def

@@ -42,12 +42,12 @@ use denote.Triple.Spec.{Meets, tripleOf}
 use denote.Triple.Table.{entered}
 use denote.Steps.{nothing, owned}
 use denote.Triple.Walked.{Stays, stay-slice, stay-dropped, walkOf, ends-at, walked, goes-slice, goes-dropped, walk-meets}
+use Rattle.walking.proofs.Facts.{says-both}
+use Rattle.walking.proofs.Locals.{Locals, frees-all}
 use Rattle.image_labels.specs.declared.label.Label.{Label}
 use Rattle.image_labels.specs.Contracts.{noLabel}
 use Rattle.image_labels.proofs.label.Label as L
 use Rattle.image_labels.proofs.label.Label.Laws as L′
-use Rattle.image_labels.proofs.Facts.{says-both}
-use Rattle.image_labels.proofs.Locals.{Locals, frees-all}
 use Rattle.image_labels.proofs.Row.{val, vals, fits-place}
 use Rattle.image_labels.proofs.label.append.Key.{name as #append}
 use Rattle.image_labels.proofs.label.append as append

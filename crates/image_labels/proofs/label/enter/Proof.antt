@@ -46,6 +46,10 @@ use denote.Triple.Statement.{Contract, Triple}
 use denote.Triple.Table.{entered, cited}
 use denote.Steps.{nothing, owned, heard}
 use denote.Triple.Walked.{Stays, stay-slice, stay-dropped, walkOf, ends-at, walked, goes-slice, goes-dropped, walk-meets}
+use Rattle.walking.proofs.Again.{LentAgain, InMemory, lends, ends, shares-again, shared-back}
+use Rattle.walking.proofs.Calls.{Known, calls-to}
+use Rattle.walking.proofs.Facts.{says-both, needs-both, heard-both}
+use Rattle.walking.proofs.Locals.{Locals, frees-all}
 use Rattle.image_labels.specs.declared.label.Label.{Label}
 use Rattle.image_labels.specs.declared.label.Entered.{Entered}
 use Rattle.image_labels.specs.declared.label.Entered.the-variants.{New, Duplicate, Full}
@@ -62,11 +66,7 @@ use Rattle.image_labels.proofs.label.Gap as G
 use Rattle.image_labels.proofs.label.Gap.Laws as G′
 use Rattle.image_labels.proofs.label.Found as F
 use Rattle.image_labels.proofs.label.Found.Laws as F′
-use Rattle.image_labels.proofs.Again.{LentAgain, InMemory, lends, ends, shares-again, shared-back}
-use Rattle.image_labels.proofs.Calls.{Known, calls-to}
-use Rattle.image_labels.proofs.Facts.{says-both, needs-both, heard-both}
 use Rattle.image_labels.proofs.Finding.{bucket-inside, enter-known, enter-full, full-kept, enter-new, new-tree}
-use Rattle.image_labels.proofs.Locals.{Locals, frees-all}
 use Rattle.image_labels.proofs.Row.{val, vals}
 use Rattle.image_labels.proofs.label.find as find
 use Rattle.image_labels.proofs.label.find.Symbol as find-def

@@ -48,6 +48,9 @@ use denote.Triple.Statement.{Contract, Triple}
 use denote.Triple.Table.{entered, cited}
 use denote.Steps.{nothing, owned, heard}
 use denote.Triple.Walked.{says, Stays, stay-dropped, walkOf, ends-at, walked, goes-dropped, walk-meets}
+use Rattle.walking.proofs.Calls.{Known, calls-to, calls-to-last}
+use Rattle.walking.proofs.Facts.{says-both, needs-both}
+use Rattle.walking.proofs.Locals.{Locals, frees-all, behind}
 use Rattle.image_labels.specs.declared.label.Label.{Label}
 use Rattle.image_labels.specs.declared.tree.Search.{Search}
 use Rattle.image_labels.specs.declared.label.Found.{Found}
@@ -59,10 +62,7 @@ use Rattle.image_labels.proofs.label.Found as F
 use Rattle.image_labels.proofs.label.Found.Laws as F′
 use Rattle.image_labels.proofs.tree.Search as S
 use Rattle.image_labels.proofs.tree.Search.Laws as S′
-use Rattle.image_labels.proofs.Calls.{Known, calls-to, calls-to-last}
-use Rattle.image_labels.proofs.Facts.{says-both, needs-both}
 use Rattle.image_labels.proofs.Finding.{Seeking, left, seek-begin, seek-visitable, seek-visit, seek-nearer, seek-end}
-use Rattle.image_labels.proofs.Locals.{Locals, frees-all, behind}
 use Rattle.image_labels.proofs.Row.{vals, fits-place}
 use Rattle.image_labels.proofs.tree.begin as begin
 use Rattle.image_labels.proofs.tree.begin.Symbol as begin-def

@@ -45,15 +45,15 @@ use denote.Triple.Statement.{Contract, Triple}
 use denote.Triple.Table.{entered, cited}
 use denote.Steps.{nothing, owned, heard}
 use denote.Triple.Walked.{says, needs, Stays, stay-slice, stay-dropped, walkOf, ends-at, walked, goes-slice, goes-dropped, walk-meets}
+use Rattle.walking.proofs.Calls.{Known, calls-to}
+use Rattle.walking.proofs.Locals.{Locals, frees-all, behind}
 use Rattle.image_labels.specs.declared.label.Label.{Label}
 use Rattle.image_labels.specs.Contracts.{noLabel}
 use Rattle.image_labels.specs.Tree.{unlinked}
 use Rattle.image_labels.specs.Tree.{plain as plainOf}
 use Rattle.image_labels.proofs.label.Label as L
 use Rattle.image_labels.proofs.label.Label.Laws as L′
-use Rattle.image_labels.proofs.Calls.{Known, calls-to}
 use Rattle.image_labels.proofs.Finding.{unlinked-long, unlinked-more}
-use Rattle.image_labels.proofs.Locals.{Locals, frees-all, behind}
 use Rattle.image_labels.proofs.Row.{val, vals, fits-place}
 use Rattle.image_labels.proofs.tree.plain as plain-entry
 use Rattle.image_labels.proofs.tree.plain.Symbol as plain-def

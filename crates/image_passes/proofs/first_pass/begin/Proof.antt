@@ -33,7 +33,7 @@ returns c =
     let l = c .before in
     let r = l .before .before in
     let s = r .before .before .args .source .now in
-    begins-high (short r) (rw (← clean r) (l .before .if1 .taken)) (l .line-number .ensures ∙ ap (λ n. length (lines (take n s))) (clean r)) (c .stopped .ensures)
+    rw (c .stopped .ensures) (begins-high (short r) (rw (← clean r) (l .before .if1 .taken)) (l .line-number .ensures ∙ ap (λ n. length (lines (take n s))) (clean r)))
 
 begin-requires : tie.Need-begin-requires
 begin-requires c κs = search needs

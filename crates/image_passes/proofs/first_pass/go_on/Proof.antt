@@ -2,7 +2,7 @@
 use native.Mathlib.Omega.{arith}
 use borrow.Author.Needs.{needs}
 use Rattle.image.specs.Assembling.{most-bytes}
-use Rattle.image_passes.proofs.Scanning.{goes-duplicate, goes-full, goes-stop, goes-end, goes-scan, goes-from}
+use Rattle.image_passes.proofs.Scanning.{goes-duplicate, goes-full, goes-refused, goes-last, goes-from, goes-scan}
 use Rattle.image_passes.proofs.first_pass.go_on.Statement.{statement}
 use Rattle.image_passes.proofs.first_pass.go_on.Tie as tie
 
@@ -13,7 +13,7 @@ stopped-at-requires : tie.Need-stopped-at-requires
 stopped-at-requires c κs = search needs
 
 returns : tie.Need-returns
-returns c = rw (c .before .enum-told .given .1) (goes-duplicate (c .stopped-at .ensures))
+returns c = rw (c .stopped-at .ensures, c .before .enum-told .given .1) goes-duplicate
 
 enum-told-2 : tie.Need-enum-told-2
 enum-told-2 c = search needs
@@ -22,7 +22,7 @@ stopped-at-requires-2 : tie.Need-stopped-at-requires-2
 stopped-at-requires-2 c κs = search needs
 
 returns-2 : tie.Need-returns-2
-returns-2 c = rw (c .before .enum-told2 .given .1) (goes-full (c .stopped-at2 .ensures))
+returns-2 c = rw (c .stopped-at2 .ensures, c .before .enum-told2 .given .1) goes-full
 
 enum-told-3 : tie.Need-enum-told-3
 enum-told-3 c = search needs
@@ -33,27 +33,22 @@ add-labels c =
     let d = c .before .before .before .before .pre .0 in
     omega (arith, d .few-labels, d .line-fits, d .short)
 
-enum-known-fault : tie.Need-enum-known-fault
-enum-known-fault c = search needs
+enum-known-rest : tie.Need-enum-known-rest
+enum-known-rest c = search needs
 
 stopped-at-requires-3 : tie.Need-stopped-at-requires-3
 stopped-at-requires-3 c κs = search needs
 
-returns-3 : tie.Need-returns-3
-returns-3 c =
-    let f = c .before .before in
-    rw (f .before .before .before .enum-told3 .given .1) (goes-stop (f .fault .given .1) (c .stopped-at3 .ensures))
-
-enum-told-4 : tie.Need-enum-told-4
-enum-told-4 c = search needs
+enum-known-rest-2 : tie.Need-enum-known-rest-2
+enum-known-rest-2 c = search needs
 
 finished-requires : tie.Need-finished-requires
 finished-requires c κs = search needs
 
-returns-4 : tie.Need-returns-4
-returns-4 c =
-    let t = c .before .before .before in
-    rw (t .before .before .before .enum-told3 .given .1) (goes-end (t .enum-told4 .given .1) (c .before .if1 .taken) (c .finished .ensures))
+returns-3 : tie.Need-returns-3
+returns-3 c =
+    let f = c .before .before .before in
+    rw (c .finished .ensures, f .before .before .before .enum-told3 .given .1) (goes-last (f .rest2 .given .1) (c .before .if1 .taken))
 
 add-scan : tie.Need-add-scan
 unfolding most-bytes
@@ -69,15 +64,19 @@ add-scan-2 c =
 
 scan-requires : tie.Need-scan-requires
 scan-requires c κs =
-    let t = c .before .before in
-    let p = t .before .before .before .before .before .before .pre in
-    (goes-from (t .enum-told4 .given .1) (p .0) (omega (arith, c .if1 .left)), p .1)
+    let f = c .before .before in
+    let p = f .before .before .before .before .before .before .pre in
+    (goes-from (f .rest2 .given .1) (p .0) (omega (arith, c .if1 .left)), p .1)
+
+returns-4 : tie.Need-returns-4
+returns-4 c =
+    let f = c .before .before in
+    rw (c .stopped-at3 .ensures, f .before .before .before .enum-told3 .given .1) (goes-refused (f .rest .given .1))
 
 returns-5 : tie.Need-returns-5
 returns-5 c =
-    let i = c .before in
-    let t = i .before .before in
-    rw (t .before .before .before .enum-told3 .given .1) (goes-scan (t .enum-told4 .given .1) (omega (arith, i .if1 .left)) (c .scan .ensures))
+    let f = c .before .before .before in
+    rw (f .before .before .before .enum-told3 .given .1) (goes-scan (f .rest2 .given .1) (omega (arith, c .before .if1 .left)) (c .scan .ensures))
 
 pub go-on-spec : {M : Type 1} → statement M
 go-on-spec =
@@ -91,13 +90,13 @@ go-on-spec =
     returns-2
     enum-told-3
     add-labels
-    enum-known-fault
+    enum-known-rest
     stopped-at-requires-3
-    returns-3
-    enum-told-4
+    enum-known-rest-2
     finished-requires
-    returns-4
+    returns-3
     add-scan
     add-scan-2
     scan-requires
+    returns-4
     returns-5)

@@ -5,9 +5,9 @@ use lib.ListN.{length}
 use borrow.Author.Needs.{needs}
 use Rattle.image.specs.Assembling.{most-bytes}
 use Rattle.image.specs.Contracts.{settingsMeant}
-use Rattle.image_passes.specs.Contracts.{Comes}
-use Rattle.image_passes.proofs.Steps.{comes}
-use Rattle.image_passes.proofs.Scanning.{Scanning, scanning-none, ends-behind, scans-label, scans-stop, scans-end, scans-on}
+use Rattle.image_passes.specs.Contracts.{RestIs, RestFits}
+use Rattle.image_passes.proofs.Steps.{rest-is, rest-fits}
+use Rattle.image_passes.proofs.Scanning.{Scanning, scanning-none, ends-after, scans-label, scans-refused, scans-last, scans-on}
 use Rattle.image_passes.proofs.first_pass.scan.Statement.{statement}
 use Rattle.image_passes.proofs.first_pass.scan.Tie as tie
 
@@ -26,17 +26,24 @@ read-line-requires : tie.Need-read-line-requires Inv-loop μ-loop
 read-line-requires c κs =
     (c .loop .inv .safe .in-text, c .before .before .pre .1)
 
-step-of-requires : tie.Need-step-of-requires Inv-loop μ-loop
-step-of-requires c κs = c .before .loop .inv .safe .few-words
+rest-of-requires : tie.Need-rest-of-requires Inv-loop μ-loop
+rest-of-requires c κs = search needs
 
--- what the line comes to
-came : (c : tie.After-step-of Inv-loop μ-loop) → let l = c .before .before .loop in let a = c .before .before .before .before .args in
-    Comes (a .source .now) (l .at) (l .words) (settingsMeant (l .config)) (c .step-of .result)
+-- what the line comes to, its label aside
+came : (c : tie.After-rest-of Inv-loop μ-loop) → let l = c .before .before .loop in let a = c .before .before .before .before .args in
+    RestIs (a .source .now) (l .at) (l .words) (settingsMeant (l .config)) (c .rest-of .result)
 came c =
     let r = c .before in
     let l = r .before .loop in
-    let a = r .before .before .before .args in
-    rw (c .step-of .ensures) (comes (a .source .now) (l .at) (l .words) (l .config) (r .read-line .result) (r .read-line .ensures))
+    rw (c .rest-of .ensures) (rest-is (r .before .before .before .args .source .now) (l .at) (l .words) (l .config) (r .read-line .result) (r .read-line .ensures))
+
+-- and that it leaves room
+fits : (c : tie.After-rest-of Inv-loop μ-loop) → RestFits (c .before .before .loop .line) (c .rest-of .result)
+fits c =
+    let r = c .before in
+    let l = r .before .loop in
+    rw (c .rest-of .ensures)
+    (rest-fits (r .before .before .before .args .source .now) (l .at) (l .words) (l .config) (r .read-line .result) (r .read-line .ensures) (l .line) (l .inv .safe .few-lines) (l .inv .safe .few-words))
 
 at-label-requires : tie.Need-at-label-requires Inv-loop μ-loop
 at-label-requires c κs = c .before .before .before .loop .inv .safe .few-words
@@ -44,10 +51,11 @@ at-label-requires c κs = c .before .before .before .loop .inv .safe .few-words
 returns : tie.Need-returns Inv-loop μ-loop
 returns c =
     let l = c .before .before in
-    rw (c .at-label .ensures) (scans-label (l .before .before .loop .inv) (l .step-of .result) (came l) (c .before .if1 .taken))
+    let r = l .before in
+    rw (c .at-label .ensures) (scans-label (r .before .loop .inv) (r .read-line .result) (r .read-line .ensures) (c .before .if1 .taken) (came l) (fits l))
 
-enum-known-fault : tie.Need-enum-known-fault Inv-loop μ-loop
-enum-known-fault c = search needs
+enum-known-rest : tie.Need-enum-known-rest Inv-loop μ-loop
+enum-known-rest c = search needs
 
 stopped-at-requires : tie.Need-stopped-at-requires Inv-loop μ-loop
 stopped-at-requires c κs = search needs
@@ -57,20 +65,23 @@ returns-2 c =
     let f = c .before .before in
     let e = f .before .before in
     let l = e .before in
-    scans-stop (l .before .before .loop .inv) (l .step-of .result) (came l) (e .if1 .left) (f .fault .given .1) (c .stopped-at .ensures)
+    let r = l .before in
+    rw (c .stopped-at .ensures) (scans-refused (r .before .loop .inv) (r .read-line .result) (r .read-line .ensures) (e .if1 .left) (rw (f .rest .given .1) at (came l)))
 
-enum-told : tie.Need-enum-told Inv-loop μ-loop
-enum-told c = search needs
+enum-known-rest-2 : tie.Need-enum-known-rest-2 Inv-loop μ-loop
+enum-known-rest-2 c = search needs
 
 finished-requires : tie.Need-finished-requires Inv-loop μ-loop
 finished-requires c κs = search needs
 
 returns-3 : tie.Need-returns-3 Inv-loop μ-loop
 returns-3 c =
-    let t = c .before .before .before in
-    let e = t .before .before in
+    let f = c .before .before .before in
+    let e = f .before .before in
     let l = e .before in
-    scans-end (l .before .before .loop .inv) (l .step-of .result) (came l) (e .if1 .left) (t .enum-told .given .1) (c .before .if2 .taken) (c .finished .ensures)
+    let r = l .before in
+    rw (c .finished .ensures)
+    (scans-last (r .before .loop .inv) (r .read-line .result) (r .read-line .ensures) (e .if1 .left) (rw (f .rest2 .given .1) at (came l)) (c .before .if2 .taken))
 
 add-at : tie.Need-add-at Inv-loop μ-loop
 unfolding most-bytes
@@ -87,16 +98,17 @@ add-line c =
 
 loop-less : tie.Need-loop-less Inv-loop μ-loop
 loop-less c =
-    let t = c .before .before in
-    let l = t .before .before .before in
-    omega (arith, ends-behind (l .before .before .loop .inv) (l .step-of .result) (came l) (t .enum-told .given .1), c .if2 .left)
+    let f = c .before .before in
+    let l = f .before .before .before in
+    omega (arith, ends-after (rw (f .rest2 .given .1) at (came l)), c .if2 .left)
 
 loop-again : tie.Need-loop-again Inv-loop μ-loop
 loop-again c =
-    let t = c .before .before in
-    let e = t .before .before in
+    let f = c .before .before in
+    let e = f .before .before in
     let l = e .before in
-    scans-on (l .before .before .loop .inv) (l .step-of .result) (came l) (e .if1 .left) (t .enum-told .given .1) (omega (arith, c .if2 .left))
+    let r = l .before in
+    scans-on (r .before .loop .inv) (r .read-line .result) (r .read-line .ensures) (e .if1 .left) (rw (f .rest2 .given .1) at (came l)) (rw (f .rest2 .given .1) at (fits l)) (omega (arith, c .if2 .left))
 
 pub scan-spec : {M : Type 1} → statement M
 scan-spec =
@@ -106,13 +118,13 @@ scan-spec =
     μ-loop
     loop-holds
     read-line-requires
-    step-of-requires
+    rest-of-requires
     at-label-requires
     returns
-    enum-known-fault
+    enum-known-rest
     stopped-at-requires
     returns-2
-    enum-told
+    enum-known-rest-2
     finished-requires
     returns-3
     add-at

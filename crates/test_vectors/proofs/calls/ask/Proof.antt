@@ -41,10 +41,10 @@ use denote.Triple.Statement.{Contract, Triple}
 use denote.Triple.Table.{entered, cited}
 use denote.Steps.{nothing, owned}
 use denote.Triple.Walked.{needs, Stays, stay-slice, stay-dropped, walkOf, ends-at, walked, goes-slice, goes-dropped, walk-meets}
+use Rattle.walking.proofs.Calls.{Known, calls-to, asks-nothing}
+use Rattle.walking.proofs.Locals.{Locals, frees-all}
 use Rattle.image_labels.specs.declared.label.Label.{Label}
 use Rattle.image_labels.proofs.label.Label as L
-use Rattle.image_labels.proofs.Calls.{Known, calls-to, asks-nothing}
-use Rattle.image_labels.proofs.Locals.{Locals, frees-all}
 use Rattle.image_labels.proofs.Owned.{Table, row-of, tval, table-tells, table-stored, TableIs}
 use Rattle.image_passes.specs.declared.second_pass.Assembled.{Assembled}
 use Rattle.image_passes.proofs.second_pass.Assembled as R

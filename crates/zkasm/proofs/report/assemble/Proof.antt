@@ -37,21 +37,22 @@ use denote.Triple.Statement.{Contract, Triple}
 use denote.Triple.Table.{entered, cited}
 use denote.Steps.{nothing, owned}
 use denote.Triple.Walked.{says, Stays, stay-slice, stay-dropped, walkOf, ends-at, walked, goes-slice, goes-dropped, walk-meets}
+use Rattle.walking.proofs.Calls.{Known, calls-to, asks-nothing}
+use Rattle.walking.proofs.Locals.{Locals, frees-all}
+use Rattle.walking.proofs.Numbers.{big}
 use Rattle.text_lexical.specs.Names.{present}
 use Rattle.image.specs.Assembling.{assembling}
 use Rattle.image.specs.Lent.{answerOf, imageAfter}
 use Rattle.zkasm.specs.Zkasm.{table-room}
 use Rattle.image_labels.specs.declared.label.Label.{Label}
 use Rattle.image_labels.proofs.label.Label as L
-use Rattle.image_labels.proofs.Calls.{Known, calls-to, asks-nothing}
-use Rattle.image_labels.proofs.Locals.{Locals, frees-all}
 use Rattle.image_labels.proofs.Owned.{Table, row-of, tval, table-tells, table-stored, front-length}
 use Rattle.image_passes.specs.Contracts.{answerMeant}
 use Rattle.image_passes.specs.declared.second_pass.Assembled.{Assembled}
 use Rattle.image_passes.proofs.second_pass.Assembled as R
 use Rattle.image_passes.proofs.second_pass.Assembled.Laws as R′
 use Rattle.image_assembler.specs.Contracts.{Assembles}
-use Rattle.image_assembler.proofs.Shared.{Source, rval, big}
+use Rattle.image_assembler.proofs.Shared.{Source, rval}
 use Rattle.image_assembler.proofs.Called.{Assemble, calls-assemble}
 use Rattle.image_assembler.proofs.assembler.assemble.Symbol as assembling-def
 use Rattle.image_assembler.proofs.assembler.assemble.Symbol.{name as #assembling}

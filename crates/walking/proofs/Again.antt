@@ -1,4 +1,4 @@
--- A `&κ mut [T]` that is lent again for the lifetime κ′ of a call, as `&mut` or as `&`, and comes back. It says nothing of labels.
+-- A `&κ mut [T]` that is lent again for the lifetime κ′ of a call, as `&mut` or as `&`, and comes back.
 --     LentAgain P      what the holder keeps while the call has the slice: the lender's part at κ′, of P, and its own borrow at κ, open, with both halves of its ghost variable
 --     lends-again      own (the `&κ mut [T]` ys under γ) ∗ [κ]_q  ⊢ ⇛ ∃ δ. own (the `&κ′ mut [T]` ys under δ) ∗ LentAgain (what that borrow holds)
 --     comes-back       [†κ′] ∗ LentAgain (what that borrow holds) ∗ finally δ zs  ⊢ ⇛ (own (the `&κ mut [T]` zs under γ) ∗ [κ]_q),  where zs is as long as ys

@@ -1,7 +1,7 @@
--- `image_passes::first_pass::step_of` meets its contract.
+-- `image_passes::first_pass::rest_of` meets its contract.
 use borrow.Author.Needs.{needs}
-use Rattle.image_passes.proofs.first_pass.step_of.Statement.{statement}
-use Rattle.image_passes.proofs.first_pass.step_of.Tie as tie
+use Rattle.image_passes.proofs.first_pass.rest_of.Statement.{statement}
+use Rattle.image_passes.proofs.first_pass.rest_of.Tie as tie
 
 enum-told : tie.Need-enum-told
 enum-told c = search needs
@@ -14,9 +14,6 @@ enum-told-2 c = search needs
 
 counted-requires : tie.Need-counted-requires
 counted-requires c κs = search needs
-
-add-t15 : tie.Need-add-t15
-add-t15 c = search needs
 
 enum-known-effect-2 : tie.Need-enum-known-effect-2
 enum-known-effect-2 c = search needs
@@ -33,15 +30,14 @@ returns-3 c = rw (c .counted .ensures, c .before .enum-told2 .given .1)
 returns-4 : tie.Need-returns-4
 returns-4 c = rw (c .before .effect2 .given .1)
 
-pub step-of-spec : {M : Type 1} → statement M
-step-of-spec =
+pub rest-of-spec : {M : Type 1} → statement M
+rest-of-spec =
     tie.close
     (tie.spec
     enum-told
     enum-known-effect
     enum-told-2
     counted-requires
-    add-t15
     enum-known-effect-2
     returns
     returns-2

@@ -1,0 +1,1 @@
+// What the proofs of functions over borrowed memory share: no code, only laws in proofs/.
