@@ -8,13 +8,14 @@ ghost use Rattle.text.specs.Lines.{lines};
 ghost use Rattle.image.specs.Assembling.{rustLine, most-bytes};
 ghost use Rattle.image.specs.Contracts.{settingsMeant};
 ghost use Rattle.image_labels.specs.Contracts.{noLabel};
-ghost use Rattle.image_passes.specs.Contracts.{Tables, wordFault, stepAfter, Sound, Stops, Ends, labelledPass, ScanFrom, Scans, Begins, GoesOn};
-use crate::line::Effect;
-use crate::line::Read;
+ghost use Rattle.image_line.specs.Contracts.{Tables};
+ghost use Rattle.image_passes.specs.Contracts.{wordFault, stepAfter, Sound, Stops, Ends, labelledPass, ScanFrom, Scans, Begins, GoesOn};
 use image::config::Checked;
 use image::config::Config;
 use image_labels::label::Entered;
 use image_labels::label::Label;
+use image_line::line::Effect;
+use image_line::line::Read;
 
 // Where the first walk stands: at a line whose label is to be entered, or at its end.
 pub struct Pass {
@@ -205,7 +206,7 @@ fn scan(
     let mut words = before;
     let mut config = settings;
     loop {
-        let read = crate::line::read_line(source, at, config, mnemonics, forms, slots);
+        let read = image_line::line::read_line(source, at, config, mnemonics, forms, slots);
         let step = step_of(read, words, config);
         if step.labelled {
             return at_label(step, words, line, labels);

@@ -9,11 +9,12 @@ ghost use Rattle.instruction.specs.Contracts.{opcodeNumbers, partsMeant};
 ghost use Rattle.instruction_codec.specs.Contracts.{Written};
 ghost use Rattle.image.specs.Contracts.{settingsMeant};
 ghost use Rattle.image.specs.declared.config.Checked.the-variants.{Good};
-ghost use Rattle.image_passes.specs.Contracts.{Tables, codedMeant, CodesLine, Readable, codeBytes, Ready, overlong as overlongAnswer, Fills, Finishes};
+ghost use Rattle.image_line.specs.Contracts.{Tables};
+ghost use Rattle.image_passes.specs.Contracts.{codedMeant, CodesLine, Readable, codeBytes, Ready, overlong as overlongAnswer, Fills, Finishes};
 use crate::first_pass::Pass;
-use crate::line::Effect;
 use image::config::Checked;
 use image::config::Config;
+use image_line::line::Effect;
 use instruction::instruction::Instruction;
 use instruction::instruction::Operands;
 
@@ -71,7 +72,7 @@ fn code_line(
     requires { ⌜ at ≤ length (now source) ⌝ ∗ ⌜ Tables (now mnemonics) (now forms) (now slots) ⌝ ∗ ⌜ now opcodes ≡ opcodeNumbers ⌝ }
     ensures { λ r. ⌜ CodesLine (now (source .entry)) at (settingsMeant config) r ⌝ }
 {
-    let read = crate::line::read_line(source, at, config, mnemonics, forms, slots);
+    let read = image_line::line::read_line(source, at, config, mnemonics, forms, slots);
     let end = read.end;
     let effect = read.effect;
     match effect {
