@@ -1,6 +1,6 @@
 // Assembling: the first walk enters the labels, the second writes the image.
 ghost use Rattle.image_labels.specs.Tree.{Bare};
-ghost use Rattle.image_passes.specs.Contracts.{Tables};
+ghost use Rattle.image_line.specs.Contracts.{Tables};
 ghost use Rattle.image_assembler.specs.Contracts.{Starts, Walks, Assembles};
 use image_labels::label::Label;
 use image_passes::first_pass::Outcome;

@@ -24,7 +24,8 @@ use Rattle.image.specs.Assembling.{Effect, readOn, changedBy, contextAfter, rea
 use Rattle.image.specs.Meaning.{codedBy, codedIn, instructionsOf}
 use Rattle.image.specs.Contracts.{settingsMeant}
 use Rattle.image.specs.declared.config.Config.{Config}
-use Rattle.image_passes.specs.Contracts.{effectAt, endOf, codedMeant, CodesLine, allRead, Readable, codeBytes}
+use Rattle.image_line.specs.Contracts.{endOf}
+use Rattle.image_passes.specs.Contracts.{effectAt, codedMeant, CodesLine, allRead, Readable, codeBytes}
 use Rattle.image_passes.specs.declared.second_pass.CodedLine.{CodedLine}
 
 -- ---- counting lines

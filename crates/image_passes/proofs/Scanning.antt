@@ -23,8 +23,9 @@ use Rattle.image.specs.Contracts.{settingsMeant}
 use Rattle.image.specs.declared.config.Config.{Config}
 use Rattle.image_labels.specs.Contracts.{spelled, entryFault}
 use Rattle.image_labels.specs.declared.label.Entered.the-variants.{New, Duplicate, Full}
-use Rattle.image_passes.specs.Contracts.{contextFor, labelIf, LineIs, effectAt, grown, RestDone, RestIs, whole, Clean, Reached, LabelNext, Progress, refusedPass, finishedPass, labelPass, RestFits, Sound, ScanFrom, Scans, labelAt, OnlyAfter, GoesOn}
-use Rattle.image_passes.specs.declared.line.Read.{Read}
+use Rattle.image_line.specs.Contracts.{contextFor, labelIf, LineIs}
+use Rattle.image_passes.specs.Contracts.{effectAt, grown, RestDone, RestIs, whole, Clean, Reached, LabelNext, Progress, refusedPass, finishedPass, labelPass, RestFits, Sound, ScanFrom, Scans, labelAt, OnlyAfter, GoesOn}
+use Rattle.image_line.specs.declared.line.Read.{Read}
 use Rattle.image_passes.specs.declared.first_pass.Pass.{Pass}
 use Rattle.image_passes.specs.declared.first_pass.Pass.the-variants.{AtLabel, Ended}
 use Rattle.image_passes.specs.declared.first_pass.LabelLine.{LabelLine}

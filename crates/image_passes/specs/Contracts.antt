@@ -4,27 +4,25 @@ use mathlib.Core.Path.{_≡_}
 use mathlib.Core.Bool.{Bool, true, false}
 use mathlib.Core.Option.{Option, none, some}
 use mathlib.Core.List.{List, [], _∷_, _++_, map, flatMap}
-use lib.ListN.{length, take, drop, getD}
+use lib.ListN.{length, take, drop}
 use lib.Dec.{leb, ltb}
 use Rattle.text_lexical.specs.Numbers.{little}
 use Rattle.text_lexical.specs.Names.{present}
 use Rattle.text.specs.Lines.{lines, indent, readLine}
 use Rattle.text.specs.Places.{restAt, endAt}
-use Rattle.text.specs.Contracts.{filler, spelling}
-use Rattle.text.specs.declared.parser.Line.{Line}
+use Rattle.text.specs.Contracts.{spelling}
 use Rattle.instruction.specs.Words.{wordOf}
-use Rattle.instruction.specs.Contracts.{mnemonicKeys, formNumbers, slotRows, partsMeant}
-use Rattle.instruction_operands.specs.Contracts.{Kept}
 use Rattle.image.specs.Settings.{Settings}
 use Rattle.image.specs.Program.{entry, imageLength}
-use Rattle.image.specs.Assembling.{Label as Meant, State, start, next, stop, Kind, empty, labelled, config, ignored, plain, isKnown, Context, Effect as MeantEffect, nothing, sets, codes, faulty, Read as MeantRead, readOn, changedBy, most-words, Walk, walk, refusing, readTo, most-bytes, reading, accepted, doing}
+use Rattle.image.specs.Assembling.{Label as Meant, State, start, next, stop, config, isKnown, Effect as MeantEffect, nothing, readOn, changedBy, most-words, Walk, walk, refusing, readTo, most-bytes, reading, accepted, doing}
 use Rattle.image.specs.Lent.{over, Answer, assembled, refusal as refusalAnswer}
 use Rattle.image.specs.Meaning.{codedBy, instructionsOf, settingsOf, imageOf}
-use Rattle.image.specs.Contracts.{settingsMeant, recordMeant}
+use Rattle.image.specs.Contracts.{settingsMeant}
 use Rattle.image.specs.declared.config.Config.{Config}
 use Rattle.image_labels.specs.Contracts.{InText, spelled, entryFault, enteredMeant}
 use Rattle.image_labels.specs.declared.label.Entered.{Entered}
 use Rattle.image_labels.specs.declared.label.Entered.the-variants.{New, Duplicate, Full}
+use Rattle.image_line.specs.Contracts.{endOf}
 use Rattle.image_passes.specs.declared.first_pass.Pass.{Pass}
 use Rattle.image_passes.specs.declared.first_pass.Pass.the-variants.{AtLabel, Ended}
 use Rattle.image_passes.specs.declared.first_pass.LabelLine.{LabelLine}
@@ -35,81 +33,11 @@ use Rattle.image_passes.specs.declared.first_pass.Verdict.{Verdict}
 use Rattle.image_passes.specs.declared.first_pass.Verdict.the-variants.{Refused as Rejected, Finished}
 use Rattle.image_passes.specs.declared.second_pass.Assembled.{Assembled}
 use Rattle.image_passes.specs.declared.second_pass.Assembled.the-variants.{Is as IsAssembled, Refused, TooShort}
-use Rattle.image_passes.specs.declared.line.LineKind.{LineKind}
-use Rattle.image_passes.specs.declared.line.LineKind.the-variants.{Empty, Label as LabelKind, Config as ConfigKind, Ignored, Plain}
-use Rattle.image_passes.specs.declared.line.Effect.{Effect}
-use Rattle.image_passes.specs.declared.line.Effect.the-variants.{Nothing, Sets, Codes, Faulty}
-use Rattle.image_passes.specs.declared.line.Read.{Read}
+use Rattle.image_line.specs.declared.line.Effect.{Effect}
+use Rattle.image_line.specs.declared.line.Effect.the-variants.{Nothing, Sets, Codes, Faulty}
 use Rattle.image_passes.specs.declared.second_pass.Coded.{Coded as Coding}
 use Rattle.image_passes.specs.declared.second_pass.Coded.the-variants.{Word, Nothing as NoWord}
 use Rattle.image_passes.specs.declared.second_pass.CodedLine.{CodedLine}
-
--- ---- a line
-
--- What a line's record promises of its tokens: there are nine places, each token is a part of the text, and takes a byte at least.
-pub record Told (s : List ℕ) (l : Line) : Type 0 where
-  pub kept : Kept s l
-  pub solid : (i : ℕ) → i < 9 → i < l .count → 0 < getD (l .tokens) i filler .length
-
--- The tables by which a line is read as an instruction.
-pub record Tables (mnemonics forms slots : List ℕ) : Type 0 where
-  pub keys : mnemonics ≡ mnemonicKeys
-  pub form-column : forms ≡ formNumbers
-  pub slot-rows : slots ≡ slotRows
-
-abbrev pub kindMeant : List ℕ → Line → LineKind → Kind
-kindMeant s l Empty = empty
-kindMeant s l LabelKind = labelled (spelling s (getD (l .tokens) 0 filler))
-kindMeant s l ConfigKind = config
-kindMeant s l Ignored = ignored
-kindMeant s l Plain = plain
-
--- ---- what a line reads as
-
-abbrev pub contextFor : Config → Context
-contextFor c = record { setup = settingsMeant c }
-
-abbrev pub effectMeant : Effect → MeantEffect
-effectMeant Nothing = nothing
-effectMeant (Sets c) = sets (settingsMeant c)
-effectMeant (Codes row o) = codes (partsMeant (record { row = row; operands = o }))
-effectMeant (Faulty n) = faulty n
-
--- The row of an instruction is one of the table's fifty.
-abbrev pub InTable : Effect → Type 0
-InTable (Codes row o) = row < 50
-InTable Nothing = Unit {0}
-InTable (Sets c) = Unit {0}
-InTable (Faulty n) = Unit {0}
-
-abbrev pub labelIf : Bool → List ℕ → Option (List ℕ)
-labelIf true u = some u
-labelIf false u = none
-
--- What a line that was read means.
-abbrev pub readMeant : List ℕ → Read → MeantRead
-readMeant s r = record { label = labelIf (r .labelled) (take (r .length) (drop (r .start) s)); effect = effectMeant (r .effect) }
-
--- A line by its record.
-pub record RecordIs (s : List ℕ) (l : Line) (c : Context) (r : Read) : Type 0 where
-  pub reads : readMeant s r ≡ readOn c (some (recordMeant s l))
-  -- a label is the line's first token
-  pub starts : r .labelled ≡ true → (0 < l .count) × (r .start ≡ getD (l .tokens) 0 filler .start)
-  pub ends : r .end ≡ l .end
-  pub in-text : r .start + r .length ≤ length s
-  pub in-table : InTable (r .effect)
-
--- Where the line at a place ends; a bad token leaves that open, and the place itself is answered.
-unfoldable pub endOf : List ℕ → ℕ → ℕ
-endOf s from = elim (readLine present (restAt s from)) [ none ↦ from | some l ↦ endAt s from ]
-
--- The line at a place, with what those above it leave.
-pub record LineIs (s : List ℕ) (from : ℕ) (c : Context) (r : Read) : Type 0 where
-  pub reads : readMeant s r ≡ readOn c (readLine present (restAt s from))
-  pub starts : r .labelled ≡ true → r .start ≡ from + indent (restAt s from)
-  pub ends : r .end ≡ endOf s from
-  pub in-text : r .start + r .length ≤ length s
-  pub in-table : InTable (r .effect)
 
 -- ---- what a line comes to
 

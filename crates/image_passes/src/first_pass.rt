@@ -7,11 +7,12 @@ ghost use lib.Dec.{ltb};
 ghost use Rattle.text.specs.Lines.{lines};
 ghost use Rattle.image.specs.Assembling.{rustLine, most-bytes};
 ghost use Rattle.image.specs.Contracts.{settingsMeant};
-ghost use Rattle.image_passes.specs.Contracts.{Tables, refusedPass, finishedPass, oneMore, restOf, labelPass, Sound, ScanFrom, Scans, Begins, GoesOn};
-use crate::line::Effect;
+ghost use Rattle.image_line.specs.Contracts.{Tables};
+ghost use Rattle.image_passes.specs.Contracts.{refusedPass, finishedPass, oneMore, restOf, labelPass, Sound, ScanFrom, Scans, Begins, GoesOn};
 use image::config::Config;
 use image_labels::label::Entered;
 use image_labels::label::Label;
+use image_line::line::Effect;
 
 // Where the first walk stands: at a label that is to be entered, or at its end.
 pub enum Pass {
@@ -190,7 +191,7 @@ fn scan(
     let mut words = before;
     let mut config = settings;
     loop {
-        let read = crate::line::read_line(source, at, config, mnemonics, forms, slots);
+        let read = image_line::line::read_line(source, at, config, mnemonics, forms, slots);
         let effect = read.effect;
         let rest = rest_of(effect, words, config, read.end);
         if read.labelled {

@@ -8,11 +8,12 @@ ghost use Rattle.text_writer.specs.Contracts.{Written};
 ghost use Rattle.instruction.specs.Words.{wordOf};
 ghost use Rattle.instruction.specs.Contracts.{opcodeNumbers, partsMeant};
 ghost use Rattle.image.specs.Contracts.{settingsMeant};
-ghost use Rattle.image_passes.specs.Contracts.{Tables, codedMeant, CodesLine, Readable, codeBytes, Ready, overlong as overlongAnswer, Fills, Finishable, Finishes};
+ghost use Rattle.image_line.specs.Contracts.{Tables};
+ghost use Rattle.image_passes.specs.Contracts.{codedMeant, CodesLine, Readable, codeBytes, Ready, overlong as overlongAnswer, Fills, Finishable, Finishes};
 use crate::first_pass::Outcome;
 use crate::first_pass::Verdict;
-use crate::line::Effect;
 use image::config::Config;
+use image_line::line::Effect;
 use instruction::instruction::Instruction;
 use instruction::instruction::Operands;
 
@@ -70,7 +71,7 @@ fn code_line(
     requires { ⌜ at ≤ length (now source) ⌝ ∗ ⌜ Tables (now mnemonics) (now forms) (now slots) ⌝ ∗ ⌜ now opcodes ≡ opcodeNumbers ⌝ }
     ensures { λ r. ⌜ CodesLine (now (source .entry)) at (settingsMeant config) r ⌝ }
 {
-    let read = crate::line::read_line(source, at, config, mnemonics, forms, slots);
+    let read = image_line::line::read_line(source, at, config, mnemonics, forms, slots);
     let end = read.end;
     let effect = read.effect;
     match effect {

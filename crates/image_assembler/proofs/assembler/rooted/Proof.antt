@@ -53,8 +53,9 @@ use Rattle.image_labels.proofs.label.unlink as unlink
 use Rattle.image_labels.proofs.label.unlink.Symbol as unlink-def
 use Rattle.image_labels.proofs.label.unlink.Symbol.{name as #unlink}
 use Rattle.image_labels.proofs.label.unlink.Met as unlink-thm
-use Rattle.image_passes.specs.Contracts.{Tables as Listed, Finishes}
+use Rattle.image_passes.specs.Contracts.{Finishes}
 use Rattle.image_passes.specs.declared.first_pass.Outcome.{Outcome}
+use Rattle.image_line.specs.Contracts.{Tables as Listed}
 use Rattle.image_passes.specs.declared.second_pass.Assembled.{Assembled}
 use Rattle.image_passes.proofs.first_pass.Outcome as O
 use Rattle.image_passes.proofs.first_pass.Outcome.Laws as O′

@@ -65,7 +65,8 @@ use Rattle.image_labels.proofs.label.enter as enter-label
 use Rattle.image_labels.proofs.label.enter.Symbol as enter-def
 use Rattle.image_labels.proofs.label.enter.Symbol.{name as #enter}
 use Rattle.image_labels.proofs.label.enter.Met as enter-thm
-use Rattle.image_passes.specs.Contracts.{Tables as Listed, Begins, Sound, GoesOn}
+use Rattle.image_line.specs.Contracts.{Tables as Listed}
+use Rattle.image_passes.specs.Contracts.{Begins, Sound, GoesOn}
 use Rattle.image_passes.specs.declared.first_pass.Pass.{Pass}
 use Rattle.image_passes.specs.declared.first_pass.Pass.the-variants.{AtLabel, Ended}
 use Rattle.image_passes.specs.declared.first_pass.LabelLine.{LabelLine}

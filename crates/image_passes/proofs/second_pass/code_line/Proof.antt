@@ -4,9 +4,9 @@ use mathlib.Core.List.{List, [], _∷_}
 use denote.Enum.Declared.{tagOf}
 use types.Run.{OneOf, miss}
 use borrow.Author.Needs.{needs}
-use Rattle.image_passes.specs.declared.line.Effect.{Effect}
-use Rattle.image_passes.specs.declared.line.Effect.the-variants.{Nothing, Sets, Codes, Faulty}
-use Rattle.image_passes.proofs.line.Effect as effect-type
+use Rattle.image_line.specs.declared.line.Effect.{Effect}
+use Rattle.image_line.specs.declared.line.Effect.the-variants.{Nothing, Sets, Codes, Faulty}
+use Rattle.image_line.proofs.line.Effect as effect-type
 use Rattle.image_passes.proofs.Steps.{Quiet, codes-word, codes-settings, codes-nothing}
 use Rattle.image_passes.proofs.second_pass.code_line.Statement.{statement}
 use Rattle.image_passes.proofs.second_pass.code_line.Tie as tie

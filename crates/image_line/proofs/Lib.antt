@@ -1,0 +1,5 @@
+pub mod Naming
+pub mod Places
+pub mod Operands
+pub mod Lines
+pub mod Records

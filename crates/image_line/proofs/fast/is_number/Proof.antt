@@ -1,0 +1,16 @@
+-- `image_line::fast::is_number` meets its contract.
+use borrow.Author.Tests.{eq-eqb, ne-eqb}
+use Rattle.image_line.specs.Contracts.{isNumber}
+use Rattle.image_line.proofs.fast.is_number.Statement.{statement}
+use Rattle.image_line.proofs.fast.is_number.Tie as tie
+
+returns : tie.Need-returns
+unfolding isNumber
+returns c = rw (c .if1 .taken)
+
+returns-2 : tie.Need-returns-2
+unfolding isNumber
+returns-2 c = rw (ne-eqb _ 2 (c .if1 .left))
+
+pub is-number-spec : {M : Type 1} → statement M
+is-number-spec = tie.close (tie.spec returns returns-2)

@@ -1,0 +1,30 @@
+-- `image_line::record::read_instruction` meets its contract.
+use mathlib.Core.Path.{ap}
+use borrow.Author.Needs.{needs}
+use Rattle.image.specs.Assembling.{coding}
+use Rattle.image_line.proofs.record.read_instruction.Statement.{statement}
+use Rattle.image_line.proofs.record.read_instruction.Tie as tie
+
+parse-instruction-requires : tie.Need-parse-instruction-requires
+parse-instruction-requires c κs = search needs
+
+enum-known-n : tie.Need-enum-known-n
+enum-known-n c = search needs
+
+enum-known-row : tie.Need-enum-known-row
+enum-known-row c = search needs
+
+returns : tie.Need-returns
+unfolding coding
+returns c = let n = c .before in (ap coding (rw (n .n .given .1) at (n .before .before .parse-instruction .ensures .0)), tt)
+
+returns-2 : tie.Need-returns-2
+unfolding coding
+returns-2 c =
+    let n = c .before in
+    let e = rw (n .row .given .1) at (n .before .before .parse-instruction .ensures) in
+    (ap coding (e .0), e .1)
+
+pub read-instruction-spec : {M : Type 1} → statement M
+read-instruction-spec =
+    tie.close (tie.spec parse-instruction-requires enum-known-n enum-known-row returns returns-2)

@@ -1,0 +1,50 @@
+// The line at a place of a source: what it reads as. Both walks read their lines by it.
+ghost use mathlib.Core.Path.{_≡_};
+ghost use Prim.Native.Nat.{_≤_};
+ghost use lib.ListN.{length};
+ghost use Rattle.image_line.specs.Contracts.{Tables, contextFor, LineIs};
+use crate::fast::Straight;
+use image::config::Config;
+use instruction::instruction::Operands;
+
+// What a line does, its label aside.
+pub enum Effect {
+    Nothing,
+    Sets(Config),
+    // The row of the instruction's mnemonic, and its operands.
+    Codes { row: usize, operands: Operands },
+    // The number of the refusal.
+    Faulty(u8),
+}
+
+// What a line reads as: where its label stands, if it has one, what it does then, and where it ends.
+pub struct Read {
+    pub labelled: bool,
+    pub start: usize,
+    pub length: usize,
+    pub effect: Effect,
+    pub end: usize,
+}
+
+// The line that begins at `at`, where the settings are these. Both walks read their lines by it.
+pub fn read_line(
+    source: &[u8],
+    at: usize,
+    config: Config,
+    mnemonics: &[u64; 50],
+    forms: &[u8; 50],
+    slots: &[u8; 293],
+) -> Read
+    requires { ⌜ at ≤ length (now source) ⌝ ∗ ⌜ Tables (now mnemonics) (now forms) (now slots) ⌝ }
+    ensures { λ r. ⌜ LineIs (now (source .entry)) at (contextFor config) r ⌝ }
+{
+    match crate::fast::read_straight(source, at, mnemonics, forms, slots) {
+        Straight::Instruction { row, operands, end } => crate::record::unlabelled(
+            Effect::Codes { row, operands },
+            end,
+        ),
+        Straight::Label { start, length, end } => crate::record::label_alone(start, length, end),
+        Straight::Empty(end) => crate::record::unlabelled(Effect::Nothing, end),
+        Straight::Other => crate::record::read_record(source, at, config, mnemonics, forms, slots),
+    }
+}

@@ -1,0 +1,181 @@
+// A line by the record of its tokens: what it is, and what it reads as.
+ghost use mathlib.Core.Path.{_≡_};
+ghost use mathlib.Core.Bool.{true, false};
+ghost use Prim.Native.Nat.{_≤_};
+ghost use lib.ListN.{length, getD};
+ghost use Rattle.text.specs.Contracts.{firsts, filler, spelling as spellingOf};
+ghost use Rattle.instruction.specs.Operands.{readInstruction, behind};
+ghost use Rattle.image.specs.Settings.{configured};
+ghost use Rattle.image.specs.Assembling.{labelled, kindOf, Context, setting, coding};
+ghost use Rattle.image.specs.Contracts.{recordMeant, settingsMeant};
+ghost use Rattle.image_line.specs.Contracts.{Tables, Told, kindMeant, contextFor, effectMeant, InTable, RecordIs, LineIs};
+ghost use Rattle.image_line.specs.declared.line.Effect.the-variants.{Nothing};
+use crate::line::Effect;
+use crate::line::Read;
+use image::config::Config;
+use image::config::Configured;
+use instruction_operands::assembler::Parsed;
+use text::lexer::Kind;
+use text::parser::Line;
+
+enum LineKind {
+    Empty,
+    Label,
+    Config,
+    Ignored,
+    Plain,
+}
+
+fn line_kind(source: &[u8], line: Line) -> LineKind
+    requires { ⌜ Told (now source) line ⌝ }
+    ensures { λ r. ⌜ kindMeant (now (source .entry)) line r ≡ kindOf (firsts (now (source .entry)) (line .tokens) (line .count)) ⌝ }
+{
+    let tokens = line.tokens;
+    let count = line.count;
+    if count == 0 {
+        return LineKind::Empty;
+    }
+    let first = tokens[0];
+    let kind = first.kind;
+    match kind {
+        Kind::Identifier => {
+            if count < 2 {
+                return LineKind::Plain;
+            }
+            let second = tokens[1];
+            let mark = second.kind;
+            match mark {
+                Kind::Colon => LineKind::Label,
+                _ => LineKind::Plain,
+            }
+        }
+        Kind::Directive => {
+            // behind the point
+            let start = first.start + 1;
+            let end = first.start + first.length;
+            if text_lexical::bytes::same(&source[start..end], b"config") {
+                return LineKind::Config;
+            }
+            LineKind::Ignored
+        }
+        _ => LineKind::Plain,
+    }
+}
+
+// A line without a label.
+pub(crate) fn unlabelled(effect: Effect, end: usize) -> Read
+    ensures { λ r. ⌜ r ≡ record { labelled = false; start = 0; length = 0; effect = effect; end = end } ⌝ }
+{
+    Read {
+        labelled: false,
+        start: 0,
+        length: 0,
+        effect,
+        end,
+    }
+}
+
+// A line with a label and nothing after it.
+pub(crate) fn label_alone(start: usize, length: usize, end: usize) -> Read
+    ensures { λ r. ⌜ r ≡ record { labelled = true; start = start; length = length; effect = Nothing; end = end } ⌝ }
+{
+    Read {
+        labelled: true,
+        start,
+        length,
+        effect: Effect::Nothing,
+        end,
+    }
+}
+
+// The instruction that begins at a token of a line's record, or why there is none.
+fn read_instruction(
+    source: &[u8],
+    line: Line,
+    at: usize,
+    mnemonics: &[u64; 50],
+    forms: &[u8; 50],
+    slots: &[u8; 293],
+) -> Effect
+    requires { ⌜ Told (now source) line ⌝ ∗ ⌜ at ≤ 2 ⌝ ∗ ⌜ Tables (now mnemonics) (now forms) (now slots) ⌝ }
+    ensures { λ r. ⌜ effectMeant r ≡ coding (readInstruction (behind at (recordMeant (now (source .entry)) line))) ⌝ ∗ ⌜ InTable r ⌝ }
+{
+    match instruction_operands::assembler::parse_instruction(
+        source,
+        line,
+        at,
+        mnemonics,
+        forms,
+        slots,
+    ) {
+        Parsed::Refused(n) => Effect::Faulty(n),
+        Parsed::Is { row, operands } => Effect::Codes { row, operands },
+    }
+}
+
+// A `.config` line.
+fn read_config(source: &[u8], line: Line, config: Config) -> Effect
+    requires { ⌜ Told (now source) line ⌝ }
+    ensures { λ r. ⌜ effectMeant r ≡ setting (configured (settingsMeant config) (recordMeant (now (source .entry)) line)) ⌝ ∗ ⌜ InTable r ⌝ }
+{
+    match image::config::parse_config(source, line, config) {
+        Configured::Refused(n) => Effect::Faulty(n),
+        Configured::Is(changed) => Effect::Sets(changed),
+    }
+}
+
+// A line that begins with a label; an instruction may follow it.
+fn read_label(
+    source: &[u8],
+    line: Line,
+    mnemonics: &[u64; 50],
+    forms: &[u8; 50],
+    slots: &[u8; 293],
+) -> Read
+    requires { ⌜ Told (now source) line ⌝ ∗ ⌜ kindOf (firsts (now source) (line .tokens) (line .count)) ≡ labelled (spellingOf (now source) (getD (line .tokens) 0 filler)) ⌝ ∗ ⌜ Tables (now mnemonics) (now forms) (now slots) ⌝ }
+    ensures { λ r. ⌜ ((c : Context) → RecordIs (now (source .entry)) line c r) ⌝ }
+{
+    let tokens = line.tokens;
+    let label = tokens[0];
+    let start = label.start;
+    let length = label.length;
+    let end = line.end;
+    if line.count == 2 {
+        return label_alone(start, length, end);
+    }
+    Read {
+        labelled: true,
+        start,
+        length,
+        effect: read_instruction(source, line, 2, mnemonics, forms, slots),
+        end,
+    }
+}
+
+// The line that begins at `at`, by the record of its tokens.
+pub(crate) fn read_record(
+    source: &[u8],
+    at: usize,
+    config: Config,
+    mnemonics: &[u64; 50],
+    forms: &[u8; 50],
+    slots: &[u8; 293],
+) -> Read
+    requires { ⌜ at ≤ length (now source) ⌝ ∗ ⌜ Tables (now mnemonics) (now forms) (now slots) ⌝ }
+    ensures { λ r. ⌜ LineIs (now (source .entry)) at (contextFor config) r ⌝ }
+{
+    let line = text::parser::tokenize(source, at);
+    let end = line.end;
+    if line.bad {
+        return unlabelled(Effect::Faulty(3), end);
+    }
+    match line_kind(source, line) {
+        LineKind::Empty | LineKind::Ignored => unlabelled(Effect::Nothing, end),
+        LineKind::Config => unlabelled(read_config(source, line, config), end),
+        LineKind::Label => read_label(source, line, mnemonics, forms, slots),
+        LineKind::Plain => unlabelled(
+            read_instruction(source, line, 0, mnemonics, forms, slots),
+            end,
+        ),
+    }
+}

@@ -1,4 +1,0 @@
-pub mod Naming
-pub mod Places
-pub mod Operands
-pub mod Lines
