@@ -1,6 +1,6 @@
 -- What a line that is read straight means, and what the functions promise. Of an answer that something else stands at a place nothing is
 -- promised: the record of the line's tokens then decides.
-use Prim.Native.Nat.{ℕ, _+_, _-_, _*_, _^_, _≤_, _<_}
+use Prim.Native.Nat.{ℕ, _+_, _-_, _*_, _≤_, _<_}
 use mathlib.Core.Path.{_≡_}
 use mathlib.Core.Bool.{Bool, true, false, _||_}
 use lib.Dec.{eqb, ltb}
@@ -8,15 +8,15 @@ use mathlib.Core.Logic.{_⊎_}
 use mathlib.Core.Option.{some}
 use mathlib.Core.List.{List, [], _∷_, map}
 use lib.ListN.{length, take, drop, getD}
-use Rattle.text_lexical.specs.Bytes.{value, digit, namePart, lower, every, run}
-use Rattle.text_lexical.specs.Numbers.{valueOf}
+use Rattle.text_lexical.specs.Bytes.{value, namePart, lower, run}
 use Rattle.text_lexical.specs.Names.{named, present}
-use Rattle.text_lexical.specs.Contracts.{indexOf, nameNumber, keyOf, signedMeant}
+use Rattle.text_lexical.specs.Contracts.{indexOf, nameNumber, keyOf}
 use Rattle.text.specs.Tokens.{Token, identifier, register, colon, infront, tokens}
 use Rattle.text.specs.Lines.{Line, indent, readLine}
 use Rattle.text.specs.Places.{restAt, leftAt, endAt}
+use Rattle.text.specs.Contracts.{kindMeant}
 use Rattle.instruction.specs.Table.{Place, reg, num, comma-place, opening-place, closing-place, places, rowNamed}
-use Rattle.instruction.specs.Operands.{readNumber, markByte, readOperands, readInstruction}
+use Rattle.instruction.specs.Operands.{markByte, readOperands, readInstruction}
 use Rattle.instruction.specs.Contracts.{rowAt, formAt, operandsMeant, partsMeant}
 use Rattle.instruction.specs.declared.instruction.Operands.{Operands}
 use Rattle.image.specs.Assembling.{kindOf, plain}
@@ -26,7 +26,6 @@ use Rattle.instruction_line.specs.declared.operand.NumberAt.{NumberAt}
 use Rattle.instruction_line.specs.declared.operand.NumberAt.the-variants.{Is as IsNumber, Other as NoNumber}
 use Rattle.instruction_line.specs.declared.operand.EndAt.{EndAt}
 use Rattle.instruction_line.specs.declared.operand.EndAt.the-variants.{Is as IsEnd, Other as NoEnd}
-use Rattle.instruction_line.specs.declared.operand.Digits.{Digits}
 use Rattle.instruction_line.specs.declared.line.Word.{Word}
 use Rattle.instruction_line.specs.declared.line.Front.{Front}
 use Rattle.instruction_line.specs.declared.line.Front.the-variants.{Is as IsFront, Other as NoFront}
@@ -57,21 +56,9 @@ abbrev pub Numbered : ℕ → ℕ → RegisterAt → Type 0
 Numbered n next (IsRegister r e) = (n < 16) × ((indexOf r ≡ n) × (e ≡ next))
 Numbered n next NoRegister = Unit {0}
 
--- Digits from a place on, and their value.
-pub record DigitsAre (s : List ℕ) (begin : ℕ) (d : Digits) : Type 0 where
-  pub on : begin ≤ d .end
-  pub in-text : d .end ≤ length s
-  pub digits : every digit (take (d .end - begin) (drop begin s)) ≡ true
-  pub value-is : d .value ≡ valueOf 10 (take (d .end - begin) (drop begin s))
-  pub small : d .value < 10 ^ 18
-
--- Where the digits of a number begin: behind its sign, if it has one.
-abbrev pub Signed : List ℕ → ℕ → ℕ → Bool → Type 0
-Signed s at begin true = (at < length s) × ((getD s at 0 ≡ 45) × (begin ≡ at + 1))
-Signed s at begin false = (at < length s) × (begin ≡ at)
-
+-- A token of such a kind, whatever its spelling.
 abbrev pub NumberIs : List ℕ → ℕ → NumberAt → Type 0
-NumberIs s at (IsNumber n m next) = (t : Token) × ((readNumber t ≡ some (signedMeant n m)) × Reads s at t next)
+NumberIs s at (IsNumber k next) = (u : List ℕ) × Reads s at (kindMeant k u) next
 NumberIs s at NoNumber = Unit {0}
 
 -- The marks behind an operand: `,`, `(`, `)`.

@@ -6,7 +6,7 @@ ghost use mathlib.Core.Logic.{_⊎_};
 ghost use mathlib.Core.List.{[], _∷_};
 ghost use Prim.Native.Nat.{_≤_, _<_};
 ghost use lib.ListN.{length};
-ghost use Rattle.instruction_line.specs.Contracts.{Names, Numbered, RegisterIs, DigitsAre, NumberIs, Signed, IsMark, MarkIs, Behind, EndIs};
+ghost use Rattle.instruction_line.specs.Contracts.{Names, Numbered, RegisterIs, NumberIs, IsMark, MarkIs, Behind, EndIs};
 use text::lexer::Kind;
 use text::lexer::Scan;
 use text_lexical::bytes::Class;
@@ -17,24 +17,15 @@ pub(crate) enum RegisterAt {
     Other,
 }
 
+// A token that may be a number, by its kind.
 pub(crate) enum NumberAt {
-    Is {
-        negative: bool,
-        magnitude: u64,
-        next: usize,
-    },
+    Is { kind: Kind, next: usize },
     Other,
 }
 
 pub(crate) enum EndAt {
     Is(usize),
     Other,
-}
-
-// Digits from a place on: their value, and the place behind them.
-pub(crate) struct Digits {
-    pub(crate) value: u64,
-    pub(crate) end: usize,
 }
 
 // The number of the register that two bytes name; 16 if they name none. The last three bits of the first byte tell the letters apart,
@@ -139,89 +130,18 @@ pub(crate) fn register_at(text: &[u8], from: usize) -> RegisterAt
     RegisterAt::Other
 }
 
-// Digits from `begin` on, as long as their value is below 10^17.
-fn short_digits(text: &[u8], begin: usize) -> Digits
-    requires { ⌜ begin ≤ length (now text) ⌝ }
-    ensures { λ r. ⌜ DigitsAre (now (text .entry)) begin r ⌝ }
-{
-    let mut value: u64 = 0;
-    let mut end = begin;
-    while end < text.len() {
-        let b = text[end];
-        if !text_lexical::bytes::is_digit(b) {
-            return Digits { value, end };
-        }
-        if 100000000000000000 <= value {
-            return Digits { value, end };
-        }
-        value = value * 10 + text_lexical::number::wide(b - 48);
-        end += 1;
-    }
-    Digits { value, end }
-}
-
-// A number of any form.
-fn any_number(text: &[u8], at: usize) -> NumberAt
-    requires { ⌜ at ≤ length (now text) ⌝ }
-    ensures { λ r. ⌜ NumberIs (now (text .entry)) at r ⌝ }
-{
-    match text::reader::token_at(text, at) {
-        Scan::Found { token, next } => {
-            let kind = token.kind;
-            match kind {
-                Kind::Number(magnitude) | Kind::Hex(magnitude) | Kind::Binary(magnitude) =>
-                    NumberAt::Is {
-                        negative: false,
-                        magnitude,
-                        next,
-                    },
-                Kind::Negative(magnitude) => NumberAt::Is {
-                    negative: true,
-                    magnitude,
-                    next,
-                },
-                _ => NumberAt::Other,
-            }
-        }
-        _ => NumberAt::Other,
-    }
-}
-
-// Digits that make a number, up to a byte that can be no part of it.
-fn plain_number(text: &[u8], at: usize, begin: usize, negative: bool) -> NumberAt
-    requires { ⌜ Signed (now text) at begin negative ⌝ }
-    ensures { λ r. ⌜ NumberIs (now (text .entry)) at r ⌝ }
-{
-    let digits = short_digits(text, begin);
-    let end = digits.end;
-    if end == begin {
-        return NumberAt::Other;
-    }
-    if text.len() <= end {
-        return NumberAt::Other;
-    }
-    if text_lexical::bytes::is_name_part(text[end]) {
-        return any_number(text, at);
-    }
-    NumberAt::Is {
-        negative,
-        magnitude: digits.value,
-        next: end,
-    }
-}
-
-// A number, past blanks.
+// The token at a number's place, past blanks; its number is read of its kind.
 pub(crate) fn number_at(text: &[u8], from: usize) -> NumberAt
     requires { ⌜ from ≤ length (now text) ⌝ }
     ensures { λ r. ⌜ NumberIs (now (text .entry)) from r ⌝ }
 {
-    let at = text_lexical::bytes::run_end(text, from, Class::Blank);
-    if text.len() <= at {
-        return NumberAt::Other;
+    match text::reader::token_at(text, from) {
+        Scan::Found { token, next } => {
+            let kind = token.kind;
+            NumberAt::Is { kind, next }
+        }
+        _ => NumberAt::Other,
     }
-    let negative = text[at] == b'-';
-    let begin = if negative { at + 1 } else { at };
-    plain_number(text, at, begin, negative)
 }
 
 // The place behind a mark, past blanks; 0 if another byte stands there.

@@ -156,7 +156,7 @@ fn parse_i_type(k: Six) -> Operand
         RegisterOperand::Is(first) => match register_comma(c, d) {
             RegisterOperand::Refused(n) => Operand::Refused(n),
             RegisterOperand::Is(second) => match text::parser::extract_number(e) {
-                Extracted::NoNumber => Operand::Refused(8),
+                Extracted::Refused(n) => Operand::Refused(n),
                 Extracted::Number(number) => are(first, second, Register::R0, number),
             },
         },
@@ -176,7 +176,7 @@ fn parse_memory(k: Six) -> Operand
     match register_comma(a, b) {
         RegisterOperand::Refused(n) => Operand::Refused(n),
         RegisterOperand::Is(first) => match text::parser::extract_number(c) {
-            Extracted::NoNumber => Operand::Refused(8),
+            Extracted::Refused(n) => Operand::Refused(n),
             Extracted::Number(number) => match base_register(d, e, f) {
                 RegisterOperand::Refused(n) => Operand::Refused(n),
                 RegisterOperand::Is(second) => are(first, second, Register::R0, number),
@@ -195,7 +195,7 @@ fn parse_jal(k: Six) -> Operand
     match register_comma(a, b) {
         RegisterOperand::Refused(n) => Operand::Refused(n),
         RegisterOperand::Is(first) => match text::parser::extract_number(c) {
-            Extracted::NoNumber => Operand::Refused(8),
+            Extracted::Refused(n) => Operand::Refused(n),
             Extracted::Number(number) => are(first, Register::R0, Register::R0, number),
         },
     }
