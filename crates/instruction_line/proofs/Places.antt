@@ -11,12 +11,13 @@ use lib.ListN.{length, take, drop, getD, length-drop}
 use lib.Seq.{drop-cons, drop-drop}
 use Rattle.text_lexical.specs.Bytes.{between, letter, digit, mark, nameStart, namePart, blank, inside, margin, every, before, run, isSome}
 use Rattle.text_lexical.specs.Names.{Name, named, present}
-use Rattle.text_lexical.specs.Contracts.{indexOf, nameNumber}
+use Rattle.text_lexical.specs.Contracts.{indexOf, nameMeant, nameNumber}
 use Rattle.text_lexical.specs.declared.register.Register.{Register}
-use Rattle.text_lexical.specs.declared.name.RegisterName.the-variants.{Is}
+use Rattle.text_lexical.specs.declared.name.RegisterName.{RegisterName}
+use Rattle.text_lexical.specs.declared.name.RegisterName.the-variants.{Is, NoSuch, Other}
 use Rattle.text_lexical.proofs.Tests.{split, both}
 use Rattle.text_lexical.proofs.Strings.{every-head, every-tail, every-mono, every-run, take-run, run-past, run-no, run-end, run-le}
-use Rattle.text.specs.Tokens.{Token, isIdentifier, isRegister, register, number, comma, colon, opening, closing, markToken, tokens}
+use Rattle.text.specs.Tokens.{Token, isIdentifier, isRegister, register, comma, colon, opening, closing, markToken, tokens}
 use Rattle.text.specs.Places.{restAt, leftAt, endAt}
 use Rattle.text.specs.Contracts.{meant, scanAt, NoWord}
 use Rattle.text.specs.declared.lexer.Token.{Token as KeptToken}
@@ -27,9 +28,7 @@ use Rattle.text.proofs.Left.{start-solid, blank-inside, blanks-at, end-on, noth
 use Rattle.text.proofs.Fronts.{part-cons, names-ok, word-at}
 use Rattle.text.proofs.Stepping.{solid-step, margin-on, mark-step, blank-step, stepped}
 use Rattle.instruction.specs.Operands.{markByte}
-use Rattle.instruction_line.specs.Contracts.{Reads, RegisterIs, Names, Numbered, IsMark}
-use Rattle.instruction_line.specs.declared.operand.RegisterAt.{RegisterAt}
-use Rattle.instruction_line.specs.declared.operand.RegisterAt.the-variants.{Is as IsRegister, Other as NoRegister}
+use Rattle.instruction_line.specs.Contracts.{Reads, RegisterIs, upTo, IsMark}
 
 -- ---- what a scan finds
 
@@ -112,12 +111,12 @@ register-reads s from at e r fl q h l g n =
     let w = word-at s at e (Is r) (omega arith) b m (sym n) in
     stepped-reads s from (record { kind = RegisterKind r; start = at; length = e - at }) e (blank-step s from at _ fl q (omega arith) (solid-step s at _ (omega arith) (start-solid _ b) w))
 
--- The same by the register's number, if it is one's.
-pub register-case : (s : List ℕ) (from at e n : ℕ) (r : RegisterAt) → from ≤ length s → at ≡ from + run blank (drop from s) → at < e → e < length s
-    → namePart (getD s e 0) ≡ false → Numbered n e r → Names (take (e - at) (drop at s)) n → RegisterIs s from r
-register-case s from at e n NoRegister fl q h l g m names = tt
-register-case s from at e n (IsRegister r e′) fl q h l g (small, (i, same)) names =
-    rw same (register-reads s from at e r fl q h l g (names small ∙ ap (λ (x : ℕ). some (some x)) (sym i)))
+-- The same by the name that they are.
+pub register-case : (s : List ℕ) (from at e : ℕ) (r : RegisterName) → from ≤ length s → at ≡ from + run blank (drop from s) → at < e → e < length s
+    → namePart (getD s e 0) ≡ false → nameMeant r ≡ nameNumber (named present (take (e - at) (drop at s))) → RegisterIs s from (upTo r e)
+register-case s from at e (Is r) fl q h l g n = register-reads s from at e r fl q h l g (sym n)
+register-case s from at e NoSuch fl q h l g n = tt
+register-case s from at e Other fl q h l g n = tt
 
 -- ---- marks
 

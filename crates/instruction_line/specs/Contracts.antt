@@ -10,7 +10,9 @@ use mathlib.Core.List.{List, [], _∷_, map}
 use lib.ListN.{length, take, drop, getD}
 use Rattle.text_lexical.specs.Bytes.{value, namePart, lower, run}
 use Rattle.text_lexical.specs.Names.{named, present}
-use Rattle.text_lexical.specs.Contracts.{indexOf, nameNumber, keyOf}
+use Rattle.text_lexical.specs.Contracts.{indexOf, keyOf}
+use Rattle.text_lexical.specs.declared.name.RegisterName.{RegisterName}
+use Rattle.text_lexical.specs.declared.name.RegisterName.the-variants.{Is as Named, NoSuch, Other as NoName}
 use Rattle.text.specs.Tokens.{Token, identifier, register, colon, infront, tokens}
 use Rattle.text.specs.Lines.{Line, indent, readLine}
 use Rattle.text.specs.Places.{restAt, leftAt, endAt}
@@ -47,14 +49,11 @@ abbrev pub RegisterIs : List ℕ → ℕ → RegisterAt → Type 0
 RegisterIs s at (IsRegister r next) = Reads s at (register (some (indexOf r))) next
 RegisterIs s at NoRegister = Unit {0}
 
--- A register's number that a spelling names; 16: nothing is said.
-abbrev pub Names : List ℕ → ℕ → Type 0
-Names u n = n < 16 → nameNumber (named present u) ≡ some (some n)
-
--- A register with such a number, up to a place.
-abbrev pub Numbered : ℕ → ℕ → RegisterAt → Type 0
-Numbered n next (IsRegister r e) = (n < 16) × ((indexOf r ≡ n) × (e ≡ next))
-Numbered n next NoRegister = Unit {0}
+-- A register that is named up to a place.
+abbrev pub upTo : RegisterName → ℕ → RegisterAt
+upTo (Named r) next = IsRegister r next
+upTo NoSuch next = NoRegister
+upTo NoName next = NoRegister
 
 -- A token of such a kind, whatever its spelling.
 abbrev pub NumberIs : List ℕ → ℕ → NumberAt → Type 0

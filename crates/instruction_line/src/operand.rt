@@ -1,15 +1,14 @@
 // What an operand's place is expected to hold, read at once: a register, a number, a mark, the line's end. Anything else is left to the
 // record of the line's tokens.
 ghost use mathlib.Core.Path.{_≡_};
-ghost use mathlib.Core.Bool.{true};
 ghost use mathlib.Core.Logic.{_⊎_};
-ghost use mathlib.Core.List.{[], _∷_};
 ghost use Prim.Native.Nat.{_≤_, _<_};
 ghost use lib.ListN.{length};
-ghost use Rattle.instruction_line.specs.Contracts.{Names, Numbered, RegisterIs, NumberIs, IsMark, MarkIs, Behind, EndIs};
+ghost use Rattle.instruction_line.specs.Contracts.{upTo, RegisterIs, NumberIs, IsMark, MarkIs, Behind, EndIs};
 use text::lexer::Kind;
 use text::lexer::Scan;
 use text_lexical::bytes::Class;
+use text_lexical::name::RegisterName;
 use text_lexical::register::Register;
 
 pub(crate) enum RegisterAt {
@@ -28,79 +27,13 @@ pub(crate) enum EndAt {
     Other,
 }
 
-// The number of the register that two bytes name; 16 if they name none. The last three bits of the first byte tell the letters apart,
-// and what may stand behind each is looked up: a branch for each letter would often be guessed wrong.
-fn two(first: u8, second: u8) -> u8
-    ensures { λ r. ⌜ Names (first ∷ second ∷ []) r ⌝ }
+// A register that is named up to a place.
+fn up_to(name: RegisterName, next: usize) -> RegisterAt
+    ensures { λ r. ⌜ r ≡ upTo name next ⌝ }
 {
-    let slot = (first % 8) as usize;
-    let letters = [0, b'a', b'r', b's', b't', 0, b'f', b'g'];
-    if letters[slot] != first {
-        return 16;
-    }
-    // how many digits, and the register of the first
-    let digits = [0, 5, 10, 2, 3, 0, 0, 0];
-    let firsts = [0, 11, 0, 6, 8, 0, 0, 0];
-    if 48 <= second {
-        let digit = second - 48;
-        if digit < digits[slot] {
-            return firsts[slot] + digit;
-        }
-    }
-    // ra; sp, tp, fp and gp
-    let seconds = [0, 0, b'a', b'p', b'p', 0, b'p', b'p'];
-    let others = [16, 16, 1, 2, 4, 16, 5, 3];
-    if second == seconds[slot] {
-        return others[slot];
-    }
-    16
-}
-
-// The number of the register that three bytes name; 16 if they name none.
-fn three(first: u8, second: u8, third: u8) -> u8
-    ensures { λ r. ⌜ Names (first ∷ second ∷ third ∷ []) r ⌝ }
-{
-    if first != b'r' {
-        return 16;
-    }
-    if second != b'1' {
-        return 16;
-    }
-    match third {
-        b'0'..=b'5' => third - 38,
-        _ => 16,
-    }
-}
-
-// The same for four bytes.
-fn four(first: u8, second: u8, third: u8, fourth: u8) -> u8
-    ensures { λ r. ⌜ Names (first ∷ second ∷ third ∷ fourth ∷ []) r ⌝ }
-{
-    if first != b'z' {
-        return 16;
-    }
-    if second != b'e' {
-        return 16;
-    }
-    if third != b'r' {
-        return 16;
-    }
-    if fourth != b'o' {
-        return 16;
-    }
-    0
-}
-
-// A register by its number, up to a place.
-fn numbered(number: u8, next: usize) -> RegisterAt
-    ensures { λ r. ⌜ Numbered number next r ⌝ }
-{
-    if 16 <= number {
-        return RegisterAt::Other;
-    }
-    RegisterAt::Is {
-        register: Register::from_index(number),
-        next,
+    match name {
+        RegisterName::Is(register) => RegisterAt::Is { register, next },
+        _ => RegisterAt::Other,
     }
 }
 
@@ -118,14 +51,20 @@ pub(crate) fn register_at(text: &[u8], from: usize) -> RegisterAt
     let second = text[at + 1];
     let third = text[at + 2];
     if !text_lexical::bytes::is_name_part(third) {
-        return numbered(two(first, second), at + 2);
+        return up_to(text_lexical::name::two_bytes(first, second), at + 2);
     }
     let fourth = text[at + 3];
     if !text_lexical::bytes::is_name_part(fourth) {
-        return numbered(three(first, second, third), at + 3);
+        return up_to(
+            text_lexical::name::three_bytes(first, second, third),
+            at + 3,
+        );
     }
     if !text_lexical::bytes::is_name_part(text[at + 4]) {
-        return numbered(four(first, second, third, fourth), at + 4);
+        return up_to(
+            text_lexical::name::four_bytes(first, second, third, fourth),
+            at + 4,
+        );
     }
     RegisterAt::Other
 }

@@ -1,18 +1,14 @@
 -- Operands as the code reads them: a register's, a number's and a mark's place, and the tokens behind a mnemonic.
-use Prim.Native.Nat.{ℕ, _<_}
-use native.Mathlib.Omega.{arith}
+use Prim.Native.Nat.{ℕ}
 use mathlib.Core.Path.{_≡_, refl, ap}
 use mathlib.Core.Bool.{Bool, true, false}
-use mathlib.Core.List.{List, map}
-use lib.ListN.{getD, List·getD-map}
+use mathlib.Core.List.{List}
 use lib.Dec.{eqb}
 use borrow.Author.Tests.{eq-eqb, ne-eqb}
-use Rattle.text_lexical.specs.Bytes.{Result, refused, between, lower}
+use Rattle.text_lexical.specs.Bytes.{Result, refused}
 use Rattle.text_lexical.specs.Contracts.{indexOf, wholeMeant}
 use Rattle.text_lexical.specs.declared.number.Whole.{Whole}
 use Rattle.text_lexical.specs.declared.register.Register.{Register as Named}
-use Rattle.text_lexical.proofs.Tests.{by-test, between-true}
-use Rattle.text_lexical.proofs.Keys.{Below}
 use Rattle.text.specs.Tokens.{Token}
 use Rattle.text.specs.Contracts.{kindMeant, extracted, extractMeant}
 use Rattle.text.specs.declared.lexer.Kind.{Kind}
@@ -91,19 +87,3 @@ mark-read {p} {byte} {n} {m} asks t rest e h = rw (asks .reads t rest, ← e, eq
 pub mark-refused : {p : Place} {byte n m : ℕ} → Asks p byte n → (t : Token) (rest : Result Operands)
     → m ≡ markByte t → (m ≡ byte → ⊥) → refused n ≡ readPlace p t rest
 mark-refused {p} {byte} {n} {m} asks t rest e h = rw (asks .reads t rest, ← e, ne-eqb m byte h)
-
--- ---- lower case
-
--- Lower case leaves a byte a byte.
-pub lower-below : (b : ℕ) → b < 256 → lower b < 256
-unfolding lower
-lower-below b h =
-    by-test (between 65 90 b) (λ e. let r = between-true 65 90 b e in rw (lower, e) (omega arith)) (λ e. rw (lower, e) h)
-
--- The byte at a place, in lower case.
-pub lower-at : (s : List ℕ) (i : ℕ) → getD (map lower s) i 0 ≡ lower (getD s i 0)
-unfolding lower between
-lower-at s i = List·getD-map lower s i 0
-
-pub lowered-below : (s : List ℕ) → Below s → Below (map lower s)
-lowered-below s h i = rw (lower-at s i) (lower-below (getD s i 0) (h i))

@@ -15,8 +15,7 @@ returns : tie.Need-returns
 returns c =
     let t = c .before in
     let f = t .before .before in
-    let b = f .before .before in
-    (
+    let b = f .before .before in (
       spelling (b .args .text .now) (t .token .given .0 .0),
       stepped-reads (b .args .text .now) (b .args .from) (t .token .given .0 .0) (t .token .given .0 .1 .0) (rw (t .token .given .1) at (f .token-at .ensures)),
     )
