@@ -9,7 +9,8 @@ use Rattle.text.specs.Lines.{extended, lines, keptByte, trimEnd, trim, cut, con
 use Rattle.text.specs.NameSets.{isNumbered}
 use Rattle.text.specs.Places.{restAt, leftAt, endAt}
 use Rattle.instruction.specs.Table.{places, row, table, rowNamed, rowCoded}
-use Rattle.instruction.specs.Operands.{readNumber, readIdentifier, readRegister, markByte, noOperands, withRegister, withNumber, readPlace, readOperands, made, readRow, readMnemonic, readInstruction, behind}
+use Rattle.text.specs.Values.{readNumber}
+use Rattle.instruction.specs.Operands.{readIdentifier, readRegister, markByte, noOperands, withRegister, withNumber, readPlace, readOperands, made, readRow, readMnemonic, readInstruction, behind}
 use Rattle.instruction.specs.Words.{modulo, reduced, fields, wordOf, fieldAt, registersIn, numberIn, unusedFrom, taken, instructionOf}
 use Rattle.instruction.specs.Text.{registerText, numberText, placesText, operandsText, instructionText}
 use Rattle.image.specs.Settings.{settings, begin, settingsFault, limb-bits-key, data-limbs-key, addr-limbs-key, setField, checked, configuredBy, configuredWith, configured}

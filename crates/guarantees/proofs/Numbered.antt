@@ -12,9 +12,10 @@ use Rattle.text_lexical.specs.Bytes.{Result, value, refused, ascii, every, befo
 use Rattle.text_lexical.specs.Numbers.{residue}
 use Rattle.text_lexical.specs.Names.{Name}
 use Rattle.text.specs.Tokens.{Token, identifier, register, number, hex, binary, directive, comma, colon, opening, closing}
+use Rattle.text.specs.Values.{readNumber}
 use Rattle.text.specs.Lines.{Line, lines, indent, readLine}
 use Rattle.instruction.specs.Table.{Place, reg, num, comma-place, opening-place, closing-place, Row, places, rowNamed, rowCoded}
-use Rattle.instruction.specs.Operands.{Instruction, readNumber, readIdentifier, readRegister, markByte, Operands, withRegister, withNumber, readPlace, readOperands, made, readRow, readMnemonic, readInstruction, behind}
+use Rattle.instruction.specs.Operands.{Instruction, readIdentifier, readRegister, markByte, Operands, withRegister, withNumber, readPlace, readOperands, made, readRow, readMnemonic, readInstruction, behind}
 use Rattle.instruction.specs.Words.{unusedFrom, taken, instructionOf}
 use Rattle.image.specs.Settings.{Settings, settings, settingsFault, limb-bits-key, data-limbs-key, addr-limbs-key, setField, checked, configuredBy, configuredWith, configured}
 use Rattle.image.specs.Program.{Header, magic, version, header-size, headerOf, codeOf, imageLength}
@@ -57,6 +58,19 @@ of-register colon = refl
 of-register opening = refl
 of-register closing = refl
 
+of-number : (t : Token) → OfResult (readNumber t)
+unfolding readNumber
+of-number (number z) = tt
+of-number (hex n) = tt
+of-number (binary n) = tt
+of-number (identifier s) = refl
+of-number (register r) = refl
+of-number (directive s) = refl
+of-number comma = refl
+of-number colon = refl
+of-number opening = refl
+of-number closing = refl
+
 with-register : (n : ℕ) (rest : Result Operands) → OfResult rest → OfResult (withRegister n rest)
 unfolding withRegister
 with-register n (value o) h = tt
@@ -78,11 +92,11 @@ of-place (reg bit) t rest h = go (readRegister t) (of-register t)
     go : (x : Result ℕ) → OfResult x → OfResult {A = Operands} (elim x [ value n ↦ withRegister n rest | refused k ↦ refused k ])
     go (value n) k = with-register n rest h
     go (refused n) k = k
-of-place (num bit width signed) t rest h = go (readNumber t)
+of-place (num bit width signed) t rest h = go (readNumber t) (of-number t)
   where
-    go : (x : Option ℤ) → OfResult {A = Operands} (elim x [ some z ↦ withNumber z rest | none ↦ refused 8 ])
-    go (some z) = with-number z rest h
-    go none = refl
+    go : (x : Result ℤ) → OfResult x → OfResult {A = Operands} (elim x [ value z ↦ withNumber z rest | refused k ↦ refused k ])
+    go (value z) k = with-number z rest h
+    go (refused n) k = k
 of-place comma-place t rest h = of-mark (eqb (markByte t) 44) 19 rest refl h
 of-place opening-place t rest h = of-mark (eqb (markByte t) 40) 20 rest refl h
 of-place closing-place t rest h = of-mark (eqb (markByte t) 41) 21 rest refl h
@@ -174,13 +188,13 @@ of-configured : (s : Settings) (l : Line) → OfResult (configured s l)
 unfolding configured configuredWith configuredBy
 of-configured s l = go (eqb (l .count) 3) (drop 1 (l .first))
   where
-    by-number : (k : List ℕ) (o : Option ℤ) → OfResult {A = Settings} (elim o [ none ↦ refused 8 | some z ↦ checked (setField s k (residue 8 z)) ])
-    by-number k none = refl
-    by-number k (some z) = of-checked (setField s k (residue 8 z)) (of-set s k (residue 8 z))
+    by-number : (k : List ℕ) (o : Result ℤ) → OfResult o → OfResult {A = Settings} (elim o [ refused n ↦ refused n | value z ↦ checked (setField s k (residue 8 z)) ])
+    by-number k (refused n) h = h
+    by-number k (value z) h = of-checked (setField s k (residue 8 z)) (of-set s k (residue 8 z))
 
-    by-key : (v : Token) (o : Option (List ℕ)) → OfResult {A = Settings} (elim o [ none ↦ refused 7 | some k ↦ elim (readNumber v) [ none ↦ refused 8 | some z ↦ checked (setField s k (residue 8 z)) ] ])
+    by-key : (v : Token) (o : Option (List ℕ)) → OfResult {A = Settings} (elim o [ none ↦ refused 7 | some k ↦ elim (readNumber v) [ refused n ↦ refused n | value z ↦ checked (setField s k (residue 8 z)) ] ])
     by-key v none = refl
-    by-key v (some k) = by-number k (readNumber v)
+    by-key v (some k) = by-number k (readNumber v) (of-number v)
 
     go : (b : Bool) (ts : List Token) → OfResult {A = Settings} (elim b [ true ↦ configuredWith s ts | false ↦ refused 6 ])
     go false ts = refl

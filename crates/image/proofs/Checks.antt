@@ -3,24 +3,24 @@ use mathlib.Core.Path.{_≡_, refl, ap, _∙_}
 use Prim.Native.Nat.{ℕ, _%_, _≤_}
 use native.Mathlib.Omega.{arith}
 use mathlib.Core.Bool.{true, false}
-use mathlib.Core.Option.{Option, none, some}
+use mathlib.Core.Option.{none, some}
 use mathlib.Core.List.{List, [], _∷_, map}
 use lib.ListN.{length, take, drop, getD}
 use lib.IntN.{ℤ}
 use denote.Enum.Declared.{tagOf}
 use types.Run.{OneOf, miss}
 use borrow.Author.Tests.{eq-eqb, ne-eqb}
-use Rattle.text_lexical.specs.Bytes.{value, refused, between, same}
+use Rattle.text_lexical.specs.Bytes.{Result, value, refused, between, same}
 use Rattle.text_lexical.specs.Numbers.{residue}
 use Rattle.text.specs.Lines.{Line as Record}
-use Rattle.text.specs.Contracts.{kindMeant, numberOf, spelling, meant}
+use Rattle.text.specs.Contracts.{extracted, extractMeant, kindMeant, spelling, meant}
 use Rattle.text.specs.declared.lexer.Kind.{Kind}
 use Rattle.text.specs.declared.lexer.Kind.the-variants.{Identifier, Register, NoRegister, Number, Negative, Hex, Binary, Directive, Comma, Colon, LParen, RParen}
 use Rattle.text.specs.declared.lexer.Token.{Token}
 use Rattle.text.specs.declared.parser.Line.{Line}
 use Rattle.text.proofs.lexer.Kind as kind
+use Rattle.text.proofs.Meanings.{extracted-number}
 use Rattle.instruction.specs.Operands.{readIdentifier}
-use Rattle.instruction_operands.proofs.Parsing.{number-kind}
 use Rattle.image.specs.Settings.{Settings, settings, settingsFault, limb-bits-key, data-limbs-key, addr-limbs-key, setField, checked, configuredBy, configuredWith, configured}
 use Rattle.image.specs.Contracts.{recordMeant}
 
@@ -129,15 +129,15 @@ module _ (setup : Settings) (s : List ℕ) (l : Line) (d : Token) (nine : length
 
   module _ (named : getD (l .tokens) 1 d .kind ≡ Identifier) where
     -- and the third a number
-    by-number : (o : Option ℤ) → numberOf (getD (l .tokens) 2 d .kind) ≡ o
-        → configured setup (recordMeant s l) ≡ elim o [ none ↦ refused 8 | some z ↦ checked (setField setup (spelling s (getD (l .tokens) 1 d)) (residue 8 z)) ]
+    by-number : (o : Result ℤ) → extractMeant (extracted (getD (l .tokens) 2 d .kind)) ≡ o
+        → configured setup (recordMeant s l) ≡ elim o [ refused n ↦ refused n | value z ↦ checked (setField setup (spelling s (getD (l .tokens) 1 d)) (residue 8 z)) ]
     unfolding configuredBy readIdentifier
-    by-number o e = config-by ∙ rw (configuredBy, named, number-kind (getD (l .tokens) 2 d .kind) (spelling s (getD (l .tokens) 2 d)), e)
+    by-number o e = config-by ∙ rw (configuredBy, named, ← extracted-number (getD (l .tokens) 2 d .kind) (spelling s (getD (l .tokens) 2 d)), e)
 
-    pub config-number : numberOf (getD (l .tokens) 2 d .kind) ≡ none → configured setup (recordMeant s l) ≡ refused 8
-    config-number e = by-number none e
+    pub config-number : (n : ℕ) → extractMeant (extracted (getD (l .tokens) 2 d .kind)) ≡ refused n → configured setup (recordMeant s l) ≡ refused n
+    config-number n e = by-number (refused n) e
 
     -- which the field is set to
-    pub config-sets : (z : ℤ) → numberOf (getD (l .tokens) 2 d .kind) ≡ some z
+    pub config-sets : (z : ℤ) → extractMeant (extracted (getD (l .tokens) 2 d .kind)) ≡ value z
         → configured setup (recordMeant s l) ≡ checked (setField setup (spelling s (getD (l .tokens) 1 d)) (residue 8 z))
-    config-sets z e = by-number (some z) e
+    config-sets z e = by-number (value z) e

@@ -14,12 +14,13 @@ use Rattle.text_lexical.specs.Names.{Name}
 use Rattle.text_lexical.proofs.Strings.{every-append, ends}
 use Rattle.text_lexical.proofs.Numbers.{residue-small}
 use Rattle.text.specs.Tokens.{Token, identifier, number, directive, isIdentifier, isRegister, infront, tokens}
+use Rattle.text.specs.Values.{readNumber}
 use Rattle.text.specs.Lines.{Line, lines, kept, lineOf, readLine}
 use Rattle.text.proofs.Tokens.{tokens-nil, Within64, reads-directive, reads-space, reads-identifier, reads-decimal}
 use Rattle.text.proofs.Lines.{visible, closed-append, Trimmed, decimal-visible, decimal-closed, high-plain, read-visible}
-use Rattle.instruction.specs.Operands.{Instruction, readIdentifier, readNumber, readInstruction, behind}
+use Rattle.instruction.specs.Operands.{Instruction, readIdentifier, readInstruction, behind}
 use Rattle.image.specs.Settings.{Settings, begin, settingsFault, setField, checked, configuredBy, configuredWith, configured}
-use Rattle.image.specs.Assembling.{Kind, empty, labelled, config, ignored, plain, kindOf, Context, Effect, nothing, sets, codes, faulty, Read, setting, coding, afterLabel, readKind, readOn, changedBy, contextAfter, readsFrom, reads}
+use Rattle.image.specs.Assembling.{Kind, empty, labelled, config, ignored, plain, kindOf, Context, Effect, nothing, sets, codes, faulty, setting, coding, afterLabel, readKind, readOn, changedBy, contextAfter, readsFrom, reads}
 use Rattle.image.specs.Meaning.{settingsIn, settingsOf}
 use Rattle.image.proofs.Settings.{no-fault, begin-good}
 
@@ -42,13 +43,13 @@ good-by : (s : Settings) (key v : Token) → GoodIf (configuredBy s key v)
 unfolding configuredBy
 good-by s key v = go (readIdentifier key)
   where
-    by-number : (k : List ℕ) (o : Option ℤ) → GoodIf (elim o [ none ↦ refused 8 | some z ↦ checked (setField s k (residue 8 z)) ])
-    by-number k none = tt
-    by-number k (some z) = good-checked (setField s k (residue 8 z))
+    by-number : (k : List ℕ) (o : Result ℤ) → GoodIf (elim o [ refused n ↦ refused n | value z ↦ checked (setField s k (residue 8 z)) ])
+    by-number k (refused n) = tt
+    by-number k (value z) = good-checked (setField s k (residue 8 z))
 
     go : (o : Option (List ℕ)) → GoodIf (elim o [
       | none ↦ refused 7
-      | some k ↦ elim (readNumber v) [ none ↦ refused 8 | some z ↦ checked (setField s k (residue 8 z)) ]
+      | some k ↦ elim (readNumber v) [ refused n ↦ refused n | value z ↦ checked (setField s k (residue 8 z)) ]
     ])
     go none = tt
     go (some k) = by-number k (readNumber v)

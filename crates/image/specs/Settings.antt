@@ -8,8 +8,9 @@ use lib.Dec.{eqb}
 use Rattle.text_lexical.specs.Bytes.{Result, value, refused, bytes, between, same}
 use Rattle.text_lexical.specs.Numbers.{residue}
 use Rattle.text.specs.Tokens.{Token}
+use Rattle.text.specs.Values.{readNumber}
 use Rattle.text.specs.Lines.{Line}
-use Rattle.instruction.specs.Operands.{readNumber, readIdentifier}
+use Rattle.instruction.specs.Operands.{readIdentifier}
 
 pub record Settings : Type 0 where
   pub limb-bits : ℕ
@@ -65,12 +66,12 @@ unfoldable pub checked : Result Settings → Result Settings
 checked (refused n) = refused n
 checked (value s) = elim (settingsFault s) [ some n ↦ refused n | none ↦ value s ]
 
--- "7 key not an Identifier; 8 number expected"; "sets a field to the value modulo 256"
+-- "7 key not an Identifier; 8 number expected", which `readNumber` says; "sets a field to the value modulo 256"
 unfoldable pub configuredBy : Settings → Token → Token → Result Settings
 configuredBy s key v =
     elim (readIdentifier key) [
       | none ↦ refused 7
-      | some k ↦ elim (readNumber v) [ none ↦ refused 8 | some z ↦ checked (setField s k (residue 8 z)) ]
+      | some k ↦ elim (readNumber v) [ refused n ↦ refused n | value z ↦ checked (setField s k (residue 8 z)) ]
     ]
 
 unfoldable pub configuredWith : Settings → List Token → Result Settings

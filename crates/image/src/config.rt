@@ -118,7 +118,7 @@ pub fn parse_config(source: &[u8], line: Line, config: Config) -> Configured
     let value = tokens[2];
     let number = value.kind;
     match text::parser::extract_number(number) {
-        Extracted::NoNumber => Configured::Refused(8),
+        Extracted::Refused(n) => Configured::Refused(n),
         Extracted::Number(whole) => {
             let start = key.start;
             let end = start + key.length;

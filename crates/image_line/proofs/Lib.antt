@@ -1,4 +1,3 @@
-pub mod Naming
 pub mod Places
 pub mod Operands
 pub mod Lines

@@ -15,7 +15,7 @@ use Rattle.text_lexical.specs.Names.{Name, name, named, numbered, conventional,
 use Rattle.text_lexical.specs.Contracts.{packed, keyOf, nameNumber}
 use Rattle.text_lexical.specs.declared.name.RegisterName.the-variants.{Other}
 use Rattle.text_lexical.proofs.Keys.{Below}
-use Rattle.text_lexical.proofs.Tests.{split, by-test, no-both, or-left, between-true}
+use Rattle.text_lexical.proofs.Tests.{split, by-test, no-both, or-left, between-true, Each, in-run}
 use Rattle.text_lexical.proofs.Strings.{every-tail, run-past, run-yes, same-eq, found}
 use Rattle.text.specs.Tokens.{Token, identifier, register, number, hex, binary, directive, comma, colon, opening, closing, infront, tokens}
 use Rattle.text.specs.Lines.{kept, lineOf, recordOf, readLine}
@@ -31,7 +31,7 @@ use Rattle.instruction.specs.declared.instruction.Operands.{Operands as Kept}
 use Rattle.instruction.specs.declared.opcode.Row.{Row as Looked}
 use Rattle.instruction.specs.declared.opcode.Row.the-variants.{At}
 use Rattle.instruction.proofs.Columns.{form-numbered}
-use Rattle.instruction_operands.proofs.Line.{Each, in-run, six-places, below-part, named-by-key}
+use Rattle.instruction_operands.proofs.Line.{six-places, below-part, named-by-key}
 use Rattle.image.specs.Assembling.{plain, identifierKind, kindOf}
 use Rattle.image_line.specs.Contracts.{Reads, wordEnd, part, WordIs, Labels, LabelIs, FrontIs, no-front, mnemonic, label, TailIs, IsInstruction, IsLabel, IsEmpty, IsStraight, wholeOf}
 use Rattle.image_line.specs.declared.fast.Word.{Word}

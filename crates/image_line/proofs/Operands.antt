@@ -17,8 +17,9 @@ use Rattle.text_lexical.specs.declared.register.Register.{Register}
 use Rattle.text_lexical.specs.declared.register.Register.the-variants.{R0}
 use Rattle.text.specs.Tokens.{Token, register, infront, tokens}
 use Rattle.text.specs.Places.{leftAt, endAt}
+use Rattle.text.specs.Values.{readNumber}
 use Rattle.instruction.specs.Table.{Place, reg, num, comma-place, opening-place, closing-place, Form, R, I, Shift, Load, Store, Branch, Jump, System, places}
-use Rattle.instruction.specs.Operands.{Operands, noOperands, withRegister, withNumber, readRegister, readNumber, markByte, readPlace, readOperands}
+use Rattle.instruction.specs.Operands.{Operands, noOperands, withRegister, withNumber, readRegister, markByte, readPlace, readOperands}
 use Rattle.instruction.specs.Contracts.{formAt, registersFor, numberFor}
 use Rattle.instruction.specs.declared.instruction.Operands.{Operands as KeptOperands}
 use Rattle.image_line.specs.Contracts.{Reads, IsMark, Ahead, no-more, register-comma, number-opening, register-closing, register-last, number-last, isNumber, markOf, Behind, TailIs}
@@ -176,7 +177,7 @@ module _ (s : List ℕ) (from : ℕ) (f : Form) (at : ℕ) (ps : List Place) (co
   joined-number (suc k) z y o e = absurd (omega arith)
 
   partly-number : (bit width next : ℕ) (signed : Bool) (t : Token) (n′ : Bool) (m′ : ℕ) → Partly s from f at (num bit width signed ∷ ps) count rs n m
-      → readNumber t ≡ some (signedMeant n′ m′) → Reads s at t next → Partly s from f next ps count rs n′ m′
+      → readNumber t ≡ value (signedMeant n′ m′) → Reads s at t next → Partly s from f next ps count rs n′ m′
   unfolding readOperands readPlace withNumber regsIn numsIn
   partly-number bit width next signed t n′ m′ q e rd =
       let none-yet : q .nums ≡ 0 = omega (arith, q .numbers, one-number f) in
@@ -257,7 +258,7 @@ module _ (s : List ℕ) (from : ℕ) (f : Form) (at left count : ℕ) (rs : List
   step-register ps (number-last e) q pos letter r next at′ rd b there = absurd (numbered-digit left 5 (omega arith) refl letter)
 
   step-number : (ps : List Place) → Ahead ps left → Partly s from f at ps count rs n m → 0 < left → isNumber (left % 8) ≡ true
-      → (t : Token) (n′ : Bool) (m′ next at′ : ℕ) → readNumber t ≡ some (signedMeant n′ m′) → Reads s at t next → Behind s next (markOf (left % 8)) at′ → (at′ ≡ 0 → ⊥)
+      → (t : Token) (n′ : Bool) (m′ next at′ : ℕ) → readNumber t ≡ value (signedMeant n′ m′) → Reads s at t next → Behind s next (markOf (left % 8)) at′ → (at′ ≡ 0 → ⊥)
       → Next at′ count rs n′ m′
   unfolding regsIn numsIn markOf isNumber
   step-number ps (no-more e) q pos digit t n′ m′ next at′ v rd b there = absurd (omega arith)
@@ -300,7 +301,7 @@ module _ (s : List ℕ) (from form at left count : ℕ) (rs : List Register) (n 
       let (ps, (a, p)) = step-register s from (formAt form) at left count rs n m (q .ps) (q .ahead) (q .partly) pos letter r next at′ rd b there in
       record { ps = ps; ahead = a; partly = p }
 
-  pub reading-number : 0 < left → isNumber (left % 8) ≡ true → (t : Token) (n′ : Bool) (m′ next at′ : ℕ) → readNumber t ≡ some (signedMeant n′ m′) → Reads s at t next
+  pub reading-number : 0 < left → isNumber (left % 8) ≡ true → (t : Token) (n′ : Bool) (m′ next at′ : ℕ) → readNumber t ≡ value (signedMeant n′ m′) → Reads s at t next
       → Behind s next (markOf (left % 8)) at′ → (at′ ≡ 0 → ⊥) → Reading s from form at′ (left / 8) count rs n′ m′
   reading-number pos digit t n′ m′ next at′ v rd b there =
       let (ps, (a, p)) = step-number s from (formAt form) at left count rs n m (q .ps) (q .ahead) (q .partly) pos digit t n′ m′ next at′ v rd b there in

@@ -1,6 +1,6 @@
 -- What a line that is read straight means, and what the functions promise. Of an answer that something else stands at a place nothing is
 -- promised: the record of the line's tokens then decides.
-use Prim.Native.Nat.{ℕ, _+_, _-_, _*_, _^_, _≤_, _<_}
+use Prim.Native.Nat.{ℕ, _+_, _-_, _*_, _≤_, _<_}
 use mathlib.Core.Path.{_≡_}
 use mathlib.Core.Bool.{Bool, true, false, _||_}
 use lib.Dec.{eqb, ltb}
@@ -8,17 +8,18 @@ use mathlib.Core.Logic.{_⊎_}
 use mathlib.Core.Option.{Option, none, some}
 use mathlib.Core.List.{List, [], _∷_, map}
 use lib.ListN.{length, take, drop, getD}
-use Rattle.text_lexical.specs.Bytes.{value, digit, namePart, lower, every, run}
-use Rattle.text_lexical.specs.Numbers.{valueOf}
+use Rattle.text_lexical.specs.Bytes.{value, namePart, lower, run}
 use Rattle.text_lexical.specs.Names.{named, present}
-use Rattle.text_lexical.specs.Contracts.{indexOf, nameNumber, keyOf, signedMeant}
+use Rattle.text_lexical.specs.Contracts.{indexOf, keyOf}
+use Rattle.text_lexical.specs.declared.name.RegisterName.{RegisterName}
+use Rattle.text_lexical.specs.declared.name.RegisterName.the-variants.{Is as Named, NoSuch, Other as NoName}
 use Rattle.text.specs.Tokens.{Token, identifier, register, colon, infront, tokens}
 use Rattle.text.specs.Lines.{Line, indent, readLine}
 use Rattle.text.specs.Places.{restAt, leftAt, endAt}
-use Rattle.text.specs.Contracts.{filler, spelling}
+use Rattle.text.specs.Contracts.{kindMeant as tokenMeant, filler, spelling}
 use Rattle.text.specs.declared.parser.Line.{Line as Record}
 use Rattle.instruction.specs.Table.{Place, reg, num, comma-place, opening-place, closing-place, places, rowNamed}
-use Rattle.instruction.specs.Operands.{readNumber, markByte, readOperands, readInstruction}
+use Rattle.instruction.specs.Operands.{markByte, readOperands, readInstruction}
 use Rattle.instruction.specs.Contracts.{mnemonicKeys, formNumbers, slotRows, rowAt, formAt, operandsMeant, partsMeant}
 use Rattle.instruction.specs.declared.instruction.Operands.{Operands}
 use Rattle.instruction_operands.specs.Contracts.{Kept}
@@ -31,7 +32,6 @@ use Rattle.image_line.specs.declared.operand.NumberAt.{NumberAt}
 use Rattle.image_line.specs.declared.operand.NumberAt.the-variants.{Is as IsNumber, Other as NoNumber}
 use Rattle.image_line.specs.declared.operand.EndAt.{EndAt}
 use Rattle.image_line.specs.declared.operand.EndAt.the-variants.{Is as IsEnd, Other as NoEnd}
-use Rattle.image_line.specs.declared.operand.Digits.{Digits}
 use Rattle.image_line.specs.declared.fast.Word.{Word}
 use Rattle.image_line.specs.declared.fast.Front.{Front}
 use Rattle.image_line.specs.declared.fast.Front.the-variants.{Is as IsFront, Other as NoFront}
@@ -58,30 +58,15 @@ abbrev pub RegisterIs : List ℕ → ℕ → RegisterAt → Type 0
 RegisterIs s at (IsRegister r next) = Reads s at (register (some (indexOf r))) next
 RegisterIs s at NoRegister = Unit {0}
 
--- A register's number that a spelling names; 16: nothing is said.
-abbrev pub Names : List ℕ → ℕ → Type 0
-Names u n = n < 16 → nameNumber (named present u) ≡ some (some n)
+-- A register that is named up to a place.
+abbrev pub upTo : RegisterName → ℕ → RegisterAt
+upTo (Named r) next = IsRegister r next
+upTo NoSuch next = NoRegister
+upTo NoName next = NoRegister
 
--- A register with such a number, up to a place.
-abbrev pub Numbered : ℕ → ℕ → RegisterAt → Type 0
-Numbered n next (IsRegister r e) = (n < 16) × ((indexOf r ≡ n) × (e ≡ next))
-Numbered n next NoRegister = Unit {0}
-
--- Digits from a place on, and their value.
-pub record DigitsAre (s : List ℕ) (begin : ℕ) (d : Digits) : Type 0 where
-  pub on : begin ≤ d .end
-  pub in-text : d .end ≤ length s
-  pub digits : every digit (take (d .end - begin) (drop begin s)) ≡ true
-  pub value-is : d .value ≡ valueOf 10 (take (d .end - begin) (drop begin s))
-  pub small : d .value < 10 ^ 18
-
--- Where the digits of a number begin: behind its sign, if it has one.
-abbrev pub Signed : List ℕ → ℕ → ℕ → Bool → Type 0
-Signed s at begin true = (at < length s) × ((getD s at 0 ≡ 45) × (begin ≡ at + 1))
-Signed s at begin false = (at < length s) × (begin ≡ at)
-
+-- A token of such a kind, whatever its spelling.
 abbrev pub NumberIs : List ℕ → ℕ → NumberAt → Type 0
-NumberIs s at (IsNumber n m next) = (t : Token) × ((readNumber t ≡ some (signedMeant n m)) × Reads s at t next)
+NumberIs s at (IsNumber k next) = (u : List ℕ) × Reads s at (tokenMeant k u) next
 NumberIs s at NoNumber = Unit {0}
 
 -- The marks behind an operand: `,`, `(`, `)`.

@@ -13,6 +13,7 @@ use crate::operand::NumberAt;
 use crate::operand::RegisterAt;
 use instruction::instruction::Operands;
 use instruction::opcode::Row;
+use text::parser::Extracted;
 use text_lexical::bytes::Class;
 use text_lexical::name::RegisterName;
 use text_lexical::number::Whole;
@@ -108,15 +109,14 @@ fn read_tail(source: &[u8], from: usize, form: u8) -> Tail
         if is_number(operand) {
             match crate::operand::number_at(source, at) {
                 NumberAt::Other => return Tail::Other,
-                NumberAt::Is {
-                    negative: n,
-                    magnitude: m,
-                    next: behind,
-                } => {
-                    negative = n;
-                    magnitude = m;
-                    next = behind;
-                }
+                NumberAt::Is { kind, next: behind } => match text::parser::extract_number(kind) {
+                    Extracted::Refused(_) => return Tail::Other,
+                    Extracted::Number(whole) => {
+                        negative = whole.negative;
+                        magnitude = whole.magnitude;
+                        next = behind;
+                    }
+                },
             }
         } else {
             match crate::operand::register_at(source, at) {

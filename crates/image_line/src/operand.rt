@@ -1,15 +1,14 @@
 // What an operand's place is expected to hold, read at once: a register, a number, a mark, the line's end. Anything else is left to the
 // record of the line's tokens.
 ghost use mathlib.Core.Path.{_≡_};
-ghost use mathlib.Core.Bool.{true};
 ghost use mathlib.Core.Logic.{_⊎_};
-ghost use mathlib.Core.List.{[], _∷_};
 ghost use Prim.Native.Nat.{_≤_, _<_};
 ghost use lib.ListN.{length};
-ghost use Rattle.image_line.specs.Contracts.{Names, Numbered, RegisterIs, DigitsAre, NumberIs, Signed, IsMark, MarkIs, Behind, EndIs};
+ghost use Rattle.image_line.specs.Contracts.{upTo, RegisterIs, NumberIs, IsMark, MarkIs, Behind, EndIs};
 use text::lexer::Kind;
 use text::lexer::Scan;
 use text_lexical::bytes::Class;
+use text_lexical::name::RegisterName;
 use text_lexical::register::Register;
 
 pub(crate) enum RegisterAt {
@@ -17,12 +16,9 @@ pub(crate) enum RegisterAt {
     Other,
 }
 
+// A token that may be a number, by its kind.
 pub(crate) enum NumberAt {
-    Is {
-        negative: bool,
-        magnitude: u64,
-        next: usize,
-    },
+    Is { kind: Kind, next: usize },
     Other,
 }
 
@@ -31,85 +27,13 @@ pub(crate) enum EndAt {
     Other,
 }
 
-// Digits from a place on: their value, and the place behind them.
-pub(crate) struct Digits {
-    pub(crate) value: u64,
-    pub(crate) end: usize,
-}
-
-// The number of the register that two bytes name; 16 if they name none. The last three bits of the first byte tell the letters apart,
-// and what may stand behind each is looked up: a branch for each letter would often be guessed wrong.
-fn two(first: u8, second: u8) -> u8
-    ensures { λ r. ⌜ Names (first ∷ second ∷ []) r ⌝ }
+// A register that is named up to a place.
+fn up_to(name: RegisterName, next: usize) -> RegisterAt
+    ensures { λ r. ⌜ r ≡ upTo name next ⌝ }
 {
-    let slot = (first % 8) as usize;
-    let letters = [0, b'a', b'r', b's', b't', 0, b'f', b'g'];
-    if letters[slot] != first {
-        return 16;
-    }
-    // how many digits, and the register of the first
-    let digits = [0, 5, 10, 2, 3, 0, 0, 0];
-    let firsts = [0, 11, 0, 6, 8, 0, 0, 0];
-    if 48 <= second {
-        let digit = second - 48;
-        if digit < digits[slot] {
-            return firsts[slot] + digit;
-        }
-    }
-    // ra; sp, tp, fp and gp
-    let seconds = [0, 0, b'a', b'p', b'p', 0, b'p', b'p'];
-    let others = [16, 16, 1, 2, 4, 16, 5, 3];
-    if second == seconds[slot] {
-        return others[slot];
-    }
-    16
-}
-
-// The number of the register that three bytes name; 16 if they name none.
-fn three(first: u8, second: u8, third: u8) -> u8
-    ensures { λ r. ⌜ Names (first ∷ second ∷ third ∷ []) r ⌝ }
-{
-    if first != b'r' {
-        return 16;
-    }
-    if second != b'1' {
-        return 16;
-    }
-    match third {
-        b'0'..=b'5' => third - 38,
-        _ => 16,
-    }
-}
-
-// The same for four bytes.
-fn four(first: u8, second: u8, third: u8, fourth: u8) -> u8
-    ensures { λ r. ⌜ Names (first ∷ second ∷ third ∷ fourth ∷ []) r ⌝ }
-{
-    if first != b'z' {
-        return 16;
-    }
-    if second != b'e' {
-        return 16;
-    }
-    if third != b'r' {
-        return 16;
-    }
-    if fourth != b'o' {
-        return 16;
-    }
-    0
-}
-
-// A register by its number, up to a place.
-fn numbered(number: u8, next: usize) -> RegisterAt
-    ensures { λ r. ⌜ Numbered number next r ⌝ }
-{
-    if 16 <= number {
-        return RegisterAt::Other;
-    }
-    RegisterAt::Is {
-        register: Register::from_index(number),
-        next,
+    match name {
+        RegisterName::Is(register) => RegisterAt::Is { register, next },
+        _ => RegisterAt::Other,
     }
 }
 
@@ -127,101 +51,36 @@ pub(crate) fn register_at(text: &[u8], from: usize) -> RegisterAt
     let second = text[at + 1];
     let third = text[at + 2];
     if !text_lexical::bytes::is_name_part(third) {
-        return numbered(two(first, second), at + 2);
+        return up_to(text_lexical::name::two_bytes(first, second), at + 2);
     }
     let fourth = text[at + 3];
     if !text_lexical::bytes::is_name_part(fourth) {
-        return numbered(three(first, second, third), at + 3);
+        return up_to(
+            text_lexical::name::three_bytes(first, second, third),
+            at + 3,
+        );
     }
     if !text_lexical::bytes::is_name_part(text[at + 4]) {
-        return numbered(four(first, second, third, fourth), at + 4);
+        return up_to(
+            text_lexical::name::four_bytes(first, second, third, fourth),
+            at + 4,
+        );
     }
     RegisterAt::Other
 }
 
-// Digits from `begin` on, as long as their value is below 10^17.
-fn short_digits(text: &[u8], begin: usize) -> Digits
-    requires { ⌜ begin ≤ length (now text) ⌝ }
-    ensures { λ r. ⌜ DigitsAre (now (text .entry)) begin r ⌝ }
-{
-    let mut value: u64 = 0;
-    let mut end = begin;
-    while end < text.len() {
-        let b = text[end];
-        if !text_lexical::bytes::is_digit(b) {
-            return Digits { value, end };
-        }
-        if 100000000000000000 <= value {
-            return Digits { value, end };
-        }
-        value = value * 10 + text_lexical::number::wide(b - 48);
-        end += 1;
-    }
-    Digits { value, end }
-}
-
-// A number of any form.
-fn any_number(text: &[u8], at: usize) -> NumberAt
-    requires { ⌜ at ≤ length (now text) ⌝ }
-    ensures { λ r. ⌜ NumberIs (now (text .entry)) at r ⌝ }
-{
-    match text::reader::token_at(text, at) {
-        Scan::Found { token, next } => {
-            let kind = token.kind;
-            match kind {
-                Kind::Number(magnitude) | Kind::Hex(magnitude) | Kind::Binary(magnitude) =>
-                    NumberAt::Is {
-                        negative: false,
-                        magnitude,
-                        next,
-                    },
-                Kind::Negative(magnitude) => NumberAt::Is {
-                    negative: true,
-                    magnitude,
-                    next,
-                },
-                _ => NumberAt::Other,
-            }
-        }
-        _ => NumberAt::Other,
-    }
-}
-
-// Digits that make a number, up to a byte that can be no part of it.
-fn plain_number(text: &[u8], at: usize, begin: usize, negative: bool) -> NumberAt
-    requires { ⌜ Signed (now text) at begin negative ⌝ }
-    ensures { λ r. ⌜ NumberIs (now (text .entry)) at r ⌝ }
-{
-    let digits = short_digits(text, begin);
-    let end = digits.end;
-    if end == begin {
-        return NumberAt::Other;
-    }
-    if text.len() <= end {
-        return NumberAt::Other;
-    }
-    if text_lexical::bytes::is_name_part(text[end]) {
-        return any_number(text, at);
-    }
-    NumberAt::Is {
-        negative,
-        magnitude: digits.value,
-        next: end,
-    }
-}
-
-// A number, past blanks.
+// The token at a number's place, past blanks; its number is read of its kind.
 pub(crate) fn number_at(text: &[u8], from: usize) -> NumberAt
     requires { ⌜ from ≤ length (now text) ⌝ }
     ensures { λ r. ⌜ NumberIs (now (text .entry)) from r ⌝ }
 {
-    let at = text_lexical::bytes::run_end(text, from, Class::Blank);
-    if text.len() <= at {
-        return NumberAt::Other;
+    match text::reader::token_at(text, from) {
+        Scan::Found { token, next } => {
+            let kind = token.kind;
+            NumberAt::Is { kind, next }
+        }
+        _ => NumberAt::Other,
     }
-    let negative = text[at] == b'-';
-    let begin = if negative { at + 1 } else { at };
-    plain_number(text, at, begin, negative)
 }
 
 // The place behind a mark, past blanks; 0 if another byte stands there.

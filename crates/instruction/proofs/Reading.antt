@@ -12,10 +12,11 @@ use Rattle.text_lexical.specs.Names.{Name, named}
 use Rattle.text_lexical.proofs.Tests.{by-test, both, and-both}
 use Rattle.text_lexical.proofs.Strings.{found}
 use Rattle.text.specs.Tokens.{Class, Register, Identifier, Number, Hex, Binary, Directive, Mark, Match, longest, Token, register, number, comma, colon, opening, closing, within, numberToken, patternToken, registerToken, markToken, tokenOf, Sized, sized, matched, front, infront, tokensPast, tokens}
+use Rattle.text.specs.Values.{readNumber}
 use Rattle.text.specs.Lines.{Line, content, kept, lineOf, recordOf, readLine}
 use Rattle.text.specs.NameSets.{isNumbered, Naming}
 use Rattle.instruction.specs.Table.{Place, reg, num, comma-place, opening-place, closing-place, rowNamed}
-use Rattle.instruction.specs.Operands.{Instruction, readRegister, readNumber, readIdentifier, markByte, Operands, noOperands, withRegister, withNumber, readPlace, readOperands, made, readRow, readMnemonic, readInstruction, behind}
+use Rattle.instruction.specs.Operands.{Instruction, readRegister, readIdentifier, markByte, Operands, noOperands, withRegister, withNumber, readPlace, readOperands, made, readRow, readMnemonic, readInstruction, behind}
 use Rattle.instruction.specs.Fits.{placesOf, Regs, numberField, hasNumber, Fits}
 use Rattle.instruction.proofs.Rows.{named-row}
 use Rattle.instruction.proofs.Results.{not-refused, test-value, option-value, result-value, through-value, whenSome, each-take, each-drop}
@@ -41,7 +42,7 @@ read-operands (reg bit ∷ ps) (t ∷ ts) o h e =
     let (r, m) = read-operands ps ts o′ h e in
     subst (Fitting (reg bit ∷ ps)) q ((ltb-true n 16 (rw (numberedToken, f) at ht), r), m)
 read-operands (num bit width signed ∷ ps) (t ∷ ts) o h e =
-    let (z, f, e) = option-value (readNumber t) _ 8 o e in
+    let (z, f, e) = result-value (readNumber t) _ o e in
     let (o′, e, q) = through-value (withNumber z) (λ o. record { registers = o .registers; number = some z }) (λ o. refl) (λ k. refl) _ o e in
     subst (Fitting (num bit width signed ∷ ps)) q (read-operands ps ts o′ (both (numberedToken t) _ h .1) e .0, refl)
 read-operands (comma-place ∷ ps) (t ∷ ts) o h e = read-operands ps ts o (both (numberedToken t) _ h .1) (test-value (eqb (markByte t) 44) _ 19 o e .1)

@@ -19,12 +19,13 @@ use Rattle.text_lexical.proofs.Tests.{split, both, between-true}
 use Rattle.text_lexical.proofs.Strings.{every-head, every-append, every-mono, ends}
 use Rattle.text_lexical.proofs.Numbers.{decimal-digits, decimal-length}
 use Rattle.text.specs.Tokens.{isIdentifier, isRegister, Token, identifier, register, number, comma, opening, closing, infront, tokens}
+use Rattle.text.specs.Values.{readNumber}
 use Rattle.text.specs.Lines.{Line, kept, lineOf, readLine}
 use Rattle.text.specs.NameSets.{Naming}
 use Rattle.text.proofs.Tokens.{Within64, tokens-nil, reads-identifier, reads-register, reads-decimal, reads-comma, reads-opening, reads-closing, reads-space}
 use Rattle.text.proofs.Lines.{visible, high-visible, high-plain, decimal-visible, Closed, closed-append, closed-every, decimal-closed, Trimmed, read-visible}
 use Rattle.instruction.specs.Table.{Place, reg, num, comma-place, opening-place, closing-place, I, places, Row, row, table, rowCoded}
-use Rattle.instruction.specs.Operands.{Instruction, readRegister, readNumber, readIdentifier, markByte, noOperands, withRegister, withNumber, readPlace, readOperands, made, readRow, readMnemonic, readInstruction}
+use Rattle.instruction.specs.Operands.{Instruction, readRegister, readIdentifier, markByte, noOperands, withRegister, withNumber, readPlace, readOperands, made, readRow, readMnemonic, readInstruction}
 use Rattle.instruction.specs.Words.{fieldAt, registersIn, numberIn, unusedFrom, taken, instructionOf}
 use Rattle.instruction.specs.Text.{registerText, numberText, placesText, operandsText, instructionText}
 use Rattle.instruction.specs.Fits.{InTable, placesOf, Regs, NumberField, numberField, hasNumber, widthOf, numberWidth, Fits, reducedIn, reducedTo}

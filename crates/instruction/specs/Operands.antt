@@ -5,9 +5,10 @@ use mathlib.Core.Option.{Option, none, some}
 use mathlib.Core.List.{List, [], _∷_, map}
 use lib.ListN.{length, drop}
 use lib.Dec.{eqb}
-use lib.IntN.{ℤ, pos}
+use lib.IntN.{ℤ}
 use Rattle.text_lexical.specs.Bytes.{Result, value, refused, lower}
 use Rattle.text.specs.Tokens.{Token, identifier, register, number, hex, binary, directive, comma, colon, opening, closing}
+use Rattle.text.specs.Values.{readNumber}
 use Rattle.text.specs.Lines.{Line}
 use Rattle.instruction.specs.Table.{Place, reg, num, comma-place, opening-place, closing-place, places, Row, rowNamed}
 
@@ -19,20 +20,6 @@ pub record Instruction : Type 0 where
   pub number : Option ℤ
 
 -- ---- one operand token
-
--- The number that a token means: Number, Hex or Binary. (`extract_number` turns the last two into i64, which leaves the same
--- modulo 2^64, and so modulo every field.)
-unfoldable pub readNumber : Token → Option ℤ
-readNumber (number z) = some z
-readNumber (hex n) = some (pos n)
-readNumber (binary n) = some (pos n)
-readNumber (identifier s) = none
-readNumber (register r) = none
-readNumber (directive s) = none
-readNumber comma = none
-readNumber colon = none
-readNumber opening = none
-readNumber closing = none
 
 -- The spelling of an Identifier.
 unfoldable pub readIdentifier : Token → Option (List ℕ)
@@ -94,8 +81,7 @@ withNumber z (refused k) = refused k
 -- A token at a place, before what stands behind it: "operands left to right", so its own refusal comes first.
 unfoldable pub readPlace : Place → Token → Result Operands → Result Operands
 readPlace (reg bit) t rest = elim (readRegister t) [ value n ↦ withRegister n rest | refused k ↦ refused k ]
--- "8 number expected (also operands)"
-readPlace (num bit width signed) t rest = elim (readNumber t) [ some z ↦ withNumber z rest | none ↦ refused 8 ]
+readPlace (num bit width signed) t rest = elim (readNumber t) [ value z ↦ withNumber z rest | refused k ↦ refused k ]
 -- "19 comma, 20 `(`, 21 `)` expected"
 readPlace comma-place t rest = elim (eqb (markByte t) 44) [ true ↦ rest | false ↦ refused 19 ]
 readPlace opening-place t rest = elim (eqb (markByte t) 40) [ true ↦ rest | false ↦ refused 20 ]

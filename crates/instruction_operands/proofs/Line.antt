@@ -11,8 +11,7 @@ use lib.Dec.{eqb}
 use borrow.Author.Tests.{eq-eqb, ne-eqb}
 use Rattle.text_lexical.specs.Bytes.{Result, value, refused, lower, find}
 use Rattle.text_lexical.specs.Contracts.{keyOf}
-use Rattle.text_lexical.proofs.Tests.{split}
-use Rattle.text_lexical.proofs.Keys.{Below}
+use Rattle.text_lexical.proofs.Keys.{Below, lowered-below}
 use Rattle.text.specs.Tokens.{Token}
 use Rattle.text.specs.Lines.{Line}
 use Rattle.text.specs.Contracts.{kindMeant, filler, firsts, meant, spelling}
@@ -29,20 +28,8 @@ use Rattle.instruction_operands.specs.declared.assembler.Operand.the-var
 use Rattle.instruction.specs.declared.instruction.Operands.{Operands}
 use Rattle.instruction.proofs.Columns.{form-numbered}
 use Rattle.instruction.proofs.Lookup.{row-by-key}
-use Rattle.instruction_operands.proofs.Parsing.{lowered-below}
 
 -- ---- forms by their numbers
-
--- What holds of each of k numbers from one on.
-abbrev pub Each : (ℕ → Type 0) → ℕ → ℕ → Type 0
-Each P lo zero = Unit {0}
-Each P lo (suc k) = P lo × Each P (suc lo) k
-
--- It holds of a number that is one of them.
-pub in-run : (P : ℕ → Type 0) (lo k n : ℕ) → lo ≤ n → n < lo + k → Each P lo k → P n
-in-run P lo zero n l h e = absurd (omega arith)
-in-run P lo (suc k) n l h e =
-    split lo n (λ m. in-run P (suc lo) k n m (omega arith) (e .1)) (λ m. let q : lo ≡ n = omega arith in subst P q (e .0))
 
 -- The numbers past the forms' are System's.
 pub past-forms : (n : ℕ) → 5 ≤ n → (n ≡ 5 → ⊥) → (n ≡ 6 → ⊥) → formAt n ≡ System

@@ -1,26 +1,22 @@
 -- Operands as the code reads them: a register's, a number's and a mark's place, and the tokens behind a mnemonic.
-use Prim.Native.Nat.{ℕ, _<_}
-use native.Mathlib.Omega.{arith}
+use Prim.Native.Nat.{ℕ}
 use mathlib.Core.Path.{_≡_, refl, ap}
 use mathlib.Core.Bool.{Bool, true, false}
-use mathlib.Core.List.{List, map}
-use lib.ListN.{getD, List·getD-map}
+use mathlib.Core.List.{List}
 use lib.Dec.{eqb}
 use borrow.Author.Tests.{eq-eqb, ne-eqb}
-use Rattle.text_lexical.specs.Bytes.{Result, refused, between, lower}
+use Rattle.text_lexical.specs.Bytes.{Result, refused}
 use Rattle.text_lexical.specs.Contracts.{indexOf, wholeMeant}
 use Rattle.text_lexical.specs.declared.number.Whole.{Whole}
 use Rattle.text_lexical.specs.declared.register.Register.{Register as Named}
-use Rattle.text_lexical.proofs.Tests.{by-test, between-true}
-use Rattle.text_lexical.proofs.Keys.{Below}
 use Rattle.text.specs.Tokens.{Token}
-use Rattle.text.specs.Contracts.{kindMeant, extracted, extractMeant, numberOf}
+use Rattle.text.specs.Contracts.{kindMeant, extracted, extractMeant}
 use Rattle.text.specs.declared.lexer.Kind.{Kind}
-use Rattle.text.specs.declared.lexer.Kind.the-variants.{Identifier, Register, NoRegister, Number, Negative, Hex, Binary, Directive, Comma, Colon, LParen, RParen}
 use Rattle.text.specs.declared.parser.Extracted.{Extracted}
-use Rattle.text.specs.declared.parser.Extracted.the-variants.{Number as Extract, NoNumber}
+use Rattle.text.specs.declared.parser.Extracted.the-variants.{Number as Extract, Refused as NoNumber}
+use Rattle.text.proofs.Meanings.{extracted-number}
 use Rattle.instruction.specs.Table.{Place, reg, num, comma-place, opening-place, closing-place}
-use Rattle.instruction.specs.Operands.{Operands, readRegister, readNumber, markByte, withRegister, withNumber, readPlace}
+use Rattle.instruction.specs.Operands.{Operands, readRegister, markByte, withRegister, withNumber, readPlace}
 use Rattle.instruction_operands.specs.Contracts.{registerMeant, behindRegister}
 use Rattle.instruction_operands.specs.declared.assembler.RegisterOperand.{RegisterOperand}
 use Rattle.instruction_operands.specs.declared.assembler.RegisterOperand.the-variants.{Is, Refused}
@@ -54,34 +50,18 @@ place-read {r} bit t rest g e h = register-read rest g (place bit t rest r e) h
 
 -- ---- a number
 
--- The number that a kind's token means is the kind's.
-pub number-kind : (k : Kind) (u : List ℕ) → readNumber (kindMeant k u) ≡ numberOf k
-unfolding readNumber
-number-kind Identifier u = refl
-number-kind (Register r) u = refl
-number-kind NoRegister u = refl
-number-kind (Number n) u = refl
-number-kind (Negative n) u = refl
-number-kind (Hex n) u = refl
-number-kind (Binary n) u = refl
-number-kind Directive u = refl
-number-kind Comma u = refl
-number-kind Colon u = refl
-number-kind LParen u = refl
-number-kind RParen u = refl
-
 -- A token at a number's place that is none.
-pub number-refused : {r : Extracted} (bit width : ℕ) (signed : Bool) (k : Kind) (u : List ℕ) (rest : Result Operands)
-    → r ≡ NoNumber → r ≡ extracted k → refused 8 ≡ readPlace (num bit width signed) (kindMeant k u) rest
+pub number-refused : {r : Extracted} {n : ℕ} (bit width : ℕ) (signed : Bool) (k : Kind) (u : List ℕ) (rest : Result Operands)
+    → r ≡ NoNumber n → r ≡ extracted k → refused n ≡ readPlace (num bit width signed) (kindMeant k u) rest
 unfolding readPlace
-number-refused bit width signed k u rest g e = rw (readPlace, number-kind k u, ← ap extractMeant e, g)
+number-refused bit width signed k u rest g e = rw (readPlace, ← extracted-number k u, ← ap extractMeant e, g)
 
 -- A number stands in front of what is read behind it.
 pub number-read : {r : Extracted} {found : Whole} (bit width : ℕ) (signed : Bool) (k : Kind) (u : List ℕ) (rest : Result Operands) {read : Result Operands}
     → r ≡ Extract found → r ≡ extracted k → read ≡ rest
     → withNumber (wholeMeant found) read ≡ readPlace (num bit width signed) (kindMeant k u) rest
 unfolding readPlace
-number-read bit width signed k u rest g e h = rw (readPlace, number-kind k u, ← ap extractMeant e, g, h)
+number-read bit width signed k u rest g e h = rw (readPlace, ← extracted-number k u, ← ap extractMeant e, g, h)
 
 -- ---- marks
 
@@ -107,19 +87,3 @@ mark-read {p} {byte} {n} {m} asks t rest e h = rw (asks .reads t rest, ← e, eq
 pub mark-refused : {p : Place} {byte n m : ℕ} → Asks p byte n → (t : Token) (rest : Result Operands)
     → m ≡ markByte t → (m ≡ byte → ⊥) → refused n ≡ readPlace p t rest
 mark-refused {p} {byte} {n} {m} asks t rest e h = rw (asks .reads t rest, ← e, ne-eqb m byte h)
-
--- ---- lower case
-
--- Lower case leaves a byte a byte.
-pub lower-below : (b : ℕ) → b < 256 → lower b < 256
-unfolding lower
-lower-below b h =
-    by-test (between 65 90 b) (λ e. let r = between-true 65 90 b e in rw (lower, e) (omega arith)) (λ e. rw (lower, e) h)
-
--- The byte at a place, in lower case.
-pub lower-at : (s : List ℕ) (i : ℕ) → getD (map lower s) i 0 ≡ lower (getD s i 0)
-unfolding lower between
-lower-at s i = List·getD-map lower s i 0
-
-pub lowered-below : (s : List ℕ) → Below s → Below (map lower s)
-lowered-below s h i = rw (lower-at s i) (lower-below (getD s i 0) (h i))

@@ -1,11 +1,10 @@
 // Operands: the tokens of a line read as an instruction.
 ghost use mathlib.Core.Path.{_≡_};
 ghost use mathlib.Core.Bool.{Bool};
-ghost use mathlib.Core.List.{List, [], _∷_, map};
+ghost use mathlib.Core.List.{List, [], _∷_};
 ghost use Prim.Native.Nat.{ℕ, _+_, _-_, _≤_, _<_};
 ghost use lib.ListN.{length, drop};
-ghost use Rattle.text_lexical.specs.Bytes.{Result, lower};
-ghost use Rattle.text_lexical.specs.Contracts.{keyOf};
+ghost use Rattle.text_lexical.specs.Bytes.{Result};
 ghost use Rattle.text.specs.Contracts.{kindMeant, firsts};
 ghost use Rattle.instruction.specs.Table.{reg, num, comma-place, opening-place, closing-place, R, Jump, places};
 ghost use Rattle.instruction.specs.Operands.{readRegister, markByte, readPlace, readRow, readInstruction, behind};
@@ -156,7 +155,7 @@ fn parse_i_type(k: Six) -> Operand
         RegisterOperand::Is(first) => match register_comma(c, d) {
             RegisterOperand::Refused(n) => Operand::Refused(n),
             RegisterOperand::Is(second) => match text::parser::extract_number(e) {
-                Extracted::NoNumber => Operand::Refused(8),
+                Extracted::Refused(n) => Operand::Refused(n),
                 Extracted::Number(number) => are(first, second, Register::R0, number),
             },
         },
@@ -176,7 +175,7 @@ fn parse_memory(k: Six) -> Operand
     match register_comma(a, b) {
         RegisterOperand::Refused(n) => Operand::Refused(n),
         RegisterOperand::Is(first) => match text::parser::extract_number(c) {
-            Extracted::NoNumber => Operand::Refused(8),
+            Extracted::Refused(n) => Operand::Refused(n),
             Extracted::Number(number) => match base_register(d, e, f) {
                 RegisterOperand::Refused(n) => Operand::Refused(n),
                 RegisterOperand::Is(second) => are(first, second, Register::R0, number),
@@ -195,7 +194,7 @@ fn parse_jal(k: Six) -> Operand
     match register_comma(a, b) {
         RegisterOperand::Refused(n) => Operand::Refused(n),
         RegisterOperand::Is(first) => match text::parser::extract_number(c) {
-            Extracted::NoNumber => Operand::Refused(8),
+            Extracted::Refused(n) => Operand::Refused(n),
             Extracted::Number(number) => are(first, Register::R0, Register::R0, number),
         },
     }
@@ -250,22 +249,6 @@ fn six_behind(tokens: [Token; 9], at: usize) -> Six
     Six { a, b, c, d, e, f }
 }
 
-// The key of a spelling in lower case.
-fn lower_key(spelling: &[u8]) -> u64
-    ensures { λ r. ⌜ r ≡ keyOf (map lower (now (spelling .entry))) ⌝ }
-{
-    if 7 < spelling.len() {
-        return 0;
-    }
-    let mut key: u64 = 1;
-    let mut i = spelling.len();
-    while 0 < i {
-        i -= 1;
-        key = key * 256 + text_lexical::number::wide(text_lexical::bytes::to_lower(spelling[i]));
-    }
-    key
-}
-
 // The instruction of a row, by the operand tokens behind the mnemonic at `at`: 16, then the operands.
 fn parse_row(row: usize, form: u8, line: Line, at: usize) -> Parsed
     requires { ⌜ row < 50 ⌝ ∗ ⌜ form ≡ formNumber (rowAt row .form) ⌝ ∗ ⌜ at < line .count ⌝ ∗ ⌜ at ≤ 2 ⌝ ∗ ⌜ length (line .tokens) ≡ 9 ⌝ }
@@ -307,7 +290,7 @@ pub fn parse_instruction(
     };
     let start = token.start;
     let end = start + token.length;
-    let key = lower_key(&source[start..end]);
+    let key = text_lexical::name::lower_key(&source[start..end]);
     match instruction::opcode::find_mnemonic(key, mnemonics, slots) {
         Row::Missing => Parsed::Refused(15),
         Row::At(row) => parse_row(row, forms[row], line, at),

@@ -1,4 +1,4 @@
--- A token's kind, by its meaning and its spelling, means that token again, and has the sign of that spelling.
+-- A token's kind, by its meaning and its spelling, means that token again, has the sign of that spelling, and the token's number.
 use Prim.Native.Nat.{ℕ, zero, suc, _^_}
 use mathlib.Core.Path.{_≡_, refl, ap}
 use native.Mathlib.Omega.{arith}
@@ -16,8 +16,9 @@ use Rattle.text_lexical.proofs.Tests.{by-test, no-both}
 use Rattle.text_lexical.proofs.Strings.{found}
 use Rattle.text_lexical.proofs.Registers.{index-register}
 use Rattle.text.specs.Tokens.{Class, Register, Identifier, Number, Hex, Binary, Directive, Mark, Match, Token, identifier, register, number, hex, binary, directive, comma, colon, opening, closing, within, numberToken, patternToken, registerToken, markToken, tokenOf, Sized, sized, matched, front, longest}
+use Rattle.text.specs.Values.{readNumber}
 use Rattle.text.specs.NameSets.{isNumbered}
-use Rattle.text.specs.Contracts.{kindMeant, registerKind, kindFor}
+use Rattle.text.specs.Contracts.{extracted, extractMeant, kindMeant, registerKind, kindFor}
 use Rattle.text.specs.declared.lexer.Kind.{Kind}
 use Rattle.text.specs.declared.lexer.Kind.the-variants.{Identifier as IdentifierKind, Register as RegisterKind, NoRegister, Number as NumberKind, Negative, Hex as HexKind, Binary as BinaryKind, Directive as DirectiveKind, Comma, Colon, LParen, RParen}
 
@@ -154,3 +155,21 @@ kind-signed closing u = ((λ h. absurd (omega arith)), (λ h. absurd (omega arit
 pub kind-sign : (m : Token) (u : List ℕ) (n : ℕ) → (kindFor m u ≡ Negative n → getD u 0 0 ≡ 45) × (kindFor m u ≡ NumberKind n → getD u 0 0 ≡ 45 → ⊥)
 unfolding signed
 kind-sign m u n = ((λ e. kind-signed m u .0 (ap signed e)), (λ e. kind-signed m u .1 (ap signed e)))
+
+-- ---- the number
+
+-- The number of a kind is the one that its token means.
+pub extracted-number : (k : Kind) (u : List ℕ) → extractMeant (extracted k) ≡ readNumber (kindMeant k u)
+unfolding readNumber
+extracted-number IdentifierKind u = refl
+extracted-number (RegisterKind r) u = refl
+extracted-number NoRegister u = refl
+extracted-number (NumberKind n) u = refl
+extracted-number (Negative n) u = refl
+extracted-number (HexKind n) u = refl
+extracted-number (BinaryKind n) u = refl
+extracted-number DirectiveKind u = refl
+extracted-number Comma u = refl
+extracted-number Colon u = refl
+extracted-number LParen u = refl
+extracted-number RParen u = refl

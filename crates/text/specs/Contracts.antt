@@ -7,7 +7,7 @@ use mathlib.Core.List.{List, [], _∷_, _++_, map}
 use lib.ListN.{length, take, drop, getD, replicate}
 use lib.Dec.{eqb}
 use lib.IntN.{ℤ, pos, natAbs}
-use Rattle.text_lexical.specs.Bytes.{digit, nameStart, blank, margin, run}
+use Rattle.text_lexical.specs.Bytes.{Result, value, refused, digit, nameStart, blank, margin, run}
 use Rattle.text_lexical.specs.Numbers.{minus}
 use Rattle.text_lexical.specs.Names.{present}
 use Rattle.text_lexical.specs.Contracts.{indexOf, registerAt, wholeMeant}
@@ -20,34 +20,30 @@ use Rattle.text.specs.declared.lexer.Token.{Token}
 use Rattle.text.specs.declared.lexer.Scan.{Scan}
 use Rattle.text.specs.declared.lexer.Scan.the-variants.{Found, Bad, End}
 use Rattle.text.specs.declared.parser.Extracted.{Extracted}
-use Rattle.text.specs.declared.parser.Extracted.the-variants.{Number as Extract, NoNumber}
+use Rattle.text.specs.declared.parser.Extracted.the-variants.{Number as Extract, Refused as NoNumber}
 use Rattle.text.specs.declared.parser.Line.{Line}
 use Rattle.text.specs.declared.reader.Reader.{Reader}
 
 -- ---- numbers
 
--- The whole number of a kind, by its sign and its magnitude: only a kind with a sign is negative.
+-- The whole number of a kind, by its sign and its magnitude: only a kind with a sign is negative. It means what `Values.readNumber` reads.
 abbrev pub extracted : Kind → Extracted
 extracted (Number n) = Extract (record { negative = false; magnitude = n })
 extracted (Negative n) = Extract (record { negative = true; magnitude = n })
 extracted (Hex n) = Extract (record { negative = false; magnitude = n })
 extracted (Binary n) = Extract (record { negative = false; magnitude = n })
-extracted Identifier = NoNumber
-extracted (RegisterKind r) = NoNumber
-extracted NoRegister = NoNumber
-extracted Directive = NoNumber
-extracted Comma = NoNumber
-extracted Colon = NoNumber
-extracted LParen = NoNumber
-extracted RParen = NoNumber
+extracted Identifier = NoNumber 8
+extracted (RegisterKind r) = NoNumber 8
+extracted NoRegister = NoNumber 8
+extracted Directive = NoNumber 8
+extracted Comma = NoNumber 8
+extracted Colon = NoNumber 8
+extracted LParen = NoNumber 8
+extracted RParen = NoNumber 8
 
-abbrev pub extractMeant : Extracted → Option ℤ
-extractMeant (Extract w) = some (wholeMeant w)
-extractMeant NoNumber = none
-
--- The number that a kind means.
-abbrev pub numberOf : Kind → Option ℤ
-numberOf k = extractMeant (extracted k)
+abbrev pub extractMeant : Extracted → Result ℤ
+extractMeant (Extract w) = value (wholeMeant w)
+extractMeant (NoNumber n) = refused n
 
 -- ---- tokens
 

@@ -1,4 +1,5 @@
 pub mod Tokens
+pub mod Values
 pub mod Lines
 pub mod NameSets
 pub mod Places

@@ -10,12 +10,13 @@ use crate::lexer::Token;
 use text_lexical::bytes::Class;
 use text_lexical::number::Whole;
 
+// A number, or why there is none.
 pub enum Extracted {
     Number(Whole),
-    NoNumber,
+    Refused(u8),
 }
 
-// The whole number that a token means, with the sign of its spelling.
+// The whole number that a token means, with the sign of its spelling: 8. Operands and `.config` read their numbers by this function.
 pub fn extract_number(kind: Kind) -> Extracted
     ensures { λ r. ⌜ r ≡ extracted kind ⌝ }
 {
@@ -29,7 +30,7 @@ pub fn extract_number(kind: Kind) -> Extracted
             negative: true,
             magnitude,
         }),
-        _ => Extracted::NoNumber,
+        _ => Extracted::Refused(8),
     }
 }
 

@@ -1,19 +1,18 @@
--- Keys: a spelling of at most seven bytes is told by its key, and a name is found by it.
+-- Keys: a spelling of at most seven bytes is told by its key, and an entry of a list is found by it.
 use mathlib.Core.Path.{_≡_, refl, sym, ap, _∙_}
 use Prim.Native.Nat.{ℕ, zero, suc, _+_, _-_, _*_, _^_, _≤_, _<_}
 use native.Mathlib.Nat.{pow-suc}
 use native.Mathlib.Omega.{arith}
 use mathlib.Core.Bool.{Bool, true, false}
-use mathlib.Core.List.{List, [], _∷_}
-use mathlib.Core.Option.{Option, none}
-use lib.ListN.{length, drop, getD, length-drop}
+use mathlib.Core.List.{List, [], _∷_, map}
+use mathlib.Core.Option.{Option}
+use lib.ListN.{length, drop, getD, length-drop, List·getD-map}
 use lib.Seq.{drop-cons, drop-length, getD-drop}
 use lib.Dec.{leb, ltb, eqb}
-use borrow.Author.Tests.{le-leb, lt-leb, ne-eqb, eqb-true, eqb-false, leb-true, ltb-true}
-use Rattle.text_lexical.specs.Bytes.{bytes, same, find, every, each}
-use Rattle.text_lexical.specs.Names.{Name, name, named, numbered, conventional, present}
-use Rattle.text_lexical.specs.Contracts.{packed, keyOf, nameNumber}
-use Rattle.text_lexical.proofs.Tests.{split, by-test, both, not-true}
+use borrow.Author.Tests.{le-leb, lt-leb, eqb-true, eqb-false, leb-true, ltb-true}
+use Rattle.text_lexical.specs.Bytes.{between, lower, same, find, every, each}
+use Rattle.text_lexical.specs.Contracts.{packed, keyOf}
+use Rattle.text_lexical.proofs.Tests.{split, by-test, both, not-true, between-true}
 use Rattle.text_lexical.proofs.Strings.{every-head, every-tail, same-eq, eq-same}
 
 -- Every byte is below 256.
@@ -114,29 +113,18 @@ found-by-key spell (a ∷ l) ok s h =
     let e = same-key (spell a) s (leb-true (length (spell a)) 7 n) (every-below (spell a) b) h in
     by-test (eqb (keyOf (spell a)) (keyOf s)) (λ t. rw (find, e, t)) (λ t. rw (find, e, t) (found-by-key spell l kl s h))
 
--- No entry has the key.
-unfoldable pub NoKey : {A : Type 0} → (A → List ℕ) → List A → ℕ → Type 0
-NoKey spell [] k = Unit {0}
-NoKey spell (a ∷ l) k = (k ≡ keyOf (spell a) → ⊥) × NoKey spell l k
+-- ---- lower case
 
-pub none-by-key : {A : Type 0} (spell : A → List ℕ) (l : List A) (k : ℕ) → NoKey spell l k → byKey spell l k ≡ none
-unfolding byKey find NoKey
-none-by-key spell [] k h = refl
-none-by-key spell (a ∷ l) k h = rw (find, ne-eqb (keyOf (spell a)) k (λ e. h .0 (sym e))) (none-by-key spell l k (h .1))
+-- Lower case leaves a byte a byte.
+pub lower-below : (b : ℕ) → b < 256 → lower b < 256
+unfolding lower
+lower-below b h =
+    by-test (between 65 90 b) (λ e. let r = between-true 65 90 b e in rw (lower, e) (omega arith)) (λ e. rw (lower, e) h)
 
--- ---- the present names
+-- The byte at a place, in lower case.
+pub lower-at : (s : List ℕ) (i : ℕ) → getD (map lower s) i 0 ≡ lower (getD s i 0)
+unfolding lower between
+lower-at s i = List·getD-map lower s i 0
 
-abbrev pub spellingOf : Name → List ℕ
-spellingOf n = n .spelling
-
-present-keyed : each (λ n. isKeyed (n .spelling)) present ≡ true
-unfolding each isKeyed present numbered conventional name bytes every
-present-keyed = refl
-
-pub present-key : (s : List ℕ) (k l : ℕ) → Below s → k ≡ keyOf s → k ≡ l → nameNumber (byKey spellingOf present l) ≡ nameNumber (named present s)
-unfolding named
-present-key s k l h e q = rw (found-by-key spellingOf present present-keyed s h, ← e, q)
-
-pub present-none : (s : List ℕ) (k : ℕ) → Below s → k ≡ keyOf s → NoKey spellingOf present k → none ≡ nameNumber (named present s)
-unfolding named
-present-none s k h e n = rw (found-by-key spellingOf present present-keyed s h, ← e, none-by-key spellingOf present k n)
+pub lowered-below : (s : List ℕ) → Below s → Below (map lower s)
+lowered-below s h i = rw (lower-at s i) (lower-below (getD s i 0) (h i))

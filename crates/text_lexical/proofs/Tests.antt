@@ -1,6 +1,7 @@
 -- Tests on numbers and bytes, and what follows from their answers.
-use mathlib.Core.Path.{_≡_, refl, sym, _∙_}
-use Prim.Native.Nat.{ℕ, _≤_, _<_}
+use mathlib.Core.Path.{_≡_, refl, sym, _∙_, subst}
+use Prim.Native.Nat.{ℕ, zero, suc, _+_, _≤_, _<_}
+use native.Mathlib.Omega.{arith}
 use native.Mathlib.Nat.{lt-of-not-le}
 use native.Mathlib.Decide.{decLe}
 use mathlib.Core.Bool.{Bool, true, false, _||_, true≢false, and-eq-true-iff}
@@ -53,3 +54,16 @@ between-true lo hi b h =
 pub true-between : (lo hi b : ℕ) → lo ≤ b → b ≤ hi → between lo hi b ≡ true
 unfolding between
 true-between lo hi b l h = rw (le-leb lo b l, le-leb b hi h)
+
+-- ---- runs of numbers
+
+-- What holds of each of k numbers from one on.
+abbrev pub Each : (ℕ → Type 0) → ℕ → ℕ → Type 0
+Each P lo zero = Unit {0}
+Each P lo (suc k) = P lo × Each P (suc lo) k
+
+-- It holds of a number that is one of them.
+pub in-run : (P : ℕ → Type 0) (lo k n : ℕ) → lo ≤ n → n < lo + k → Each P lo k → P n
+in-run P lo zero n l h e = absurd (omega arith)
+in-run P lo (suc k) n l h e =
+    split lo n (λ m. in-run P (suc lo) k n m (omega arith) (e .1)) (λ m. let q : lo ≡ n = omega arith in subst P q (e .0))

@@ -63,12 +63,16 @@ abbrev pub nameNumber : Option Name → Option (Option ℕ)
 nameNumber none = none
 nameNumber (some n) = some (n .number)
 
+-- The register with a number, if it is one of the sixteen.
+unfoldable pub registerNumber : ℕ → Option ℕ
+registerNumber n = elim (ltb n 16) [ true ↦ some n | false ↦ none ]
+
 abbrev pub nameMeant : RegisterName → Option (Option ℕ)
 nameMeant (Is r) = some (some (indexOf r))
 nameMeant NoSuch = some none
 nameMeant Other = none
 
--- The bytes of a spelling as a number, the first lowest, with a 1 behind them.
+-- The bytes of a spelling as a number, the first lowest, with a 1 after them.
 unfoldable pub packed : List ℕ → ℕ
 packed [] = 1
 packed (b ∷ s) = b + 256 * packed s

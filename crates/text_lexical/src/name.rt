@@ -1,7 +1,10 @@
-// Register names, and the keys by which they are told.
+// Register names, looked up by their bytes, and the packed keys by which other words are told apart.
 ghost use mathlib.Core.Path.{_≡_};
+ghost use mathlib.Core.List.{[], _∷_, map};
+ghost use mathlib.Core.Option.{some};
+ghost use Rattle.text_lexical.specs.Bytes.{lower};
 ghost use Rattle.text_lexical.specs.Names.{named, present};
-ghost use Rattle.text_lexical.specs.Contracts.{keyOf, nameMeant, nameNumber};
+ghost use Rattle.text_lexical.specs.Contracts.{keyOf, nameMeant, nameNumber, registerNumber};
 use crate::register::Register;
 
 pub enum RegisterName {
@@ -12,9 +15,105 @@ pub enum RegisterName {
     Other,
 }
 
-// The key of a spelling: its bytes, the first lowest, with a 1 behind them; 0 where there are more than seven.
-fn key(spelling: &[u8]) -> u64
-    ensures { λ r. ⌜ r ≡ keyOf (now (spelling .entry)) ⌝ }
+// The names of two bytes, by the last three bits of the first byte, which tell the letters apart: a branch for each letter would often be
+// guessed wrong. Each table has eight bytes, so that it stays in a register.
+//
+// The letter itself; where there is none, a byte with other last bits.
+const LETTERS: [u8; 8] = [1, b'a', b'r', b's', b't', 0, b'f', b'g'];
+// How many digits may follow the letter, and the register's number for the digit 0.
+const DIGITS: [u8; 8] = [0, 6, 10, 2, 3, 0, 0, 0];
+
+const FIRSTS: [u8; 8] = [0, 11, 0, 6, 8, 0, 0, 0];
+// The other byte that may follow (ra; sp, tp, fp and gp), and its register's number; `a` has only digits.
+const SECONDS: [u8; 8] = [0, b'0', b'a', b'p', b'p', 0, b'p', b'p'];
+
+const OTHERS: [u8; 8] = [0, 11, 1, 2, 4, 0, 5, 3];
+
+// The register with a number; a name with a higher number (a5) names none.
+fn numbered(number: u8) -> RegisterName
+    ensures { λ r. ⌜ nameMeant r ≡ some (registerNumber number) ⌝ }
+{
+    if number < 16 {
+        return RegisterName::Is(Register::from_index(number));
+    }
+    RegisterName::NoSuch
+}
+
+// The register that two bytes name.
+pub fn two_bytes(first: u8, second: u8) -> RegisterName
+    ensures { λ r. ⌜ nameMeant r ≡ nameNumber (named present (first ∷ second ∷ [])) ⌝ }
+{
+    let slot = (first % 8) as usize;
+    if LETTERS[slot] != first {
+        return RegisterName::Other;
+    }
+    if b'0' <= second {
+        let digit = second - b'0';
+        if digit < DIGITS[slot] {
+            return numbered(FIRSTS[slot] + digit);
+        }
+    }
+    if second == SECONDS[slot] {
+        return numbered(OTHERS[slot]);
+    }
+    RegisterName::Other
+}
+
+// The register that three bytes name: r10 to r15.
+pub fn three_bytes(first: u8, second: u8, third: u8) -> RegisterName
+    ensures { λ r. ⌜ nameMeant r ≡ nameNumber (named present (first ∷ second ∷ third ∷ [])) ⌝ }
+{
+    if first != b'r' {
+        return RegisterName::Other;
+    }
+    if second != b'1' {
+        return RegisterName::Other;
+    }
+    if !crate::bytes::within(b'0', b'5', third) {
+        return RegisterName::Other;
+    }
+    numbered(third - 38)
+}
+
+// The register that four bytes name: zero.
+pub fn four_bytes(first: u8, second: u8, third: u8, fourth: u8) -> RegisterName
+    ensures { λ r. ⌜ nameMeant r ≡ nameNumber (named present (first ∷ second ∷ third ∷ fourth ∷ [])) ⌝ }
+{
+    if first != b'z' {
+        return RegisterName::Other;
+    }
+    if second != b'e' {
+        return RegisterName::Other;
+    }
+    if third != b'r' {
+        return RegisterName::Other;
+    }
+    if fourth != b'o' {
+        return RegisterName::Other;
+    }
+    RegisterName::Is(Register::R0)
+}
+
+// The register that a spelling names, by the present names.
+pub fn parse_register(name: &[u8]) -> RegisterName
+    ensures { λ r. ⌜ nameMeant r ≡ nameNumber (named present (now (name .entry))) ⌝ }
+{
+    let length = name.len();
+    if length == 2 {
+        return two_bytes(name[0], name[1]);
+    }
+    if length == 3 {
+        return three_bytes(name[0], name[1], name[2]);
+    }
+    if length == 4 {
+        return four_bytes(name[0], name[1], name[2], name[3]);
+    }
+    RegisterName::Other
+}
+
+// The key of a spelling in lower case: its bytes, the first lowest, with a 1 after them; 0 where there are more than seven.
+pub fn lower_key(spelling: &[u8]) -> u64
+    ensures { λ r. ⌜ r ≡ keyOf (map lower (now (spelling .entry))) ⌝ }
 {
     if 7 < spelling.len() {
         return 0;
@@ -23,51 +122,7 @@ fn key(spelling: &[u8]) -> u64
     let mut i = spelling.len();
     while 0 < i {
         i -= 1;
-        key = key * 256 + crate::number::wide(spelling[i]);
+        key = key * 256 + crate::number::wide(crate::bytes::to_lower(spelling[i]));
     }
     key
-}
-
-// The register that a spelling names, by the present names.
-pub fn parse_register(name: &[u8]) -> RegisterName
-    ensures { λ r. ⌜ nameMeant r ≡ nameNumber (named present (now (name .entry))) ⌝ }
-{
-    let k = key(name);
-    match k {
-        // r0 zero
-        0x13072 | 0x16F72657A => RegisterName::Is(Register::R0),
-        // r1 ra
-        0x13172 | 0x16172 => RegisterName::Is(Register::R1),
-        // r2 sp
-        0x13272 | 0x17073 => RegisterName::Is(Register::R2),
-        // r3 gp
-        0x13372 | 0x17067 => RegisterName::Is(Register::R3),
-        // r4 tp
-        0x13472 | 0x17074 => RegisterName::Is(Register::R4),
-        // r5 fp
-        0x13572 | 0x17066 => RegisterName::Is(Register::R5),
-        // r6 s0
-        0x13672 | 0x13073 => RegisterName::Is(Register::R6),
-        // r7 s1
-        0x13772 | 0x13173 => RegisterName::Is(Register::R7),
-        // r8 t0
-        0x13872 | 0x13074 => RegisterName::Is(Register::R8),
-        // r9 t1
-        0x13972 | 0x13174 => RegisterName::Is(Register::R9),
-        // r10 t2
-        0x1303172 | 0x13274 => RegisterName::Is(Register::R10),
-        // r11 a0
-        0x1313172 | 0x13061 => RegisterName::Is(Register::R11),
-        // r12 a1
-        0x1323172 | 0x13161 => RegisterName::Is(Register::R12),
-        // r13 a2
-        0x1333172 | 0x13261 => RegisterName::Is(Register::R13),
-        // r14 a3
-        0x1343172 | 0x13361 => RegisterName::Is(Register::R14),
-        // r15 a4
-        0x1353172 | 0x13461 => RegisterName::Is(Register::R15),
-        // a5
-        0x13561 => RegisterName::NoSuch,
-        _ => RegisterName::Other,
-    }
 }

@@ -44,8 +44,8 @@ array-copy-out-value c = search needs
 extract-number-requires : tie.Need-extract-number-requires
 extract-number-requires c κs = search needs
 
-enum-told-2 : tie.Need-enum-told-2
-enum-told-2 c = search needs
+enum-known-n : tie.Need-enum-known-n
+enum-known-n c = search needs
 
 enum-known-whole : tie.Need-enum-known-whole
 enum-known-whole c = search needs
@@ -85,12 +85,13 @@ set-field-requires c κs = search needs
 
 returns-3 : tie.Need-returns-3
 returns-3 c =
-    let x = c .before .before in
+    let w = c .before in
+    let x = w .before .before in
     let k = x .before .before in
     let e = k .before .before .before in
     let s = e .before .before .before .before in
-    sym (config-number (settingsMeant (s .args .config)) (s .args .source .now) (s .args .line) past (s .pre .nine) (e .if1 .left) (k .enum-told .given .1)
-    (sym (ap extractMeant (rw (c .enum-told2 .given .1) at (x .extract-number .ensures)))))
+    sym (config-number (settingsMeant (s .args .config)) (s .args .source .now) (s .args .line) past (s .pre .nine) (e .if1 .left) (k .enum-told .given .1) _
+    (sym (ap extractMeant (rw (w .n .given .1) at (x .extract-number .ensures)))))
 
 returns-4 : tie.Need-returns-4
 returns-4 c =
@@ -118,7 +119,7 @@ parse-config-spec =
     returns-2
     array-copy-out-value
     extract-number-requires
-    enum-told-2
+    enum-known-n
     enum-known-whole
     add-end
     sub-set-field

@@ -1,9 +1,11 @@
 -- `image_line::fast::read_tail` meets its contract. The loop's invariant: what has been read of the operands, and which are ahead.
-use mathlib.Core.Path.{refl, sym, _∙_}
+use mathlib.Core.Path.{refl, sym, ap, _∙_}
 use mathlib.Core.Logic.{⊎-elim}
 use native.Mathlib.Omega.{arith}
 use borrow.Author.Needs.{needs}
 use Rattle.text_lexical.specs.declared.register.Register.the-variants.{R0}
+use Rattle.text.specs.Contracts.{extractMeant}
+use Rattle.text.proofs.Meanings.{extracted-number}
 use Rattle.image_line.proofs.Operands.{Reading, reading-begin, reading-register, reading-number, room-ahead, reading-end, mark-any}
 use Rattle.image_line.proofs.fast.read_tail.Statement.{statement}
 use Rattle.image_line.proofs.fast.read_tail.Tie as tie
@@ -34,17 +36,29 @@ enum-told c = search needs
 returns : tie.Need-returns Inv-loop μ-loop
 returns c = tt
 
-enum-known-n : tie.Need-enum-known-n Inv-loop μ-loop
-enum-known-n c = search needs
+enum-known-kind : tie.Need-enum-known-kind Inv-loop μ-loop
+enum-known-kind c = search needs
 
-register-at-requires : tie.Need-register-at-requires Inv-loop μ-loop
-register-at-requires c κs = c .before .before .before .loop .inv .partly .place
+extract-number-requires : tie.Need-extract-number-requires Inv-loop μ-loop
+extract-number-requires c κs = search needs
 
 enum-told-2 : tie.Need-enum-told-2 Inv-loop μ-loop
 enum-told-2 c = search needs
 
 returns-2 : tie.Need-returns-2 Inv-loop μ-loop
 returns-2 c = tt
+
+enum-known-whole : tie.Need-enum-known-whole Inv-loop μ-loop
+enum-known-whole c = search needs
+
+register-at-requires : tie.Need-register-at-requires Inv-loop μ-loop
+register-at-requires c κs = c .before .before .before .loop .inv .partly .place
+
+enum-told-3 : tie.Need-enum-told-3 Inv-loop μ-loop
+enum-told-3 c = search needs
+
+returns-3 : tie.Need-returns-3 Inv-loop μ-loop
+returns-3 c = tt
 
 enum-known-register : tie.Need-enum-known-register Inv-loop μ-loop
 enum-known-register c = search needs
@@ -76,12 +90,12 @@ mark-of-requires c κs = search needs
 behind-mark-requires : tie.Need-behind-mark-requires Inv-loop μ-loop
 behind-mark-requires c κs =
     let j = c .before in (
-      ⊎-elim (λ w. let (t, (v, rd)) = rw (w .3 .given .1) at (w .1 .ensures) in rw (w .9) (rd .in-text)) (λ w. let rd = rw (w .3 .given .1) at (w .1 .ensures) in rw (w .9) (rd .in-text)) (j .if1 .came),
+      ⊎-elim (λ w. let (u, rd) = rw (w .3 .given .1) at (w .1 .ensures) in rw (w .13) (rd .in-text)) (λ w. let rd = rw (w .3 .given .1) at (w .1 .ensures) in rw (w .9) (rd .in-text)) (j .if1 .came),
       mark-any _ _ (c .mark-of .ensures),
     )
 
-returns-3 : tie.Need-returns-3 Inv-loop μ-loop
-returns-3 c = tt
+returns-4 : tie.Need-returns-4 Inv-loop μ-loop
+returns-4 c = tt
 
 loop-less : tie.Need-loop-less Inv-loop μ-loop
 loop-less c = search needs
@@ -96,10 +110,11 @@ loop-again c =
     let b = k .before .before .before in
     let behind = rw (m .mark-of .ensures) at (c .before .behind-mark .ensures) in
     ⊎-elim
-    (λ w. let (t, (v, rd)) = rw (w .3 .given .1) at (w .1 .ensures) in
-    rw (w .5, w .6, w .7, w .8)
+    (λ w. let (u, rd) = rw (w .3 .given .1) at (w .1 .ensures) in
+    rw (w .9, w .10, w .11, w .12)
     (reading-number (b .args .source .now) (b .args .from) (b .args .form) (k .loop .at) (k .loop .left) (k .loop .count) (k .loop .registers) (k .loop .negative) (k .loop .magnitude) (k .loop .inv)
-    (l .loop-test .taken) (sym (i .is-number .ensures) ∙ w .0 .taken) t _ _ _ (c .before .behind-mark .result) v rd (rw (w .9) at behind) (c .if2 .left)))
+    (l .loop-test .taken) (sym (i .is-number .ensures) ∙ w .0 .taken) _ _ _ _ (c .before .behind-mark .result)
+    (sym (ap extractMeant (sym (w .7 .given .1) ∙ w .5 .ensures) ∙ extracted-number (w .3 .given .0 .0) u)) rd (rw (w .13) at behind) (c .if2 .left)))
     (λ w. let rd = rw (w .3 .given .1) at (w .1 .ensures) in
     rw (w .5, w .6, w .7, w .8)
     (reading-register (b .args .source .now) (b .args .from) (b .args .form) (k .loop .at) (k .loop .left) (k .loop .count) (k .loop .registers) (k .loop .negative) (k .loop .magnitude) (k .loop .inv)
@@ -109,26 +124,26 @@ loop-again c =
 end-at-requires : tie.Need-end-at-requires Inv-loop μ-loop
 end-at-requires c κs = c .before .loop .inv .partly .place
 
-enum-told-3 : tie.Need-enum-told-3 Inv-loop μ-loop
-enum-told-3 c = search needs
+enum-told-4 : tie.Need-enum-told-4 Inv-loop μ-loop
+enum-told-4 c = search needs
 
 enum-known-end : tie.Need-enum-known-end Inv-loop μ-loop
 enum-known-end c = search needs
 
-array-copy-out-t30 : tie.Need-array-copy-out-t30 Inv-loop μ-loop
-array-copy-out-t30 c = search needs
+array-copy-out-t31 : tie.Need-array-copy-out-t31 Inv-loop μ-loop
+array-copy-out-t31 c = search needs
 
-array-copy-out-t33 : tie.Need-array-copy-out-t33 Inv-loop μ-loop
-array-copy-out-t33 c = search needs
+array-copy-out-t34 : tie.Need-array-copy-out-t34 Inv-loop μ-loop
+array-copy-out-t34 c = search needs
 
-array-copy-out-t36 : tie.Need-array-copy-out-t36 Inv-loop μ-loop
-array-copy-out-t36 c = search needs
-
-returns-4 : tie.Need-returns-4 Inv-loop μ-loop
-returns-4 c = tt
+array-copy-out-t37 : tie.Need-array-copy-out-t37 Inv-loop μ-loop
+array-copy-out-t37 c = search needs
 
 returns-5 : tie.Need-returns-5 Inv-loop μ-loop
-returns-5 c =
+returns-5 c = tt
+
+returns-6 : tie.Need-returns-6 Inv-loop μ-loop
+returns-6 c =
     let e = c .before .before .before .before in
     let a = e .before .before in
     let l = a .before in
@@ -150,23 +165,27 @@ read-tail-spec =
     number-at-requires
     enum-told
     returns
-    enum-known-n
-    register-at-requires
+    enum-known-kind
+    extract-number-requires
     enum-told-2
     returns-2
+    enum-known-whole
+    register-at-requires
+    enum-told-3
+    returns-3
     enum-known-register
     array-set-from-registers
     add-count
     mark-of-requires
     behind-mark-requires
-    returns-3
+    returns-4
     loop-less
     loop-again
     end-at-requires
-    enum-told-3
+    enum-told-4
     enum-known-end
-    array-copy-out-t30
-    array-copy-out-t33
-    array-copy-out-t36
-    returns-4
-    returns-5)
+    array-copy-out-t31
+    array-copy-out-t34
+    array-copy-out-t37
+    returns-5
+    returns-6)

@@ -42,14 +42,14 @@ shared-slice-read-third c = search needs
 is-name-part-requires : tie.Need-is-name-part-requires
 is-name-part-requires c κs = search needs
 
-two-requires : tie.Need-two-requires
-two-requires c κs = search needs
+two-bytes-requires : tie.Need-two-bytes-requires
+two-bytes-requires c κs = search needs
 
-add-numbered : tie.Need-add-numbered
-add-numbered c = search needs
+add-up-to : tie.Need-add-up-to
+add-up-to c = search needs
 
-numbered-requires : tie.Need-numbered-requires
-numbered-requires c κs = search needs
+up-to-requires : tie.Need-up-to-requires
+up-to-requires c κs = search needs
 
 returns-2 : tie.Need-returns-2
 returns-2 c =
@@ -61,8 +61,8 @@ returns-2 c =
     let at = r .run-end .result in
     let z : at + 2 - at ≡ 2 = omega arith in
     let o = past r in
-    register-case s (b .args .from) at (at + 2) _ (c .numbered .result) (b .pre) (r .run-end .ensures) (omega arith) (omega arith)
-    (sym (t .is-name-part .ensures) ∙ not-true _ (c .before .before .if2 .taken)) (c .numbered .ensures) (rw (z, two-bytes s at (omega arith)) (c .before .two .ensures))
+    rw (c .up-to .ensures) (register-case s (b .args .from) at (at + 2) (c .before .two-bytes .result) (b .pre) (r .run-end .ensures) (omega arith) (omega arith)
+    (sym (t .is-name-part .ensures) ∙ not-true _ (c .before .before .if2 .taken)) (rw (z, two-bytes s at (omega arith)) (c .before .two-bytes .ensures)))
 
 add-fourth : tie.Need-add-fourth
 add-fourth c = search needs
@@ -73,14 +73,14 @@ shared-slice-read-fourth c = search needs
 is-name-part-requires-2 : tie.Need-is-name-part-requires-2
 is-name-part-requires-2 c κs = search needs
 
-three-requires : tie.Need-three-requires
-three-requires c κs = search needs
+three-bytes-requires : tie.Need-three-bytes-requires
+three-bytes-requires c κs = search needs
 
-add-numbered-2 : tie.Need-add-numbered-2
-add-numbered-2 c = search needs
+add-up-to-2 : tie.Need-add-up-to-2
+add-up-to-2 c = search needs
 
-numbered-requires-2 : tie.Need-numbered-requires-2
-numbered-requires-2 c κs = search needs
+up-to-requires-2 : tie.Need-up-to-requires-2
+up-to-requires-2 c κs = search needs
 
 returns-3 : tie.Need-returns-3
 returns-3 c =
@@ -92,8 +92,8 @@ returns-3 c =
     let at = r .run-end .result in
     let z : at + 3 - at ≡ 3 = omega arith in
     let o = past r in
-    register-case s (b .args .from) at (at + 3) _ (c .numbered2 .result) (b .pre) (r .run-end .ensures) (omega arith) (omega arith)
-    (sym (t .is-name-part2 .ensures) ∙ not-true _ (c .before .before .if3 .taken)) (c .numbered2 .ensures) (rw (z, three-bytes s at (omega arith)) (c .before .three .ensures))
+    rw (c .up-to2 .ensures) (register-case s (b .args .from) at (at + 3) (c .before .three-bytes .result) (b .pre) (r .run-end .ensures) (omega arith) (omega arith)
+    (sym (t .is-name-part2 .ensures) ∙ not-true _ (c .before .before .if3 .taken)) (rw (z, three-bytes s at (omega arith)) (c .before .three-bytes .ensures)))
 
 add-is-name-part : tie.Need-add-is-name-part
 add-is-name-part c = search needs
@@ -104,14 +104,14 @@ shared-slice-read-is-name-part c = search needs
 is-name-part-requires-3 : tie.Need-is-name-part-requires-3
 is-name-part-requires-3 c κs = search needs
 
-four-requires : tie.Need-four-requires
-four-requires c κs = search needs
+four-bytes-requires : tie.Need-four-bytes-requires
+four-bytes-requires c κs = search needs
 
-add-numbered-3 : tie.Need-add-numbered-3
-add-numbered-3 c = search needs
+add-up-to-3 : tie.Need-add-up-to-3
+add-up-to-3 c = search needs
 
-numbered-requires-3 : tie.Need-numbered-requires-3
-numbered-requires-3 c κs = search needs
+up-to-requires-3 : tie.Need-up-to-requires-3
+up-to-requires-3 c κs = search needs
 
 returns-4 : tie.Need-returns-4
 returns-4 c =
@@ -123,8 +123,8 @@ returns-4 c =
     let at = r .run-end .result in
     let z : at + 4 - at ≡ 4 = omega arith in
     let o = past r in
-    register-case s (b .args .from) at (at + 4) _ (c .numbered3 .result) (b .pre) (r .run-end .ensures) (omega arith) (omega arith)
-    (sym (t .is-name-part3 .ensures) ∙ not-true _ (c .before .before .if4 .taken)) (c .numbered3 .ensures) (rw (z, four-bytes s at (omega arith)) (c .before .four .ensures))
+    rw (c .up-to3 .ensures) (register-case s (b .args .from) at (at + 4) (c .before .four-bytes .result) (b .pre) (r .run-end .ensures) (omega arith) (omega arith)
+    (sym (t .is-name-part3 .ensures) ∙ not-true _ (c .before .before .if4 .taken)) (rw (z, four-bytes s at (omega arith)) (c .before .four-bytes .ensures)))
 
 returns-5 : tie.Need-returns-5
 returns-5 c = search needs
@@ -142,22 +142,22 @@ register-at-spec =
     add-third
     shared-slice-read-third
     is-name-part-requires
-    two-requires
-    add-numbered
-    numbered-requires
+    two-bytes-requires
+    add-up-to
+    up-to-requires
     returns-2
     add-fourth
     shared-slice-read-fourth
     is-name-part-requires-2
-    three-requires
-    add-numbered-2
-    numbered-requires-2
+    three-bytes-requires
+    add-up-to-2
+    up-to-requires-2
     returns-3
     add-is-name-part
     shared-slice-read-is-name-part
     is-name-part-requires-3
-    four-requires
-    add-numbered-3
-    numbered-requires-3
+    four-bytes-requires
+    add-up-to-3
+    up-to-requires-3
     returns-4
     returns-5)

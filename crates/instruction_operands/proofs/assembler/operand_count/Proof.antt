@@ -5,7 +5,8 @@ use native.Mathlib.Omega.{arith}
 use lib.ListN.{length}
 use Rattle.instruction.specs.Table.{places}
 use Rattle.instruction.specs.Contracts.{formAt}
-use Rattle.instruction_operands.proofs.Line.{in-run, past-forms}
+use Rattle.text_lexical.proofs.Tests.{in-run}
+use Rattle.instruction_operands.proofs.Line.{past-forms}
 use Rattle.instruction_operands.proofs.assembler.operand_count.Statement.{statement}
 use Rattle.instruction_operands.proofs.assembler.operand_count.Tie as tie
 

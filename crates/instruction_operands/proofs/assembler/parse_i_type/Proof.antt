@@ -28,8 +28,8 @@ enum-known-second c = search needs
 extract-number-requires : tie.Need-extract-number-requires
 extract-number-requires c κs = search needs
 
-enum-told : tie.Need-enum-told
-enum-told c = search needs
+enum-known-n-3 : tie.Need-enum-known-n-3
+enum-known-n-3 c = search needs
 
 enum-known-number : tie.Need-enum-known-number
 enum-known-number c = search needs
@@ -54,11 +54,12 @@ returns-2 c x y z width signed u =
 returns-3 : tie.Need-returns-3
 unfolding readOperands withRegister
 returns-3 c x y z width signed u =
-    let l = c .before .before .before .before in
+    let m = c .before in
+    let l = m .before .before .before .before in
     let k = l .before .before .before .before in
     register-read _ (k .first .given .1) (k .before .before .register-comma .ensures (u 1) (u 2) x _)
     (register-read _ (l .second .given .1) (l .before .before .register-comma2 .ensures (u 3) (u 4) y _)
-    (number-refused z width signed (k .before .before .before .args .k .e) (u 5) _ (c .enum-told .given .1) (c .before .before .extract-number .ensures)))
+    (number-refused z width signed (k .before .before .before .args .k .e) (u 5) _ (m .n3 .given .1) (m .before .before .extract-number .ensures)))
 
 returns-4 : tie.Need-returns-4
 unfolding registersFor numberFor readOperands noOperands withRegister withNumber
@@ -82,7 +83,7 @@ parse-i-type-spec =
     enum-known-n-2
     enum-known-second
     extract-number-requires
-    enum-told
+    enum-known-n-3
     enum-known-number
     are-requires
     returns

@@ -21,8 +21,8 @@ enum-known-first c = search needs
 extract-number-requires : tie.Need-extract-number-requires
 extract-number-requires c κs = search needs
 
-enum-told : tie.Need-enum-told
-enum-told c = search needs
+enum-known-n-2 : tie.Need-enum-known-n-2
+enum-known-n-2 c = search needs
 
 enum-known-number : tie.Need-enum-known-number
 enum-known-number c = search needs
@@ -39,9 +39,10 @@ returns c u =
 returns-2 : tie.Need-returns-2
 unfolding places readOperands withRegister
 returns-2 c u =
-    let k = c .before .before .before .before in
+    let m = c .before in
+    let k = m .before .before .before .before in
     register-read _ (k .first .given .1) (k .before .before .register-comma .ensures (u 1) (u 2) 7 _)
-    (number-refused 11 21 true (k .before .before .before .args .k .c) (u 3) _ (c .enum-told .given .1) (c .before .before .extract-number .ensures))
+    (number-refused 11 21 true (k .before .before .before .args .k .c) (u 3) _ (m .n2 .given .1) (m .before .before .extract-number .ensures))
 
 returns-3 : tie.Need-returns-3
 unfolding places registersFor numberFor readOperands noOperands withRegister withNumber
@@ -60,7 +61,7 @@ parse-jal-spec =
     enum-known-n
     enum-known-first
     extract-number-requires
-    enum-told
+    enum-known-n-2
     enum-known-number
     are-requires
     returns

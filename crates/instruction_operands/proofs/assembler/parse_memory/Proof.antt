@@ -19,8 +19,8 @@ enum-known-first c = search needs
 extract-number-requires : tie.Need-extract-number-requires
 extract-number-requires c κs = search needs
 
-enum-told : tie.Need-enum-told
-enum-told c = search needs
+enum-known-n-2 : tie.Need-enum-known-n-2
+enum-known-n-2 c = search needs
 
 enum-known-number : tie.Need-enum-known-number
 enum-known-number c = search needs
@@ -28,8 +28,8 @@ enum-known-number c = search needs
 base-register-requires : tie.Need-base-register-requires
 base-register-requires c κs = search needs
 
-enum-known-n-2 : tie.Need-enum-known-n-2
-enum-known-n-2 c = search needs
+enum-known-n-3 : tie.Need-enum-known-n-3
+enum-known-n-3 c = search needs
 
 enum-known-second : tie.Need-enum-known-second
 enum-known-second c = search needs
@@ -46,9 +46,10 @@ returns c x y z width signed u =
 returns-2 : tie.Need-returns-2
 unfolding readOperands withRegister
 returns-2 c x y z width signed u =
-    let k = c .before .before .before .before in
+    let m = c .before in
+    let k = m .before .before .before .before in
     register-read _ (k .first .given .1) (k .before .before .register-comma .ensures (u 1) (u 2) x _)
-    (number-refused z width signed (k .before .before .before .args .k .c) (u 3) _ (c .enum-told .given .1) (c .before .before .extract-number .ensures))
+    (number-refused z width signed (k .before .before .before .args .k .c) (u 3) _ (m .n2 .given .1) (m .before .before .extract-number .ensures))
 
 returns-3 : tie.Need-returns-3
 unfolding readOperands withRegister withNumber
@@ -58,7 +59,7 @@ returns-3 c x y z width signed u =
     let k = l .before .before .before .before in
     register-read _ (k .first .given .1) (k .before .before .register-comma .ensures (u 1) (u 2) x _)
     (number-read z width signed (k .before .before .before .args .k .c) (u 3) _ (l .number .given .1) (l .before .before .extract-number .ensures)
-    (register-refused _ (m .n2 .given .1) (m .before .before .base-register .ensures (u 4) (u 5) (u 6) y _)))
+    (register-refused _ (m .n3 .given .1) (m .before .before .base-register .ensures (u 4) (u 5) (u 6) y _)))
 
 returns-4 : tie.Need-returns-4
 unfolding registersFor numberFor readOperands noOperands withRegister withNumber
@@ -79,10 +80,10 @@ parse-memory-spec =
     enum-known-n
     enum-known-first
     extract-number-requires
-    enum-told
+    enum-known-n-2
     enum-known-number
     base-register-requires
-    enum-known-n-2
+    enum-known-n-3
     enum-known-second
     are-requires
     returns

@@ -9,7 +9,8 @@ use Rattle.instruction.specs.Table.{places}
 use Rattle.instruction.specs.Operands.{noOperands, readOperands}
 use Rattle.instruction.specs.Contracts.{formAt, registersFor, numberFor}
 use Rattle.instruction_operands.specs.Contracts.{Reads}
-use Rattle.instruction_operands.proofs.Line.{in-run, past-forms}
+use Rattle.text_lexical.proofs.Tests.{in-run}
+use Rattle.instruction_operands.proofs.Line.{past-forms}
 use Rattle.instruction_operands.proofs.assembler.parse_operands.Statement.{statement}
 use Rattle.instruction_operands.proofs.assembler.parse_operands.Tie as tie
 

@@ -8,7 +8,7 @@ use borrow.Author.Needs.{needs}
 use Rattle.text.specs.Contracts.{extracted}
 use Rattle.text.specs.declared.lexer.Kind.{Kind}
 use Rattle.text.specs.declared.lexer.Kind.the-variants.{Identifier, Register, NoRegister, Number, Negative, Hex, Binary, Directive, Comma, Colon, LParen, RParen}
-use Rattle.text.specs.declared.parser.Extracted.the-variants.{NoNumber}
+use Rattle.text.specs.declared.parser.Extracted.the-variants.{Refused}
 use Rattle.text.proofs.lexer.Kind as kind
 use Rattle.text.proofs.parser.extract_number.Statement.{statement}
 use Rattle.text.proofs.parser.extract_number.Tie as tie
@@ -32,7 +32,7 @@ returns c = rw (c .before .kind4 .given .1)
 abbrev others : List ℕ
 others = 0 ∷ 1 ∷ 2 ∷ 7 ∷ 8 ∷ 9 ∷ 10 ∷ 11 ∷ []
 
-others-none : (k : Kind) → OneOf others (tagOf kind.the-type k) → NoNumber ≡ extracted k
+others-none : (k : Kind) → OneOf others (tagOf kind.the-type k) → Refused 8 ≡ extracted k
 others-none Identifier h = refl
 others-none (Register r) h = refl
 others-none NoRegister h = refl

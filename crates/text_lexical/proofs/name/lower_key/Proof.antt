@@ -1,16 +1,15 @@
--- `instruction_operands::assembler::lower_key` meets its contract. The loop's invariant: the number is the bytes from i on, in lower case, packed.
+-- `text_lexical::name::lower_key` meets its contract. The loop's invariant: the number is the bytes from i on, in lower case, packed.
 use mathlib.Core.Path.{_≡_, sym, ap, _∙_}
 use Prim.Native.Nat.{ℕ, _≤_, _-_}
 use native.Mathlib.Omega.{arith}
 use mathlib.Core.List.{map}
 use lib.ListN.{length, drop, getD, length-map}
 use borrow.Author.Needs.{needs}
 use Rattle.text_lexical.specs.Bytes.{lower}
 use Rattle.text_lexical.specs.Contracts.{packed}
-use Rattle.text_lexical.proofs.Keys.{packed-step, packed-room, packed-none, key-long, key-short}
-use Rattle.instruction_operands.proofs.Parsing.{lower-below, lower-at, lowered-below}
-use Rattle.instruction_operands.proofs.assembler.lower_key.Statement.{statement}
-use Rattle.instruction_operands.proofs.assembler.lower_key.Tie as tie
+use Rattle.text_lexical.proofs.Keys.{packed-step, packed-room, packed-none, key-long, key-short, lower-below, lower-at, lowered-below}
+use Rattle.text_lexical.proofs.name.lower_key.Statement.{statement}
+use Rattle.text_lexical.proofs.name.lower_key.Tie as tie
 
 abbrev Inv-loop : tie.InvT-loop
 Inv-loop spelling key₀ i₀ key i = (i ≤ length spelling) × (key ≡ packed (drop i (map lower spelling)))
