@@ -131,7 +131,7 @@ module _ (s : List ℕ) (from words : ℕ) (c : Config) (r : Read) (h : LineIs s
       go : (b : Bool) → r .labelled ≡ b
           → doing (effectMeant (r .effect)) (entering room st (from + indent (restAt s from)) (labelIf b u))
           ≡ onward (faultMeant (faultAfter (r .effect) words)) (codedBy (effectMeant (r .effect))) (settingsMeant (configAfter (r .effect) c)) (elim b [ true ↦ enter room st (r .start) u | false ↦ next st ])
-      go true e = rw (← h .starts e) (on-label (r .effect) words c room (r .start) st u p n)
+      go true e = rw (← h .starts) (on-label (r .effect) words c room (r .start) st u p n)
       go false e = does (r .effect) words c st p n
 
   pub comes : Comes s from words (settingsMeant c) (stepAfter r words c)
