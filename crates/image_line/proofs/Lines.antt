@@ -3,14 +3,14 @@ use Prim.Native.Nat.{ℕ, suc, _+_, _-_, _*_, _^_, _≤_, _<_}
 use mathlib.Core.Path.{_≡_, refl, sym, ap, _∙_}
 use native.Mathlib.Nat.{pow-suc, mul-add, mul-assoc, mul-comm, mul-le-mul-right}
 use native.Mathlib.Omega.{arith}
-use mathlib.Core.Bool.{true, false, not, true≢false}
+use mathlib.Core.Bool.{Bool, true, false, not, and-eq-true-iff, true≢false}
 use mathlib.Core.Option.{Option, none, some}
 use mathlib.Core.List.{List, [], _∷_, _++_, map, map-append}
-use lib.ListN.{length, drop, getD, length-map, length-take, length-drop}
+use lib.ListN.{length, drop, getD, length-map, length-take, length-drop, List·getD-eq-default}
 use lib.Seq.{drop-drop, take-suc, getD-drop, take-all}
 use lib.Dec.{leb, eqb}
-use borrow.Author.Tests.{leb-true, le-leb, lt-leb, lt-ltb, eq-eqb}
-use Rattle.text_lexical.specs.Bytes.{Result, value, bytes, between, digit, nameStart, namePart, lower, margin, every, same, run, find, isSome, each}
+use borrow.Author.Tests.{leb-true, le-leb, lt-leb, eq-eqb, ne-eqb, eqb-true}
+use Rattle.text_lexical.specs.Bytes.{Result, value, bytes, between, digit, nameStart, namePart, lower, blank, margin, every, same, run, find, isSome, each}
 use Rattle.text_lexical.specs.Names.{Name, name, named, numbered, conventional, present}
 use Rattle.text_lexical.specs.Contracts.{packed, keyOf, nameNumber}
 use Rattle.text_lexical.specs.declared.name.RegisterName.the-variants.{Other}
@@ -18,24 +18,25 @@ use Rattle.text_lexical.proofs.Keys.{Below}
 use Rattle.text_lexical.proofs.Tests.{split, by-test, no-both, or-left, between-true, Each, in-run}
 use Rattle.text_lexical.proofs.Strings.{every-tail, run-past, run-yes, same-eq, found}
 use Rattle.text.specs.Tokens.{Token, identifier, register, number, hex, binary, directive, comma, colon, opening, closing, infront, tokens}
-use Rattle.text.specs.Lines.{kept, lineOf, recordOf, readLine}
+use Rattle.text.specs.Lines.{Line, indent, kept, lineOf, recordOf, readLine}
 use Rattle.text.specs.Places.{restAt, leftAt, endAt}
 use Rattle.text.specs.declared.lexer.Kind.the-variants.{Identifier}
 use Rattle.text.proofs.Left.{start-solid, content-at, indent-at}
 use Rattle.text.proofs.Fronts.{run-in, part-cons, word-at}
 use Rattle.text.proofs.Stepping.{solid-step, margin-on}
 use Rattle.instruction.specs.Table.{reg, Form, R, I, Shift, Load, Store, Branch, Jump, System, places, row, table, rowNamed}
-use Rattle.instruction.specs.Operands.{Operands, readIdentifier, readRegister, markByte, readPlace, readOperands, made, readRow, readMnemonic, readInstruction}
+use Rattle.instruction.specs.Operands.{Operands, Instruction, readIdentifier, readRegister, markByte, readPlace, readOperands, made, readRow, readMnemonic, readInstruction, behind}
 use Rattle.instruction.specs.Contracts.{IsRow, rowAt, formAt, formNumber, operandsMeant, partsMeant}
 use Rattle.instruction.specs.declared.instruction.Operands.{Operands as Kept}
 use Rattle.instruction.specs.declared.opcode.Row.{Row as Looked}
 use Rattle.instruction.specs.declared.opcode.Row.the-variants.{At}
 use Rattle.instruction.proofs.Columns.{form-numbered}
-use Rattle.instruction_operands.proofs.Line.{six-places, below-part, named-by-key}
-use Rattle.image.specs.Assembling.{plain, identifierKind, kindOf}
-use Rattle.image_line.specs.Contracts.{Reads, wordEnd, part, WordIs, Labels, LabelIs, FrontIs, no-front, mnemonic, label, TailIs, IsInstruction, IsLabel, IsEmpty, IsStraight, wholeOf}
-use Rattle.image_line.specs.declared.fast.Word.{Word}
-use Rattle.image_line.proofs.Places.{stepped-reads, run-to, every-more, colon-reads}
+use Rattle.instruction_operands.proofs.Line.{Each, in-run, six-places, below-part, named-by-key}
+use Rattle.image.specs.Assembling.{plain, identifierKind, kindOf, Context, nothing, codes, coding, afterLabel, readKind, readOn}
+use Rattle.image_line.specs.Contracts.{Reads, TailIs, wordEnd, part, WordIs, isLabel, Labels, OptionalLabel, without, with-label, WordAfter, InTable, readMeant, endOf, LineIs, ReadsAs}
+use Rattle.image_line.specs.declared.line.Effect.the-variants.{Nothing, Codes}
+use Rattle.image_line.specs.declared.line.Read.{Read}
+use Rattle.image_line.proofs.Places.{stepped-reads, run-to, every-more, colon-reads, blanks-after}
 
 -- ---- the key of a word, from its first byte on
 
@@ -192,30 +193,75 @@ module _ (s : List ℕ) (at end : ℕ) (l : at < length s) (start : nameStart (g
       stepped-reads s at (record { kind = Identifier; start = at; length = end - at }) end (solid-step s at _ l (start-solid _ start) (word-at s at end Other l start ends (sym n)))
 
   -- A row that is found by the key of the word.
-  pub mnemonic-front : (w : Word) (r : Looked) (i form : ℕ) → Below s → WordIs s at w → w .end ≡ end → IsRow r (find (λ q. eqb (keyOf (q .mnemonic)) (w .key)) table) → r ≡ At i
-      → (i < 50) × (form ≡ formNumber (rowAt i .form) → FrontIs s at i form 0 end)
-  mnemonic-front w r i form below is e row f =
+  pub mnemonic-reads : (key i : ℕ) (r : Looked) → Below s → key ≡ keyOf (map lower (part s at (end - at))) → IsRow r (find (λ q. eqb (keyOf (q .mnemonic)) key) table) → r ≡ At i
+      → (i < 50) × ((rowNamed (map lower (part s at (end - at))) ≡ some (rowAt i)) × Reads s at (identifier (part s at (end - at))) end)
+  mnemonic-reads key i r below k row f =
       let u = part s at (end - at) in
-      let k : w .key ≡ keyOf (map lower u) = rw (← e) (is .key-is) in
-      let (in-table, n) : (i < 50) × (rowNamed (map lower u) ≡ some (rowAt i)) = rw (← named-by-key u (w .key) (below-part at (end - at) s below) k) (rw f at row) in
-      (in-table, λ g. mnemonic u in-table n (ap formAt g ∙ form-numbered (rowAt i .form)) (name-reads (unnamed u (named present u) refl (some-row _ _ n))))
+      let (in-table, n) : (i < 50) × (rowNamed (map lower u) ≡ some (rowAt i)) = rw (← named-by-key u key (below-part at (end - at) s below) k) (rw f at row) in
+      (in-table, (n, name-reads (unnamed u (named present u) refl (some-row _ _ n))))
 
   -- A colon behind a name that is no register's.
   pub label-reads : end < length s → getD s end 0 ≡ 58 → nameNumber (named present (part s at (end - at))) ≡ none → Labels s at end (end + 1)
   label-reads h c n = record { name = name-reads n; mark = colon-reads s end h c }
 
-  pub long-label : 4 < end - at → nameNumber (named present (part s at (end - at))) ≡ none
-  long-label h = long-unnamed (part s at (end - at)) _ refl (omega (arith, length-take (end - at) (drop at s), length-drop at s, word-in))
+-- Whether a word is a label, by the byte after it and by its name.
+module _ (s : List ℕ) (at end : ℕ) where
+  pub no-colon : (getD s end 0 ≡ 58 → ⊥) → false ≡ isLabel s at end
+  unfolding isLabel
+  no-colon h = sym (rw (isLabel, ne-eqb (getD s end 0) 58 h))
 
-  pub label-front : (next : ℕ) → LabelIs s at end next → (next ≡ 0 → ⊥) → FrontIs s at 50 7 (end - at) next
-  label-front next is there =
-      let e : at + (end - at) ≡ end = omega arith in
-      label refl refl (omega arith) (rw e (is there))
+  pub no-byte : length s ≤ end → false ≡ isLabel s at end
+  no-byte h = no-colon (λ e. let z : getD s end 0 ≡ 0 = List·getD-eq-default s 0 {n = end} h in omega arith)
 
-pub front-in : {s : List ℕ} {start row form length′ at : ℕ} → start ≤ length s → FrontIs s start row form length′ at → at ≤ length s
-front-in l (no-front r f n e) = omega arith
-front-in l (mnemonic u r n f rd) = rd .in-text
-front-in l (label r f n is) = is .mark .in-text
+  pub no-name : getD s end 0 ≡ 58 → nameNumber (named present (part s at (end - at))) ≡ none → true ≡ isLabel s at end
+  unfolding isLabel isSome
+  no-name c n = sym (rw (isLabel, c, n))
+
+  pub a-name : (o : Option ℕ) → getD s end 0 ≡ 58 → nameNumber (named present (part s at (end - at))) ≡ some o → false ≡ isLabel s at end
+  unfolding isLabel isSome
+  a-name o c n = sym (rw (isLabel, c, n))
+
+  pub long-name : end ≤ length s → 4 < end - at → nameNumber (named present (part s at (end - at))) ≡ none
+  long-name h l = long-unnamed (part s at (end - at)) _ refl (omega (arith, length-take (end - at) (drop at s), length-drop at s))
+
+no-number : (o : Option (Option ℕ)) → not (isSome o) ≡ true → o ≡ none
+unfolding isSome
+no-number none h = refl
+no-number (some n) h = absurd (true≢false (sym h))
+
+-- A word that is one.
+pub is-label-reads : (s : List ℕ) (at end : ℕ) → at < length s → nameStart (getD s at 0) ≡ true → end ≡ wordEnd s at → isLabel s at end ≡ true → (end < length s) × Labels s at end (end + 1)
+unfolding isLabel
+is-label-reads s at end l start ends h =
+    let (c, n) = and-eq-true-iff (eqb (getD s end 0) 58) (not (isSome (nameNumber (named present (part s at (end - at)))))) .0 h in
+    let inside-text : end < length s = split end (length s) (λ i. i) (λ i. no-both h (sym (no-byte s at end i))) in
+    (inside-text, label-reads s at end l start ends inside-text (eqb-true (getD s end 0) 58 c) (no-number _ n))
+
+-- The first word of a line, its label aside, whose key is found in a row.
+pub word-row : {s : List ℕ} {start length′ key end : ℕ} {labelled : Bool} (w : WordAfter s start labelled length′ key end) → Below s → (r : Looked) (row : ℕ)
+    → IsRow r (find (λ q. eqb (keyOf (q .mnemonic)) key) table) → r ≡ At row
+    → (row < 50) × ((rowNamed (map lower (part s (w .at) (end - w .at))) ≡ some (rowAt row)) × Reads s (w .at) (identifier (part s (w .at) (end - w .at))) end)
+word-row {s} {key = key} {end = end} w below r row is f = mnemonic-reads s (w .at) end (w .in-text) (w .begins) (w .word .ends) key row r below (w .word .key-is) is f
+
+pub word-ends : {s : List ℕ} {start length′ key end : ℕ} {labelled : Bool} → WordAfter s start labelled length′ key end → end ≤ length s
+word-ends {s} {end = end} w = word-in s (w .at) end (w .in-text) (w .begins) (w .word .ends)
+
+-- ---- the turns of the loop
+
+pub before-label : {s : List ℕ} {start : ℕ} → OptionalLabel s start false 0 start
+before-label = without refl refl refl
+
+-- Nothing stands before the first word, so a label there is the line's, and blanks after it are skipped.
+pub after-label : (s : List ℕ) (start length′ at end next : ℕ) (labelled : Bool) → OptionalLabel s start labelled length′ at → labelled ≡ false → at < end → end < length s → Labels s at end (end + 1)
+    → next ≡ end + 1 + run blank (drop (end + 1) s) → OptionalLabel s start true (end - at) next
+after-label s start length′ at end next labelled (without f n a) b h l is q =
+    let e : at + (end - at) ≡ end = omega arith in
+    with-label refl (rw (← a, e) (record { name = is .name; mark = blanks-after s end (end + 1) next colon (is .mark) q }))
+after-label s start length′ at end next labelled (with-label t is′) b h l is q = absurd (true≢false (sym t ∙ b))
+
+pub label-in : {s : List ℕ} {start length′ at : ℕ} {labelled : Bool} → start ≤ length s → OptionalLabel s start labelled length′ at → at ≤ length s
+label-in l (without f n a) = omega arith
+label-in l (with-label t is) = is .mark .in-text
 
 -- ---- the line
 
@@ -260,68 +306,121 @@ row-read : (i : ℕ) (u : List ℕ) (ts : List Token) (o : Kept) → rowNamed (m
 unfolding readMnemonic readIdentifier readRow made
 row-read i u ts o n l h = rw (readMnemonic, n, readRow, eq-eqb (length ts) (length (places (rowAt i .form))) l, h)
 
-short-line : (u : List ℕ) (ts : List Token) → length ts ≤ 6 → lineOf (identifier u ∷ ts) ≡ record { count = suc (length ts); first = identifier u ∷ ts }
+kept-all : (ts : List Token) → length ts ≤ 9 → lineOf ts ≡ record { count = length ts; first = ts }
 unfolding lineOf kept
-short-line u ts h = rw (take-all 8 ts (omega arith))
+kept-all ts h = rw (take-all 9 ts h)
 
-no-tokens : (ts : List Token) → length ts ≡ 0 → ts ≡ []
-no-tokens [] h = refl
-no-tokens (t ∷ ts) h = absurd (omega arith)
+-- A line by its tokens.
+tokens-line : (s : List ℕ) (from start : ℕ) (ts : List Token) → start ≡ from + run margin (drop from s) → tokens present (leftAt s start) ≡ some ts → length ts ≤ 9
+    → readLine present (restAt s from) ≡ some (record { count = length ts; first = ts })
+unfolding recordOf
+tokens-line s from start ts q e h = line-reads s from start q ∙ rw e (ap some (kept-all ts h))
 
-line-whole : (s : List ℕ) (begin : ℕ) (u : List ℕ) (ts : List Token) → tokens present (leftAt s begin) ≡ infront (identifier u) (some ts)
-    → recordOf (tokens present (leftAt s begin)) ≡ some (lineOf (identifier u ∷ ts))
-unfolding recordOf infront
-line-whole s begin u ts w = rw w
+-- A token more in front of others.
+one-more : {o p : Option (List Token)} {t : Token} {ts : List Token} → o ≡ infront t p → p ≡ some ts → o ≡ some (t ∷ ts)
+unfolding infront
+one-more {t = t} e h = e ∙ ap (infront t) h
+
+label-tokens : {o p r : Option (List Token)} {v : List ℕ} {ts : List Token} → o ≡ infront (identifier v) p → p ≡ infront colon r → r ≡ some ts → o ≡ some (identifier v ∷ colon ∷ ts)
+label-tokens d e h = one-more d (one-more e h)
+
+-- What a line with these tokens reads as.
+read-none : (c : Context) → readOn c (some (record { count = 0; first = [] })) ≡ record { label = none; effect = nothing }
+unfolding readOn readKind kindOf
+read-none c = refl
+
+read-label : (c : Context) (v : List ℕ) → readOn c (some (record { count = 2; first = identifier v ∷ colon ∷ [] })) ≡ record { label = some v; effect = nothing }
+unfolding readOn readKind kindOf identifierKind markByte afterLabel behind
+read-label c v = refl
 
 first-row : (u : List ℕ) (ts : List Token) → readInstruction (record { count = suc (length ts); first = identifier u ∷ ts }) ≡ readMnemonic (identifier u) (length ts) ts
 unfolding readInstruction
 first-row u ts = let e : suc (length ts) - 1 ≡ length ts = omega arith in rw e
 
-module _ (s : List ℕ) (from start : ℕ) (l : from ≤ length s) (q : start ≡ from + run margin (drop from s)) (at e : ℕ) (o : Kept) where
-  -- No operand is left where none is asked for.
-  none-left : (form : ℕ) → form ≡ 7 → TailIs s at form o e → tokens present (leftAt s at) ≡ some []
-  unfolding places
-  none-left form f t = t .means ∙ ap some (no-tokens (t .operands) (t .count ∙ ap (λ (x : ℕ). length (places (formAt x))) f))
+-- The tokens of an instruction.
+record Written (row : ℕ) (o : Kept) (u : List ℕ) (ts : List Token) : Type 0 where
+  few : length ts ≤ 6
+  is-plain : kindOf (identifier u ∷ ts) ≡ plain
+  mnemonic-read : readMnemonic (identifier u) (length ts) ts ≡ value (partsMeant (record { row = row; operands = o }))
+
+module _ (c : Context) (row : ℕ) (o : Kept) (u : List ℕ) (ts : List Token) (w : Written row o u ts) where
+  read-instruction : readOn c (some (record { count = suc (length ts); first = identifier u ∷ ts })) ≡ record { label = none; effect = codes (partsMeant (record { row = row; operands = o })) }
+  unfolding readOn readKind coding
+  read-instruction = rw (w .is-plain) (ap (λ (x : Result Instruction). record { label = none; effect = coding x }) (first-row u ts ∙ w .mnemonic-read))
+
+  read-labelled : (v : List ℕ) → readOn c (some (record { count = suc (suc (suc (length ts))); first = identifier v ∷ colon ∷ identifier u ∷ ts }))
+      ≡ record { label = some v; effect = codes (partsMeant (record { row = row; operands = o })) }
+  unfolding readOn readKind kindOf identifierKind markByte afterLabel behind coding
+  read-labelled v =
+      let e : suc (suc (suc (length ts))) - 2 ≡ suc (length ts) = omega arith in
+      rw e (ap (λ (x : Result Instruction). record { label = some v; effect = coding x }) (first-row u ts ∙ w .mnemonic-read))
+
+written : (form row : ℕ) (u : List ℕ) (ts : List Token) (o : Kept) → rowNamed (map lower u) ≡ some (rowAt row) → formAt form ≡ rowAt row .form
+    → length ts ≡ length (places (formAt form)) → readOperands (places (formAt form)) ts ≡ value (operandsMeant (places (formAt form)) o) → Written row o u ts
+written form row u ts o named-is g l h =
+    let n : length ts ≡ length (places (rowAt row .form)) = rw (← g) l in
+    let r : readOperands (places (rowAt row .form)) ts ≡ value (operandsMeant (places (rowAt row .form)) o) = rw (← g) h in
+    record {
+      few = omega (arith, n, six-places (rowAt row .form));
+      is-plain = is-plain (rowAt row .form) u ts _ n r;
+      mnemonic-read = row-read row u ts o named-is n r;
+    }
+
+-- Where a line's content starts, as the code finds it.
+pub content-starts : (s : List ℕ) (from start : ℕ) → from ≤ length s → start ≡ from + run margin (drop from s) → (start ≡ from + indent (restAt s from)) × (start ≤ length s)
+content-starts s from start l q =
+    let (x, y, z) = margin-on s from start l q in
+    (q ∙ ap (λ (n : ℕ). from + n) (sym (indent-at s from)), y)
+
+module _ (s : List ℕ) (from start : ℕ) (l : from ≤ length s) (q : start ≡ from + run margin (drop from s)) where
+  start-in : start ≤ length s
+  start-in = content-starts s from start l q .1
 
   start-ends : endAt s start ≡ endAt s from
-  start-ends = let (x, y, c) = margin-on s from start l q in c
+  start-ends = let (x, y, z) = margin-on s from start l q in z
 
-  empty-line : (form : ℕ) → form ≡ 7 → at ≡ start → TailIs s at form o e → IsEmpty s from e
-  unfolding recordOf lineOf kept
-  empty-line form f a t =
-      let n : tokens present (leftAt s start) ≡ some [] = rw a at (none-left form f t) in
-      record { reads = line-reads s from start q ∙ rw n; ends = t .ends ∙ ap (endAt s) a ∙ start-ends }
+  line-some : (c : Context) (r : Read) (x : Line) → readLine present (restAt s from) ≡ some x → readMeant s r ≡ readOn c (some x) → r .start ≡ start
+      → (r .labelled ≡ false → r .length ≡ 0) → r .end ≡ endAt s from → r .start + r .length ≤ length s → InTable (r .effect) → LineIs s from c r
+  unfolding endOf
+  line-some c r x e reads b u n t k = record { reads = rw e reads; starts = b ∙ content-starts s from start l q .0; unlabelled = u; ends = rw (endOf, e) n; in-text = t; in-table = k }
 
-  label-line : (form length′ : ℕ) → form ≡ 7 → Labels s start (start + length′) at → TailIs s at form o e → IsLabel s from start length′ e
-  unfolding recordOf lineOf kept infront
-  label-line form length′ f is t =
+  -- A label alone, or nothing.
+  pub bare-line : (labelled : Bool) (length′ at e : ℕ) → OptionalLabel s start labelled length′ at → tokens present (leftAt s at) ≡ some [] → e ≡ endAt s at
+      → ReadsAs s from (record { labelled = labelled; start = start; length = length′; effect = Nothing; end = e })
+  bare-line labelled length′ at e (without f n a) none-left ends c =
+      let t : tokens present (leftAt s start) ≡ some [] = rw a at none-left in
+      rw (f, n) (line-some c (record { labelled = false; start = start; length = 0; effect = Nothing; end = e }) _ (tokens-line s from start [] q t (omega arith)) (sym (read-none c)) refl
+      (λ _. refl) (ends ∙ ap (endAt s) a ∙ start-ends) (omega (arith, start-in)) tt)
+  bare-line labelled length′ at e (with-label f is) none-left ends c =
+      let v = part s start length′ in
       let k : start + length′ - start ≡ length′ = omega arith in
-      let n : tokens present (leftAt s start) ≡ some (identifier (part s start length′) ∷ colon ∷ []) =
-      rw k at (is .name .means) ∙ ap (infront (identifier (part s start length′))) (is .mark .means ∙ ap (infront colon) (none-left form f t)) in
-      record {
-        reads = line-reads s from start q ∙ rw n;
-        starts = q ∙ ap (λ (x : ℕ). from + x) (sym (indent-at s from));
-        in-text = is .name .in-text;
-        ends = t .ends ∙ is .mark .ends ∙ is .name .ends ∙ start-ends;
-      }
+      let t : tokens present (leftAt s start) ≡ some (identifier v ∷ colon ∷ []) = label-tokens (rw k at (is .name .means)) (is .mark .means) none-left in
+      rw f (line-some c (record { labelled = true; start = start; length = length′; effect = Nothing; end = e }) _ (tokens-line s from start (identifier v ∷ colon ∷ []) q t (omega arith)) (sym (read-label c v)) refl
+      (λ g. absurd (true≢false g)) (ends ∙ is .mark .ends ∙ is .name .ends ∙ start-ends) (is .name .in-text) tt)
 
-  mnemonic-line : (row form : ℕ) (u : List ℕ) → row < 50 → rowNamed (map lower u) ≡ some (rowAt row) → formAt form ≡ rowAt row .form → Reads s start (identifier u) at
-      → TailIs s at form o e → IsInstruction s from row o e
-  mnemonic-line row form u in-table named-is g rd t =
-      let ts = t .operands in
-      let n : length ts ≡ length (places (rowAt row .form)) = rw (← g) (t .count) in
-      let h : readOperands (places (rowAt row .form)) ts ≡ value (operandsMeant (places (rowAt row .form)) o) = rw (← g) (t .read) in
-      record {
-        in-table = in-table;
-        line = record { count = suc (length ts); first = identifier u ∷ ts };
-        reads = line-reads s from start q ∙ line-whole s start u ts (rd .means ∙ ap (infront (identifier u)) (t .means)) ∙ ap some (short-line u ts (omega (arith, n, six-places (rowAt row .form))));
-        is-plain = is-plain (rowAt row .form) u ts _ n h;
-        instruction = first-row u ts ∙ row-read row u ts o named-is n h;
-        ends = t .ends ∙ rd .ends ∙ start-ends;
-      }
+  -- An instruction, after a label or not.
+  pub instruction-line : (labelled : Bool) (length′ at end form row : ℕ) (u : List ℕ) (o : Kept) (e : ℕ) → OptionalLabel s start labelled length′ at → row < 50 → rowNamed (map lower u) ≡ some (rowAt row)
+      → Reads s at (identifier u) end → formAt form ≡ rowAt row .form → TailIs s end form o e
+      → ReadsAs s from (record { labelled = labelled; start = start; length = length′; effect = Codes row o; end = e })
+  instruction-line labelled length′ at end form row u o e (without f n a) in-table named-is rd g tail c =
+      let ts = tail .operands in
+      let w = written form row u ts o named-is g (tail .count) (tail .read) in
+      let t : tokens present (leftAt s start) ≡ some (identifier u ∷ ts) = rw a at (one-more (rd .means) (tail .means)) in
+      rw (f, n) (line-some c (record { labelled = false; start = start; length = 0; effect = Codes row o; end = e }) _ (tokens-line s from start (identifier u ∷ ts) q t (omega (arith, w .few))) (sym (read-instruction c row o u ts w)) refl
+      (λ _. refl) (tail .ends ∙ rd .ends ∙ ap (endAt s) a ∙ start-ends) (omega (arith, start-in)) in-table)
+  instruction-line labelled length′ at end form row u o e (with-label f is) in-table named-is rd g tail c =
+      let ts = tail .operands in
+      let v = part s start length′ in
+      let w = written form row u ts o named-is g (tail .count) (tail .read) in
+      let k : start + length′ - start ≡ length′ = omega arith in
+      let t : tokens present (leftAt s start) ≡ some (identifier v ∷ colon ∷ identifier u ∷ ts) = label-tokens (rw k at (is .name .means)) (is .mark .means) (one-more (rd .means) (tail .means)) in
+      rw f (line-some c (record { labelled = true; start = start; length = length′; effect = Codes row o; end = e }) _ (tokens-line s from start (identifier v ∷ colon ∷ identifier u ∷ ts) q t (omega (arith, w .few)))
+      (sym (read-labelled c row o u ts w v)) refl (λ g. absurd (true≢false g)) (tail .ends ∙ rd .ends ∙ is .mark .ends ∙ is .name .ends ∙ start-ends) (is .name .in-text) in-table)
 
-  pub line-is : (row form length′ : ℕ) → FrontIs s start row form length′ at → TailIs s at form o e → IsStraight s from (wholeOf start row length′ o e)
-  unfolding wholeOf
-  line-is row form length′ (no-front r f n a) t = rw (r, n) (empty-line form f a t)
-  line-is row form length′ (mnemonic u r n f rd) t = rw (wholeOf, lt-ltb row 50 r) (mnemonic-line row form u r n f rd t)
-  line-is row form length′ (label r f n is) t = rw (r, wholeOf, lt-ltb 0 length′ n) (label-line form length′ f is t)
+  -- The same by the line's first word and the row that its key is found in.
+  pub word-line : {labelled : Bool} {length′ key end : ℕ} → WordAfter s start labelled length′ key end → Below s → (r : Looked) (row form : ℕ) → IsRow r (find (λ q. eqb (keyOf (q .mnemonic)) key) table) → r ≡ At row
+      → form ≡ formNumber (rowAt row .form) → (o : Kept) (e : ℕ) → TailIs s end form o e
+      → ReadsAs s from (record { labelled = labelled; start = start; length = length′; effect = Codes row o; end = e })
+  word-line {labelled} {length′} {key} {end} w below r row form is f g o e tail =
+      let (in-table, (named-is, rd)) = word-row w below r row is f in
+      instruction-line labelled length′ (w .at) end form row _ o e (w .label) in-table named-is rd (ap formAt g ∙ form-numbered (rowAt row .form)) tail

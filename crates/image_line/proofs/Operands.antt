@@ -13,6 +13,7 @@ use lib.IntN.{ℤ}
 use Rattle.text_lexical.specs.Bytes.{Result, value}
 use Rattle.text_lexical.specs.Names.{present}
 use Rattle.text_lexical.specs.Contracts.{indexOf, signedMeant}
+use Rattle.text_lexical.specs.declared.number.Whole.{Whole}
 use Rattle.text_lexical.specs.declared.register.Register.{Register}
 use Rattle.text_lexical.specs.declared.register.Register.the-variants.{R0}
 use Rattle.text.specs.Tokens.{Token, register, infront, tokens}
@@ -22,7 +23,9 @@ use Rattle.instruction.specs.Table.{Place, reg, num, comma-place, opening-place
 use Rattle.instruction.specs.Operands.{Operands, noOperands, withRegister, withNumber, readRegister, markByte, readPlace, readOperands}
 use Rattle.instruction.specs.Contracts.{formAt, registersFor, numberFor}
 use Rattle.instruction.specs.declared.instruction.Operands.{Operands as KeptOperands}
-use Rattle.image_line.specs.Contracts.{Reads, IsMark, Ahead, no-more, register-comma, number-opening, register-closing, register-last, number-last, isNumber, markOf, Behind, TailIs}
+use Rattle.image_line.specs.Contracts.{Reads, IsMark, Ahead, no-more, register-comma, number-opening, register-closing, register-last, number-last, isNumber, markOf, Behind, EndsWith, TailIs, Tails}
+use Rattle.image_line.specs.declared.fast.Tail.{Tail}
+use Rattle.image_line.specs.declared.fast.Tail.the-variants.{Are, Other as NoTail}
 
 -- ---- tokens that have been read, before those to come
 
@@ -365,10 +368,13 @@ partly-end s from form at count rs n m e d q nothing ends =
       ends = ends ∙ q .ends;
     }
 
-pub reading-end : (s : List ℕ) (from form at left count : ℕ) (rs : List Register) (n : Bool) (m e : ℕ) (d : Register) → Reading s from form at left count rs n m
-    → (0 < left → ⊥) → tokens present (leftAt s at) ≡ some [] → e ≡ endAt s at → TailIs s from form (operandsOf (getD rs 0 d) (getD rs 1 d) (getD rs 2 d) n m) e
-reading-end s from form at left count rs n m e d q over nothing ends =
-    partly-end s from form at count rs n m e d (rw (none-ahead left (q .ps) (q .ahead) over) at (q .partly)) nothing ends
+-- No operand is left: what was read, if the line ends there.
+pub reading-tail : (s : List ℕ) (from form at left count : ℕ) (rs : List Register) (w : Whole) → Reading s from form at left count rs (w .negative) (w .magnitude)
+    → (0 < left → ⊥) → (t : Tail) → EndsWith s at rs w t → Tails s from form t
+reading-tail s from form at left count rs w q over NoTail h = tt
+reading-tail s from form at left count rs w q over (Are o e) h =
+    rw (h .operands-are)
+    (partly-end s from form at count rs (w .negative) (w .magnitude) e R0 (rw (none-ahead left (q .ps) (q .ahead) over) at (q .partly)) (h .nothing-left) (h .ends))
 
 -- The mark of a digit is one that is asked for, or none.
 pub mark-any : (d m : ℕ) → m ≡ markOf d → (m ≡ 0) ⊎ IsMark m

@@ -17,7 +17,7 @@ use Rattle.text_lexical.specs.declared.name.RegisterName.{RegisterName}
 use Rattle.text_lexical.specs.declared.name.RegisterName.the-variants.{Is, NoSuch, Other}
 use Rattle.text_lexical.proofs.Tests.{split, both}
 use Rattle.text_lexical.proofs.Strings.{every-head, every-tail, every-mono, every-run, take-run, run-past, run-no, run-end, run-le}
-use Rattle.text.specs.Tokens.{Token, isIdentifier, isRegister, register, comma, colon, opening, closing, markToken, tokens}
+use Rattle.text.specs.Tokens.{Token, isIdentifier, isRegister, register, comma, colon, opening, closing, markToken, infront, tokens}
 use Rattle.text.specs.Places.{restAt, leftAt, endAt}
 use Rattle.text.specs.Contracts.{meant, scanAt, NoWord}
 use Rattle.text.specs.declared.lexer.Token.{Token as KeptToken}
@@ -50,6 +50,20 @@ past-blanks s from at t next l q r =
       on = omega (arith, r .on);
       in-text = r .in-text;
       ends = r .ends ∙ ap (endAt s) q ∙ end-on s from (run blank (drop from s)) (omega arith) i;
+    }
+
+-- Blanks after a token are skipped with it.
+pub blanks-after : (s : List ℕ) (at end next : ℕ) (t : Token) → Reads s at t end → next ≡ end + run blank (drop end s) → Reads s at t next
+blanks-after s at end next t r q =
+    let n = run-le blank (drop end s) in
+    let k = length-drop end s in
+    let i : every inside (take (run blank (drop end s)) (drop end s)) ≡ true
+    = rw (take-run blank (drop end s)) (every-mono blank inside blank-inside (before blank (drop end s)) (every-run blank (drop end s))) in
+    record {
+      means = r .means ∙ ap (infront t) (blanks-at present s end ∙ ap (λ (x : ℕ). tokens present (leftAt s x)) (sym q));
+      on = omega (arith, r .on);
+      in-text = omega (arith, r .in-text);
+      ends = ap (endAt s) q ∙ end-on s end (run blank (drop end s)) (omega (arith, r .in-text)) i ∙ r .ends;
     }
 
 -- ---- bytes from a place on

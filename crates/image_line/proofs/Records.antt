@@ -2,7 +2,7 @@
 use Prim.Native.Nat.{ℕ, suc, _+_, _-_, _≤_, _<_}
 use mathlib.Core.Path.{_≡_, refl, sym, ap, _∙_}
 use native.Mathlib.Omega.{arith}
-use mathlib.Core.Bool.{Bool, true, false}
+use mathlib.Core.Bool.{Bool, true, false, true≢false}
 use mathlib.Core.Option.{none, some}
 use mathlib.Core.List.{List, [], _∷_}
 use lib.ListN.{length, take, drop, getD, length-take, length-map, drop-of-length-le, List·getD-map}
@@ -15,7 +15,7 @@ use Rattle.text.specs.Tokens.{identifier, register, number, hex, binary, direct
 use Rattle.text.specs.Tokens.{Token as Meant}
 use Rattle.text.specs.Lines.{indent, readLine}
 use Rattle.text.specs.Lines.{Line as Record}
-use Rattle.text.specs.Places.{restAt, endAt}
+use Rattle.text.specs.Places.{restAt}
 use Rattle.text.specs.Contracts.{kindMeant, filler, firsts, meant, spelling, recordAt}
 use Rattle.text.specs.declared.lexer.Kind.{Kind as TokenKind}
 use Rattle.text.specs.declared.lexer.Kind.the-variants.{Directive}
@@ -29,16 +29,15 @@ use Rattle.image.specs.Settings.{configured}
 use Rattle.image.specs.Assembling.{next, Kind, empty, labelled, config, ignored, plain, identifierKind, kindOf, Context, nothing, setting, coding, afterLabel, readKind, readOn}
 use Rattle.image.specs.Assembling.{Effect as MeantEffect}
 use Rattle.image.specs.Contracts.{recordMeant}
-use Rattle.instruction.specs.declared.instruction.Operands.{Operands}
-use Rattle.image_line.specs.Contracts.{IsInstruction, IsLabel, IsEmpty, Told, effectMeant, InTable, readMeant, RecordIs, endOf, LineIs}
+use Rattle.image_line.specs.Contracts.{effectMeant, InTable, endOf, LineIs, Recorded, RecordIs}
 use Rattle.image_line.specs.declared.line.Effect.{Effect}
-use Rattle.image_line.specs.declared.line.Effect.the-variants.{Nothing, Codes, Faulty}
+use Rattle.image_line.specs.declared.line.Effect.the-variants.{Nothing, Faulty}
 use Rattle.image_line.specs.declared.line.Read.{Read}
 
 -- ---- the tokens of a record
 
-pub told : (s : List ℕ) (from : ℕ) (l : Line) → l ≡ recordAt s from → Told s l
-told s from l e =
+pub recorded : (s : List ℕ) (from : ℕ) (l : Line) → l ≡ recordAt s from → Recorded s l
+recorded s from l e =
     let r = line-read s from l e in
     record { kept = record { nine = r .nine; inside-text = r .inside-text }; solid = r .solid }
 
@@ -106,75 +105,74 @@ after-some r t ts e = go (r .first) e
     go [] e = let z : 0 ≡ suc (length ts) = ap (λ (x : List Meant). length x) e in absurd (omega arith)
     go (v ∷ vs) e = refl
 
+-- What follows a label: nothing,
+module _ (s : List ℕ) (l : Line) where
+  pub after-none : l .count ≡ 2 → nothing ≡ afterLabel (behind 2 (recordMeant s l))
+  unfolding afterLabel behind
+  after-none e =
+      let none-left : drop 2 (firsts s (l .tokens) (l .count)) ≡ [] = tokens-end s (l .tokens) (l .count) 2 (omega arith) in
+      rw (afterLabel, behind, none-left)
+
+  -- or an instruction.
+  pub after-instruction : Recorded s l → 2 < l .count → coding (readInstruction (behind 2 (recordMeant s l))) ≡ afterLabel (behind 2 (recordMeant s l))
+  unfolding behind
+  after-instruction t m = sym (after-some (behind 2 (recordMeant s l)) _ _ (token-at s (l .tokens) (l .count) 2 m (omega (arith, t .kept .nine))))
+
 module _ (s : List ℕ) (l : Line) (c : Context) where
-  -- A line without a label.
-  abbrev pub bare : Effect → Read
-  bare e = record { labelled = false; start = 0; length = 0; effect = e; end = l .end }
+  -- A line with the label that it begins with.
+  pub record-labelled : Recorded s l → 2 ≤ l .count → labelled (spelling s (getD (l .tokens) 0 filler)) ≡ kindOf (firsts s (l .tokens) (l .count))
+      → (e : Effect) → effectMeant e ≡ afterLabel (behind 2 (recordMeant s l)) → InTable e
+      → RecordIs s l (getD (l .tokens) 0 filler .start) c
+      (record {
+        labelled = true;
+        start = getD (l .tokens) 0 filler .start;
+        length = getD (l .tokens) 0 filler .length;
+        effect = e;
+        end = l .end;
+      })
+  unfolding readOn readKind
+  record-labelled t some-tokens is-label e q i =
+      record {
+        reads = ap (λ (x : MeantEffect). record { label = some (spelling s (getD (l .tokens) 0 filler)); effect = x }) q ∙ ap (readKind c (recordMeant s l)) is-label;
+        starts = refl;
+        unlabelled = λ f. absurd (true≢false f);
+        ends = refl;
+        in-text = t .kept .inside-text 0;
+        in-table = i;
+      }
 
-  pub record-bare : (e : Effect) (k : Kind) → k ≡ kindOf (firsts s (l .tokens) (l .count)) → record { label = none; effect = effectMeant e } ≡ readKind c (recordMeant s l) k → InTable e
-      → RecordIs s l c (bare e)
-  unfolding readOn
-  record-bare e k h q t =
-      record { reads = q ∙ ap (readKind c (recordMeant s l)) h; starts = λ f. no-label-found f; ends = refl; in-text = omega arith; in-table = t }
-    where
-      no-label-found : {X : Type 0} → _≡_ {A = Bool} false true → X
-      no-label-found z = let y : _≡_ {A = ℕ} 0 1 = cc in absurd (omega arith)
+  -- A line without a label, whose content starts at a place.
+  module _ (start : ℕ) (inside : start ≤ length s) where
+    abbrev pub bare : Effect → Read
+    bare e = record { labelled = false; start = start; length = 0; effect = e; end = l .end }
 
-  -- An empty line, and a directive that does nothing.
-  pub record-empty : empty ≡ kindOf (firsts s (l .tokens) (l .count)) → RecordIs s l c (bare Nothing)
-  unfolding readKind
-  record-empty e = record-bare Nothing empty e refl tt
+    record-bare : (e : Effect) (k : Kind) → k ≡ kindOf (firsts s (l .tokens) (l .count)) → record { label = none; effect = effectMeant e } ≡ readKind c (recordMeant s l) k → InTable e
+        → RecordIs s l start c (bare e)
+    unfolding readOn
+    record-bare e k h q t =
+        record { reads = q ∙ ap (readKind c (recordMeant s l)) h; starts = refl; unlabelled = λ _. refl; ends = refl; in-text = omega arith; in-table = t }
 
-  pub record-ignored : ignored ≡ kindOf (firsts s (l .tokens) (l .count)) → RecordIs s l c (bare Nothing)
-  unfolding readKind
-  record-ignored e = record-bare Nothing ignored e refl tt
+    -- An empty line, and a directive that does nothing.
+    pub record-empty : empty ≡ kindOf (firsts s (l .tokens) (l .count)) → RecordIs s l start c (bare Nothing)
+    unfolding readKind
+    record-empty e = record-bare Nothing empty e refl tt
 
-  -- A `.config` line.
-  pub record-config : (e : Effect) → config ≡ kindOf (firsts s (l .tokens) (l .count)) → effectMeant e ≡ setting (configured (c .setup) (recordMeant s l)) → InTable e → RecordIs s l c (bare e)
-  unfolding readKind
-  record-config e h q t = record-bare e config h (ap (λ (x : MeantEffect). record { label = none; effect = x }) q) t
+    pub record-ignored : ignored ≡ kindOf (firsts s (l .tokens) (l .count)) → RecordIs s l start c (bare Nothing)
+    unfolding readKind
+    record-ignored e = record-bare Nothing ignored e refl tt
 
-  -- An instruction.
-  pub record-plain : (e : Effect) → plain ≡ kindOf (firsts s (l .tokens) (l .count)) → effectMeant e ≡ coding (readInstruction (behind 0 (recordMeant s l))) → InTable e → RecordIs s l c (bare e)
-  unfolding readKind
-  record-plain e h q t =
-      record-bare e plain h (ap (λ (x : MeantEffect). record { label = none; effect = x }) (q ∙ ap coding (behind-none (recordMeant s l)))) t
+    -- A `.config` line.
+    pub record-config : (e : Effect) → config ≡ kindOf (firsts s (l .tokens) (l .count)) → effectMeant e ≡ setting (configured (c .setup) (recordMeant s l)) → InTable e
+        → RecordIs s l start c (bare e)
+    unfolding readKind
+    record-config e h q t = record-bare e config h (ap (λ (x : MeantEffect). record { label = none; effect = x }) q) t
 
-  module _ (t : Told s l) (some-tokens : 2 ≤ l .count) (is-label : labelled (spelling s (getD (l .tokens) 0 filler)) ≡ kindOf (firsts s (l .tokens) (l .count))) where
-    -- A line with the label that it begins with.
-    abbrev marked : Effect → Read
-    marked e =
-        record {
-          labelled = true;
-          start = getD (l .tokens) 0 filler .start;
-          length = getD (l .tokens) 0 filler .length;
-          effect = e;
-          end = l .end;
-        }
-
-    record-marked : (e : Effect) → effectMeant e ≡ afterLabel (behind 2 (recordMeant s l)) → InTable e → RecordIs s l c (marked e)
-    unfolding readOn readKind
-    record-marked e q i =
-        record {
-          reads = ap (λ (x : MeantEffect). record { label = some (spelling s (getD (l .tokens) 0 filler)); effect = x }) q ∙ ap (readKind c (recordMeant s l)) is-label;
-          starts = λ f. (omega arith, refl);
-          ends = refl;
-          in-text = t .kept .inside-text 0;
-          in-table = i;
-        }
-
-    -- A label alone.
-    pub record-alone : l .count ≡ 2 → RecordIs s l c (marked Nothing)
-    unfolding afterLabel behind
-    record-alone e =
-        let none-left : drop 2 (firsts s (l .tokens) (l .count)) ≡ [] = tokens-end s (l .tokens) (l .count) 2 (omega arith) in
-        record-marked Nothing (rw (afterLabel, behind, none-left)) tt
-
-    -- A label, and an instruction after it.
-    pub record-labelled : (e : Effect) → 2 < l .count → effectMeant e ≡ coding (readInstruction (behind 2 (recordMeant s l))) → InTable e → RecordIs s l c (marked e)
-    unfolding behind
-    record-labelled e m q i =
-        record-marked e (q ∙ sym (after-some (behind 2 (recordMeant s l)) _ _ (token-at s (l .tokens) (l .count) 2 m (omega (arith, t .kept .nine))))) i
+    -- An instruction.
+    pub record-plain : (e : Effect) → plain ≡ kindOf (firsts s (l .tokens) (l .count)) → effectMeant e ≡ coding (readInstruction (behind 0 (recordMeant s l))) → InTable e
+        → RecordIs s l start c (bare e)
+    unfolding readKind
+    record-plain e h q t =
+        record-bare e plain h (ap (λ (x : MeantEffect). record { label = none; effect = x }) (q ∙ ap coding (behind-none (recordMeant s l)))) t
 
 -- 1 for a label, 0 for other kinds.
 abbrev labels : Kind → ℕ
@@ -217,52 +215,34 @@ module _ (s : List ℕ) (from : ℕ) (l : Line) (is : l ≡ recordAt s from) (c 
   h : LineRead s from l
   h = line-read s from l is
 
-  pub line-record : (r : Read) → l .bad ≡ false → RecordIs s l c r → LineIs s from c r
+  pub line-record : (start : ℕ) (r : Read) → l .bad ≡ false → start ≡ from + indent (restAt s from) → RecordIs s l start c r → LineIs s from c r
   unfolding endOf
-  line-record r b q =
+  line-record start r b i q =
       let e : readLine present (restAt s from) ≡ some (recordMeant s l) = h .means ∙ rw b in
       record {
         reads = rw e (q .reads);
-        starts = λ f. let (n, i) = q .starts f in i ∙ h .begins n;
+        starts = q .starts ∙ i;
+        unlabelled = q .unlabelled;
         ends = rw (endOf, e) (q .ends ∙ h .ends b);
         in-text = q .in-text;
         in-table = q .in-table;
       }
 
+  -- Its first token stands where its content starts.
+  pub first-starts : 0 < l .count → getD (l .tokens) 0 filler .start ≡ from + indent (restAt s from)
+  first-starts n = h .begins n
+
   -- A line with a bad token.
-  pub line-bad : l .bad ≡ true → LineIs s from c (bare s l c (Faulty 3))
+  pub line-bad : (start : ℕ) → l .bad ≡ true → start ≡ from + indent (restAt s from) → start ≤ length s
+      → LineIs s from c (record { labelled = false; start = start; length = 0; effect = Faulty 3; end = l .end })
   unfolding readOn endOf
-  line-bad b =
+  line-bad start b i inside =
       let e : readLine present (restAt s from) ≡ none = h .means ∙ rw b in
       record {
         reads = rw e;
-        starts = λ f. not-found f;
+        starts = i;
+        unlabelled = λ _. refl;
         ends = rw (endOf, e) (h .bad-ends b);
         in-text = omega arith;
         in-table = tt;
       }
-    where
-      not-found : {X : Type 0} → _≡_ {A = Bool} false true → X
-      not-found z = let y : _≡_ {A = ℕ} 0 1 = cc in absurd (omega arith)
-
--- A line that is read straight.
-module _ (s : List ℕ) (from end : ℕ) (c : Context) where
-  line-some : (r : Read) (x : Record) → readLine present (restAt s from) ≡ some x → readMeant s r ≡ readOn c (some x) → (r .labelled ≡ true → r .start ≡ from + indent (restAt s from))
-      → r .end ≡ endAt s from → r .start + r .length ≤ length s → InTable (r .effect) → LineIs s from c r
-  unfolding endOf
-  line-some r x e q i n t k = record { reads = rw e q; starts = i; ends = rw (endOf, e) n; in-text = t; in-table = k }
-
-  unmarked : {X : Type 0} → _≡_ {A = Bool} false true → X
-  unmarked z = let y : _≡_ {A = ℕ} 0 1 = cc in absurd (omega arith)
-
-  pub line-instruction : (row : ℕ) (o : Operands) → IsInstruction s from row o end → LineIs s from c (record { labelled = false; start = 0; length = 0; effect = Codes row o; end = end })
-  unfolding readOn readKind coding
-  line-instruction row o h = line-some _ (h .line) (h .reads) (rw (h .is-plain, h .instruction)) (λ f. unmarked f) (h .ends) (omega arith) (h .in-table)
-
-  pub line-label : (start length′ : ℕ) → IsLabel s from start length′ end → LineIs s from c (record { labelled = true; start = start; length = length′; effect = Nothing; end = end })
-  unfolding readOn readKind kindOf identifierKind markByte behind afterLabel
-  line-label start length′ h = line-some _ _ (h .reads) refl (λ f. h .starts) (h .ends) (h .in-text) tt
-
-  pub line-empty : IsEmpty s from end → LineIs s from c (record { labelled = false; start = 0; length = 0; effect = Nothing; end = end })
-  unfolding readOn readKind kindOf
-  line-empty h = line-some _ _ (h .reads) refl (λ f. unmarked f) (h .ends) (omega arith) tt

@@ -1,29 +1,34 @@
--- What a line that is read straight means, and what the functions promise. Of an answer that something else stands at a place nothing is
--- promised: the record of the line's tokens then decides.
+-- What the line at a place of a source reads as, and what the functions that read it promise. `LineIs` is the promise of the one public
+-- function; the other sections are about the two private ways to it, from the line's bytes at once and by the record of its tokens. Where
+-- the first finds something else at a place, nothing is promised of that answer: the record decides. Quotations are document 01's.
 use Prim.Native.Nat.{ℕ, _+_, _-_, _*_, _≤_, _<_}
 use mathlib.Core.Path.{_≡_}
-use mathlib.Core.Bool.{Bool, true, false, _||_}
-use lib.Dec.{eqb, ltb}
+use mathlib.Core.Bool.{Bool, true, false, not, _&&_, _||_}
+use lib.Dec.{eqb}
 use mathlib.Core.Logic.{_⊎_}
 use mathlib.Core.Option.{Option, none, some}
 use mathlib.Core.List.{List, [], _∷_, map}
 use lib.ListN.{length, take, drop, getD}
-use Rattle.text_lexical.specs.Bytes.{value, namePart, lower, run}
+use Rattle.text_lexical.specs.Bytes.{value, nameStart, namePart, lower, run, isSome}
 use Rattle.text_lexical.specs.Names.{named, present}
-use Rattle.text_lexical.specs.Contracts.{indexOf, keyOf}
+use Rattle.text_lexical.specs.Contracts.{indexOf, keyOf, signedMeant}
 use Rattle.text_lexical.specs.declared.name.RegisterName.{RegisterName}
 use Rattle.text_lexical.specs.declared.name.RegisterName.the-variants.{Is as Named, NoSuch, Other as NoName}
+use Rattle.text_lexical.specs.declared.number.Whole.{Whole}
+use Rattle.text_lexical.specs.declared.register.Register.{Register}
+use Rattle.text_lexical.specs.declared.register.Register.the-variants.{R0}
 use Rattle.text.specs.Tokens.{Token, identifier, register, colon, infront, tokens}
-use Rattle.text.specs.Lines.{Line, indent, readLine}
+use Rattle.text.specs.Lines.{indent, readLine}
 use Rattle.text.specs.Places.{restAt, leftAt, endAt}
+use Rattle.text.specs.Values.{readNumber}
 use Rattle.text.specs.Contracts.{kindMeant as tokenMeant, filler, spelling}
 use Rattle.text.specs.declared.parser.Line.{Line as Record}
-use Rattle.instruction.specs.Table.{Place, reg, num, comma-place, opening-place, closing-place, places, rowNamed}
-use Rattle.instruction.specs.Operands.{markByte, readOperands, readInstruction}
-use Rattle.instruction.specs.Contracts.{mnemonicKeys, formNumbers, slotRows, rowAt, formAt, operandsMeant, partsMeant}
+use Rattle.instruction.specs.Table.{Place, reg, num, comma-place, opening-place, closing-place, places}
+use Rattle.instruction.specs.Operands.{markByte, readOperands}
+use Rattle.instruction.specs.Contracts.{mnemonicKeys, formNumbers, slotRows, formAt, operandsMeant, partsMeant}
 use Rattle.instruction.specs.declared.instruction.Operands.{Operands}
 use Rattle.instruction_operands.specs.Contracts.{Kept}
-use Rattle.image.specs.Assembling.{Kind, empty, labelled, config, ignored, plain, kindOf, Context, Effect as MeantEffect, nothing, sets, codes, faulty, Read as MeantRead, readOn}
+use Rattle.image.specs.Assembling.{Kind, empty, labelled, config, ignored, plain, Context, Effect as MeantEffect, nothing, sets, codes, faulty, Read as MeantRead, readOn}
 use Rattle.image.specs.Contracts.{settingsMeant, recordMeant}
 use Rattle.image.specs.declared.config.Config.{Config}
 use Rattle.image_line.specs.declared.operand.RegisterAt.{RegisterAt}
@@ -32,13 +37,15 @@ use Rattle.image_line.specs.declared.operand.NumberAt.{NumberAt}
 use Rattle.image_line.specs.declared.operand.NumberAt.the-variants.{Is as IsNumber, Other as NoNumber}
 use Rattle.image_line.specs.declared.operand.EndAt.{EndAt}
 use Rattle.image_line.specs.declared.operand.EndAt.the-variants.{Is as IsEnd, Other as NoEnd}
-use Rattle.image_line.specs.declared.fast.Word.{Word}
-use Rattle.image_line.specs.declared.fast.Front.{Front}
-use Rattle.image_line.specs.declared.fast.Front.the-variants.{Is as IsFront, Other as NoFront}
+use Rattle.image_line.specs.declared.fast.OperandAt.{OperandAt}
+use Rattle.image_line.specs.declared.fast.OperandAt.the-variants.{Register as RegisterOperand, Number as NumberOperand, Other as NoOperand}
 use Rattle.image_line.specs.declared.fast.Tail.{Tail}
 use Rattle.image_line.specs.declared.fast.Tail.the-variants.{Are, Other as NoTail}
-use Rattle.image_line.specs.declared.fast.Straight.{Straight}
-use Rattle.image_line.specs.declared.fast.Straight.the-variants.{Instruction, Label, Empty, Other as NotStraight}
+use Rattle.image_line.specs.declared.fast.Word.{Word}
+use Rattle.image_line.specs.declared.fast.FirstWord.{FirstWord}
+use Rattle.image_line.specs.declared.fast.FirstWord.the-variants.{Is as IsWord, Missing as NoWord}
+use Rattle.image_line.specs.declared.fast.Fast.{Fast}
+use Rattle.image_line.specs.declared.fast.Fast.the-variants.{Instruction, Bare, Other as NotFast}
 use Rattle.image_line.specs.declared.record.LineKind.{LineKind}
 use Rattle.image_line.specs.declared.record.LineKind.the-variants.{Empty as EmptyKind, Label as LabelKind, Config as ConfigKind, Ignored, Plain}
 use Rattle.image_line.specs.declared.line.Effect.{Effect}
@@ -106,39 +113,22 @@ pub record Behind (s : List ℕ) (at m next : ℕ) : Type 0 where
   pub here : m ≡ 0 → next ≡ at
   pub there : IsMark m → MarkIs s at m next
 
--- ---- a line
+-- An operand at a place: a number where one is asked for, and else a register.
+abbrev pub OperandIs : List ℕ → ℕ → Bool → OperandAt → Type 0
+OperandIs s at numeric (NumberOperand w next) =
+    (numeric ≡ true) × ((t : Token) × ((readNumber t ≡ value (signedMeant (w .negative) (w .magnitude))) × Reads s at t next))
+OperandIs s at numeric (RegisterOperand r next) = (numeric ≡ false) × Reads s at (register (some (indexOf r))) next
+OperandIs s at numeric NoOperand = Unit {0}
 
--- Where the word that begins at a place ends.
-abbrev pub wordEnd : List ℕ → ℕ → ℕ
-wordEnd s at = at + 1 + run namePart (drop (at + 1) s)
+-- The line ends at a place, after these operands.
+pub record EndsAfter (s : List ℕ) (at : ℕ) (rs : List Register) (w : Whole) (o : Operands) (end : ℕ) : Type 0 where
+  pub operands-are : o ≡ record { first = getD rs 0 R0; second = getD rs 1 R0; third = getD rs 2 R0; number = w }
+  pub nothing-left : tokens present (leftAt s at) ≡ some []
+  pub ends : end ≡ endAt s at
 
-abbrev pub part : List ℕ → ℕ → ℕ → List ℕ
-part s at n = take n (drop at s)
-
--- The key of a word in lower case, and its end.
-pub record WordIs (s : List ℕ) (at : ℕ) (w : Word) : Type 0 where
-  pub ends : w .end ≡ wordEnd s at
-  pub key-is : w .key ≡ keyOf (map lower (part s at (w .end - at)))
-
--- An identifier up to a place, and a colon up to another.
-pub record Labels (s : List ℕ) (at end next : ℕ) : Type 0 where
-  pub name : Reads s at (identifier (part s at (end - at))) end
-  pub mark : Reads s end colon next
-
--- The place behind a label's colon; 0: nothing is said.
-abbrev pub LabelIs : List ℕ → ℕ → ℕ → ℕ → Type 0
-LabelIs s at end next = (next ≡ 0 → ⊥) → Labels s at end next
-
--- What a line begins with, behind its margin: a mnemonic or a label, or nothing that is read here.
-pub data FrontIs (s : List ℕ) (start row form length at : ℕ) : Type 0 where
-  no-front : row ≡ 50 → form ≡ 7 → length ≡ 0 → at ≡ start → FrontIs s start row form length at
-  mnemonic : (u : List ℕ) → row < 50 → rowNamed (map lower u) ≡ some (rowAt row) → formAt form ≡ rowAt row .form → Reads s start (identifier u) at
-      → FrontIs s start row form length at
-  label : row ≡ 50 → form ≡ 7 → 0 < length → Labels s start (start + length) at → FrontIs s start row form length at
-
-abbrev pub Fronts : List ℕ → ℕ → Front → Type 0
-Fronts s start (IsFront row form length at) = FrontIs s start row form length at
-Fronts s start NoFront = Unit {0}
+abbrev pub EndsWith : List ℕ → ℕ → List Register → Whole → Tail → Type 0
+EndsWith s at rs w (Are o e) = EndsAfter s at rs w o e
+EndsWith s at rs w NoTail = Unit {0}
 
 -- The operands of a form fill the rest of a line.
 pub record TailIs (s : List ℕ) (from form : ℕ) (o : Operands) (end : ℕ) : Type 0 where
@@ -152,59 +142,58 @@ abbrev pub Tails : List ℕ → ℕ → ℕ → Tail → Type 0
 Tails s from form (Are o e) = TailIs s from form o e
 Tails s from form NoTail = Unit {0}
 
--- A line is an instruction's, without a label.
-pub record IsInstruction (s : List ℕ) (from row : ℕ) (o : Operands) (end : ℕ) : Type 0 where
-  pub in-table : row < 50
-  pub line : Line
-  pub reads : readLine present (restAt s from) ≡ some line
-  pub is-plain : kindOf (line .first) ≡ plain
-  pub instruction : readInstruction line ≡ value (partsMeant (record { row = row; operands = o }))
-  pub ends : end ≡ endAt s from
+-- ---- a word
 
--- A line is a label, and nothing stands behind it.
-pub record IsLabel (s : List ℕ) (from start length′ end : ℕ) : Type 0 where
-  pub reads : readLine present (restAt s from) ≡ some (record { count = 2; first = identifier (part s start length′) ∷ colon ∷ [] })
-  pub starts : start ≡ from + indent (restAt s from)
-  pub in-text : start + length′ ≤ length s
-  pub ends : end ≡ endAt s from
+-- Where the word that begins at a place ends.
+abbrev pub wordEnd : List ℕ → ℕ → ℕ
+wordEnd s at = at + 1 + run namePart (drop (at + 1) s)
 
--- A line has no token.
-pub record IsEmpty (s : List ℕ) (from end : ℕ) : Type 0 where
-  pub reads : readLine present (restAt s from) ≡ some (record { count = 0; first = [] })
-  pub ends : end ≡ endAt s from
+abbrev pub part : List ℕ → ℕ → ℕ → List ℕ
+part s at n = take n (drop at s)
 
-abbrev pub IsStraight : List ℕ → ℕ → Straight → Type 0
-IsStraight s from (Instruction row o e) = IsInstruction s from row o e
-IsStraight s from (Label start length e) = IsLabel s from start length e
-IsStraight s from (Empty e) = IsEmpty s from e
-IsStraight s from NotStraight = Unit {0}
+-- The key of a word in lower case, and its end.
+pub record WordIs (s : List ℕ) (at : ℕ) (w : Word) : Type 0 where
+  pub ends : w .end ≡ wordEnd s at
+  pub key-is : w .key ≡ keyOf (map lower (part s at (w .end - at)))
 
--- What a front and operands up to a line's end make of it.
-unfoldable pub wholeOf : ℕ → ℕ → ℕ → Operands → ℕ → Straight
-wholeOf start row length o end =
-    elim (ltb row 50) [ true ↦ Instruction row o end | false ↦ elim (ltb 0 length) [ true ↦ Label start length end | false ↦ Empty end ] ]
+-- Whether a word is a label: a colon follows it at once, and it is no register's name.
+unfoldable pub isLabel : List ℕ → ℕ → ℕ → Bool
+isLabel s at end = eqb (getD s end 0) 58 && not (isSome (nameNumber (named present (part s at (end - at)))))
 
--- ---- a line by its record
+-- An identifier up to a place, and a colon up to another.
+pub record Labels (s : List ℕ) (at end next : ℕ) : Type 0 where
+  pub name : Reads s at (identifier (part s at (end - at))) end
+  pub mark : Reads s end colon next
 
--- What a line's record promises of its tokens: there are nine places, each token is a part of the text, and takes a byte at least.
-pub record Told (s : List ℕ) (l : Record) : Type 0 where
-  pub kept : Kept s l
-  pub solid : (i : ℕ) → i < 9 → i < l .count → 0 < getD (l .tokens) i filler .length
+-- What stands between the start of a line's content and a place: nothing, or a label.
+pub data OptionalLabel (s : List ℕ) (start : ℕ) (labelled : Bool) (length at : ℕ) : Type 0 where
+  without : labelled ≡ false → length ≡ 0 → at ≡ start → OptionalLabel s start labelled length at
+  with-label : labelled ≡ true → Labels s start (start + length) at → OptionalLabel s start labelled length at
+
+-- The first word of a line, its label aside.
+pub record WordAfter (s : List ℕ) (start : ℕ) (labelled : Bool) (length′ key end : ℕ) : Type 0 where
+  pub at : ℕ
+  pub label : OptionalLabel s start labelled length′ at
+  pub in-text : at < length s
+  pub begins : nameStart (getD s at 0) ≡ true
+  pub word : WordIs s at (record { key = key; end = end })
+
+-- The place of that word, or one where no word begins.
+pub record NoWordAfter (s : List ℕ) (start : ℕ) (labelled : Bool) (length′ at : ℕ) : Type 0 where
+  pub label : OptionalLabel s start labelled length′ at
+  pub in-text : at ≤ length s
+
+abbrev pub FirstWordIs : List ℕ → ℕ → FirstWord → Type 0
+FirstWordIs s start (IsWord marked length key end) = WordAfter s start marked length key end
+FirstWordIs s start (NoWord marked length at) = NoWordAfter s start marked length at
+
+-- ---- what a line reads as
 
 -- The tables by which a line is read as an instruction.
 pub record Tables (mnemonics forms slots : List ℕ) : Type 0 where
   pub keys : mnemonics ≡ mnemonicKeys
   pub form-column : forms ≡ formNumbers
   pub slot-rows : slots ≡ slotRows
-
-abbrev pub kindMeant : List ℕ → Record → LineKind → Kind
-kindMeant s l EmptyKind = empty
-kindMeant s l LabelKind = labelled (spelling s (getD (l .tokens) 0 filler))
-kindMeant s l ConfigKind = config
-kindMeant s l Ignored = ignored
-kindMeant s l Plain = plain
-
--- ---- what a line reads as
 
 abbrev pub contextFor : Config → Context
 contextFor c = record { setup = settingsMeant c }
@@ -230,15 +219,6 @@ labelIf false u = none
 abbrev pub readMeant : List ℕ → Read → MeantRead
 readMeant s r = record { label = labelIf (r .labelled) (take (r .length) (drop (r .start) s)); effect = effectMeant (r .effect) }
 
--- A line by its record.
-pub record RecordIs (s : List ℕ) (l : Record) (c : Context) (r : Read) : Type 0 where
-  pub reads : readMeant s r ≡ readOn c (some (recordMeant s l))
-  -- a label is the line's first token
-  pub starts : r .labelled ≡ true → (0 < l .count) × (r .start ≡ getD (l .tokens) 0 filler .start)
-  pub ends : r .end ≡ l .end
-  pub in-text : r .start + r .length ≤ length s
-  pub in-table : InTable (r .effect)
-
 -- Where the line at a place ends; a bad token leaves that open, and the place itself is answered.
 unfoldable pub endOf : List ℕ → ℕ → ℕ
 endOf s from = elim (readLine present (restAt s from)) [ none ↦ from | some l ↦ endAt s from ]
@@ -246,7 +226,44 @@ endOf s from = elim (readLine present (restAt s from)) [ none ↦ from | some l 
 -- The line at a place, with what those above it leave.
 pub record LineIs (s : List ℕ) (from : ℕ) (c : Context) (r : Read) : Type 0 where
   pub reads : readMeant s r ≡ readOn c (readLine present (restAt s from))
-  pub starts : r .labelled ≡ true → r .start ≡ from + indent (restAt s from)
+  pub starts : r .start ≡ from + indent (restAt s from)
+  pub unlabelled : r .labelled ≡ false → r .length ≡ 0
   pub ends : r .end ≡ endOf s from
+  pub in-text : r .start + r .length ≤ length s
+  pub in-table : InTable (r .effect)
+
+-- ---- the fast path
+
+-- What a line reads as whatever the settings are.
+abbrev pub ReadsAs : List ℕ → ℕ → Read → Type 0
+ReadsAs s from r = (c : Context) → LineIs s from c r
+
+abbrev pub FastIs : List ℕ → ℕ → Fast → Type 0
+FastIs s from (Instruction marked start length row o end) =
+    ReadsAs s from (record { labelled = marked; start = start; length = length; effect = Codes row o; end = end })
+FastIs s from (Bare marked start length end) =
+    ReadsAs s from (record { labelled = marked; start = start; length = length; effect = Nothing; end = end })
+FastIs s from NotFast = Unit {0}
+
+-- ---- a line by its record
+
+-- What a line's record promises of its tokens: there are nine places, each token is a part of the text, and takes a byte at least.
+pub record Recorded (s : List ℕ) (l : Record) : Type 0 where
+  pub kept : Kept s l
+  pub solid : (i : ℕ) → i < 9 → i < l .count → 0 < getD (l .tokens) i filler .length
+
+abbrev pub kindMeant : List ℕ → Record → LineKind → Kind
+kindMeant s l EmptyKind = empty
+kindMeant s l LabelKind = labelled (spelling s (getD (l .tokens) 0 filler))
+kindMeant s l ConfigKind = config
+kindMeant s l Ignored = ignored
+kindMeant s l Plain = plain
+
+-- A line by its record, where its content starts at a place.
+pub record RecordIs (s : List ℕ) (l : Record) (start : ℕ) (c : Context) (r : Read) : Type 0 where
+  pub reads : readMeant s r ≡ readOn c (some (recordMeant s l))
+  pub starts : r .start ≡ start
+  pub unlabelled : r .labelled ≡ false → r .length ≡ 0
+  pub ends : r .end ≡ l .end
   pub in-text : r .start + r .length ≤ length s
   pub in-table : InTable (r .effect)

@@ -1,13 +1,13 @@
-// A line of an instruction without a label, of a label alone, or an empty one, read straight.
+// A line read from its bytes at once, without the record of its tokens: its label, its mnemonic and its operands. A line that is read so in
+// part only is left to the record.
 ghost use mathlib.Core.Path.{_≡_};
 ghost use mathlib.Core.Bool.{true};
 ghost use Prim.Native.Nat.{_≤_, _<_};
 ghost use lib.ListN.{length, getD};
 ghost use Rattle.text_lexical.specs.Bytes.{nameStart};
 ghost use Rattle.instruction.specs.Table.{places};
-ghost use Rattle.instruction.specs.Contracts.{formAt, mnemonicKeys, formNumbers, slotRows};
-ghost use Rattle.image_line.specs.Contracts.{Ahead, isNumber, markOf, wordEnd, WordIs, LabelIs, Fronts, Tails, wholeOf, IsStraight};
-ghost use Rattle.image_line.specs.declared.fast.Front.the-variants.{Is};
+ghost use Rattle.instruction.specs.Contracts.{formAt};
+ghost use Rattle.image_line.specs.Contracts.{Tables, Ahead, isNumber, markOf, OperandIs, EndsWith, Tails, WordIs, isLabel, FirstWordIs, FastIs};
 use crate::operand::EndAt;
 use crate::operand::NumberAt;
 use crate::operand::RegisterAt;
@@ -19,45 +19,61 @@ use text_lexical::name::RegisterName;
 use text_lexical::number::Whole;
 use text_lexical::register::Register;
 
-pub(crate) enum Straight {
-    // the mnemonic's row, the operands, and where the line ends
+// What a line reads as, if its bytes tell.
+pub(crate) enum Fast {
+    // An instruction, after a label or not: its row in the table and its operands.
     Instruction {
+        labelled: bool,
+        start: usize,
+        length: usize,
         row: usize,
         operands: Operands,
         end: usize,
     },
-    // a label alone
-    Label {
+    // A label alone, or an empty line.
+    Bare {
+        labelled: bool,
         start: usize,
         length: usize,
         end: usize,
     },
-    Empty(usize),
-    // the record of the line's tokens decides
+    // The record of the line's tokens decides.
     Other,
 }
 
-// What a line begins with, and the place behind: a mnemonic's row and form, or 50 and the form without operands; the length of a
-// label, or 0.
-pub(crate) enum Front {
+// The first word of a line, its label aside: its key and its end; or the place where no word begins. Whether a label stands before it, and
+// the label's length.
+enum FirstWord {
     Is {
-        row: usize,
-        form: u8,
+        labelled: bool,
+        length: usize,
+        key: u64,
+        end: usize,
+    },
+    Missing {
+        labelled: bool,
         length: usize,
         at: usize,
     },
+}
+
+// An operand, and the place after it.
+enum OperandAt {
+    Register { register: Register, next: usize },
+    Number { number: Whole, next: usize },
     Other,
 }
 
-// What stands behind that: operands up to the line's end.
-pub(crate) enum Tail {
+// The operands of an instruction, up to the line's end.
+enum Tail {
     Are { operands: Operands, end: usize },
     Other,
 }
 
-pub(crate) struct Word {
-    pub(crate) key: u64,
-    pub(crate) end: usize,
+// The key of a word, and its end.
+struct Word {
+    key: u64,
+    end: usize,
 }
 
 // The operands of a form, a digit each, the first lowest: 1 `r,`, 2 `n(`, 3 `r)`, 4 `r`, 5 `n`. They are looked up: forms follow each
@@ -90,6 +106,45 @@ fn mark_of(operand: u32) -> u8
     }
 }
 
+// A number or a register, and the place after it.
+fn operand_at(source: &[u8], at: usize, numeric: bool) -> OperandAt
+    requires { ⌜ at ≤ length (now source) ⌝ }
+    ensures { λ r. ⌜ OperandIs (now (source .entry)) at numeric r ⌝ }
+{
+    if numeric {
+        return match crate::operand::number_at(source, at) {
+            NumberAt::Other => OperandAt::Other,
+            NumberAt::Is { kind, next } => match text::parser::extract_number(kind) {
+                Extracted::Refused(_) => OperandAt::Other,
+                Extracted::Number(number) => OperandAt::Number { number, next },
+            },
+        };
+    }
+    match crate::operand::register_at(source, at) {
+        RegisterAt::Other => OperandAt::Other,
+        RegisterAt::Is { register, next } => OperandAt::Register { register, next },
+    }
+}
+
+// The operands that were read, if the line ends at `at`.
+fn tail_at(source: &[u8], at: usize, registers: [Register; 3], number: Whole) -> Tail
+    requires { ⌜ at ≤ length (now source) ⌝ }
+    ensures { λ r. ⌜ EndsWith (now (source .entry)) at registers number r ⌝ }
+{
+    match crate::operand::end_at(source, at) {
+        EndAt::Other => Tail::Other,
+        EndAt::Is(end) => Tail::Are {
+            operands: Operands {
+                first: registers[0],
+                second: registers[1],
+                third: registers[2],
+                number,
+            },
+            end,
+        },
+    }
+}
+
 // The operands of a form from `from` on, up to the line's end. One loop over the places of any form: its parts are called at one place
 // each, so that all of it is compiled as one.
 fn read_tail(source: &[u8], from: usize, form: u8) -> Tail
@@ -99,59 +154,34 @@ fn read_tail(source: &[u8], from: usize, form: u8) -> Tail
     let none = Register::R0;
     let mut registers = [none; 3];
     let mut count = 0;
-    let mut negative = false;
-    let mut magnitude: u64 = 0;
+    let mut number = Whole {
+        negative: false,
+        magnitude: 0,
+    };
     let mut at = from;
     let mut left = operands_of(form);
     while 0 < left {
         let operand = left % 8;
-        let mut next = 0;
-        if is_number(operand) {
-            match crate::operand::number_at(source, at) {
-                NumberAt::Other => return Tail::Other,
-                NumberAt::Is { kind, next: behind } => match text::parser::extract_number(kind) {
-                    Extracted::Refused(_) => return Tail::Other,
-                    Extracted::Number(whole) => {
-                        negative = whole.negative;
-                        magnitude = whole.magnitude;
-                        next = behind;
-                    }
-                },
+        let mut after = 0;
+        match operand_at(source, at, is_number(operand)) {
+            OperandAt::Other => return Tail::Other,
+            OperandAt::Number { number: n, next } => {
+                number = n;
+                after = next;
             }
-        } else {
-            match crate::operand::register_at(source, at) {
-                RegisterAt::Other => return Tail::Other,
-                RegisterAt::Is {
-                    register,
-                    next: behind,
-                } => {
-                    registers[count] = register;
-                    count += 1;
-                    next = behind;
-                }
+            OperandAt::Register { register, next } => {
+                registers[count] = register;
+                count += 1;
+                after = next;
             }
         }
-        at = crate::operand::behind_mark(source, next, mark_of(operand));
+        at = crate::operand::behind_mark(source, after, mark_of(operand));
         if at == 0 {
             return Tail::Other;
         }
         left = left / 8;
     }
-    match crate::operand::end_at(source, at) {
-        EndAt::Other => Tail::Other,
-        EndAt::Is(end) => Tail::Are {
-            operands: Operands {
-                first: registers[0],
-                second: registers[1],
-                third: registers[2],
-                number: Whole {
-                    negative,
-                    magnitude,
-                },
-            },
-            end,
-        },
-    }
+    tail_at(source, at, registers, number)
 }
 
 // The key in lower case of the word at `at`, and where it ends.
@@ -187,115 +217,119 @@ fn lower_word(text: &[u8], at: usize) -> Word
     }
 }
 
-// The place behind the colon of a label that is the word from `at` to `end`; 0 if no colon stands right behind it, or it is a register's
-// name. These have four bytes at most.
-fn behind_label(source: &[u8], at: usize, end: usize) -> usize
-    requires { ⌜ at < length (now source) ⌝ ∗ ⌜ nameStart (getD (now source) at 0) ≡ true ⌝ ∗ ⌜ end ≡ wordEnd (now source) at ⌝ }
-    ensures { λ r. ⌜ LabelIs (now (source .entry)) at end r ⌝ }
+// Whether the word from `at` to `end` is a label: a colon follows it at once, and it is no register's name. These have four bytes at most.
+fn is_label(source: &[u8], at: usize, end: usize) -> bool
+    requires { ⌜ at < end ⌝ ∗ ⌜ end ≤ length (now source) ⌝ }
+    ensures { λ r. ⌜ r ≡ isLabel (now (source .entry)) at end ⌝ }
 {
     if source.len() <= end {
-        return 0;
+        return false;
     }
     if source[end] != b':' {
-        return 0;
+        return false;
     }
     if end - at <= 4 {
         match text_lexical::name::parse_register(&source[at..end]) {
-            RegisterName::Other => return end + 1,
-            _ => return 0,
+            RegisterName::Other => return true,
+            _ => return false,
         }
     }
-    end + 1
+    true
 }
 
-// A line that begins with no word.
-fn no_word(at: usize) -> Front
-    ensures { λ r. ⌜ r ≡ Is 50 7 0 at ⌝ }
+// The first word from `start` on, and the label before it if there is one: two turns at most. One loop, so that `lower_word` is called at
+// one place and compiled in line.
+fn first_word(source: &[u8], start: usize) -> FirstWord
+    requires { ⌜ start ≤ length (now source) ⌝ }
+    ensures { λ r. ⌜ FirstWordIs (now (source .entry)) start r ⌝ }
 {
-    Front::Is {
-        row: 50,
-        form: 7,
-        length: 0,
-        at,
-    }
-}
-
-// What a line begins with, behind its margin.
-fn read_front(
-    source: &[u8],
-    at: usize,
-    mnemonics: &[u64; 50],
-    forms: &[u8; 50],
-    slots: &[u8; 293],
-) -> Front
-    requires { ⌜ at ≤ length (now source) ⌝ ∗ ⌜ now mnemonics ≡ mnemonicKeys ⌝ ∗ ⌜ now forms ≡ formNumbers ⌝ ∗ ⌜ now slots ≡ slotRows ⌝ }
-    ensures { λ r. ⌜ Fronts (now (source .entry)) at r ⌝ }
-{
-    if source.len() <= at {
-        return no_word(at);
-    }
-    if !text_lexical::bytes::is_name_start(source[at]) {
-        return no_word(at);
-    }
-    let word = lower_word(source, at);
-    let end = word.end;
-    match instruction::opcode::find_mnemonic(word.key, mnemonics, slots) {
-        Row::At(row) => Front::Is {
-            row,
-            form: forms[row],
-            length: 0,
-            at: end,
-        },
-        Row::Missing => {
-            let next = behind_label(source, at, end);
-            if next == 0 {
-                return Front::Other;
-            }
-            Front::Is {
-                row: 50,
-                form: 7,
-                length: end - at,
-                at: next,
-            }
+    let mut labelled = false;
+    let mut length: usize = 0;
+    let mut at = start;
+    loop {
+        if source.len() <= at {
+            return FirstWord::Missing {
+                labelled,
+                length,
+                at,
+            };
         }
+        if !text_lexical::bytes::is_name_start(source[at]) {
+            return FirstWord::Missing {
+                labelled,
+                length,
+                at,
+            };
+        }
+        let word = lower_word(source, at);
+        let key = word.key;
+        let end = word.end;
+        if labelled {
+            return FirstWord::Is {
+                labelled,
+                length,
+                key,
+                end,
+            };
+        }
+        if !is_label(source, at, end) {
+            return FirstWord::Is {
+                labelled,
+                length,
+                key,
+                end,
+            };
+        }
+        labelled = true;
+        length = end - at;
+        at = text_lexical::bytes::run_end(source, end + 1, Class::Blank);
     }
-}
-
-// A line that begins with such a front, at `start`.
-fn whole(start: usize, row: usize, length: usize, operands: Operands, end: usize) -> Straight
-    ensures { λ r. ⌜ r ≡ wholeOf start row length operands end ⌝ }
-{
-    if row < 50 {
-        return Straight::Instruction { row, operands, end };
-    }
-    if 0 < length {
-        return Straight::Label { start, length, end };
-    }
-    Straight::Empty(end)
 }
 
 // The line that begins at `from`.
-pub(crate) fn read_straight(
+pub(crate) fn read_fast(
     source: &[u8],
     from: usize,
     mnemonics: &[u64; 50],
     forms: &[u8; 50],
     slots: &[u8; 293],
-) -> Straight
-    requires { ⌜ from ≤ length (now source) ⌝ ∗ ⌜ now mnemonics ≡ mnemonicKeys ⌝ ∗ ⌜ now forms ≡ formNumbers ⌝ ∗ ⌜ now slots ≡ slotRows ⌝ }
-    ensures { λ r. ⌜ IsStraight (now (source .entry)) from r ⌝ }
+) -> Fast
+    requires { ⌜ from ≤ length (now source) ⌝ ∗ ⌜ Tables (now mnemonics) (now forms) (now slots) ⌝ }
+    ensures { λ r. ⌜ FastIs (now (source .entry)) from r ⌝ }
 {
     let start = text_lexical::bytes::run_end(source, from, Class::Margin);
-    match read_front(source, start, mnemonics, forms, slots) {
-        Front::Other => Straight::Other,
-        Front::Is {
-            row,
-            form,
+    match first_word(source, start) {
+        FirstWord::Missing {
+            labelled,
             length,
             at,
-        } => match read_tail(source, at, form) {
-            Tail::Other => Straight::Other,
-            Tail::Are { operands, end } => whole(start, row, length, operands, end),
+        } => match crate::operand::end_at(source, at) {
+            EndAt::Other => Fast::Other,
+            EndAt::Is(end) => Fast::Bare {
+                labelled,
+                start,
+                length,
+                end,
+            },
+        },
+        FirstWord::Is {
+            labelled,
+            length,
+            key,
+            end: word_end,
+        } => match instruction::opcode::find_mnemonic(key, mnemonics, slots) {
+            Row::Missing => Fast::Other,
+            Row::At(row) => match read_tail(source, word_end, forms[row]) {
+                Tail::Other => Fast::Other,
+                Tail::Are { operands, end } => Fast::Instruction {
+                    labelled,
+                    start,
+                    length,
+                    row,
+                    operands,
+                    end,
+                },
+            },
         },
     }
 }

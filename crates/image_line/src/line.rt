@@ -3,7 +3,7 @@ ghost use mathlib.Core.Path.{_≡_};
 ghost use Prim.Native.Nat.{_≤_};
 ghost use lib.ListN.{length};
 ghost use Rattle.image_line.specs.Contracts.{Tables, contextFor, LineIs};
-use crate::fast::Straight;
+use crate::fast::Fast;
 use image::config::Config;
 use instruction::instruction::Operands;
 
@@ -17,7 +17,8 @@ pub enum Effect {
     Faulty(u8),
 }
 
-// What a line reads as: where its label stands, if it has one, what it does then, and where it ends.
+// What a line reads as: whether it has a label, where its content starts, the label's length (0 without one), what the line does then, and
+// where it ends.
 pub struct Read {
     pub labelled: bool,
     pub start: usize,
@@ -38,13 +39,33 @@ pub fn read_line(
     requires { ⌜ at ≤ length (now source) ⌝ ∗ ⌜ Tables (now mnemonics) (now forms) (now slots) ⌝ }
     ensures { λ r. ⌜ LineIs (now (source .entry)) at (contextFor config) r ⌝ }
 {
-    match crate::fast::read_straight(source, at, mnemonics, forms, slots) {
-        Straight::Instruction { row, operands, end } => crate::record::unlabelled(
-            Effect::Codes { row, operands },
+    match crate::fast::read_fast(source, at, mnemonics, forms, slots) {
+        Fast::Instruction {
+            labelled,
+            start,
+            length,
+            row,
+            operands,
             end,
-        ),
-        Straight::Label { start, length, end } => crate::record::label_alone(start, length, end),
-        Straight::Empty(end) => crate::record::unlabelled(Effect::Nothing, end),
-        Straight::Other => crate::record::read_record(source, at, config, mnemonics, forms, slots),
+        } => Read {
+            labelled,
+            start,
+            length,
+            effect: Effect::Codes { row, operands },
+            end,
+        },
+        Fast::Bare {
+            labelled,
+            start,
+            length,
+            end,
+        } => Read {
+            labelled,
+            start,
+            length,
+            effect: Effect::Nothing,
+            end,
+        },
+        Fast::Other => crate::record::read_record(source, at, config, mnemonics, forms, slots),
     }
 }

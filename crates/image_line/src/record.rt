@@ -1,15 +1,14 @@
 // A line by the record of its tokens: what it is, and what it reads as.
 ghost use mathlib.Core.Path.{_≡_};
-ghost use mathlib.Core.Bool.{true, false};
+ghost use mathlib.Core.Bool.{false};
 ghost use Prim.Native.Nat.{_≤_};
 ghost use lib.ListN.{length, getD};
 ghost use Rattle.text.specs.Contracts.{firsts, filler, spelling as spellingOf};
 ghost use Rattle.instruction.specs.Operands.{readInstruction, behind};
 ghost use Rattle.image.specs.Settings.{configured};
-ghost use Rattle.image.specs.Assembling.{labelled, kindOf, Context, setting, coding};
+ghost use Rattle.image.specs.Assembling.{labelled, kindOf, Context, setting, coding, afterLabel};
 ghost use Rattle.image.specs.Contracts.{recordMeant, settingsMeant};
-ghost use Rattle.image_line.specs.Contracts.{Tables, Told, kindMeant, contextFor, effectMeant, InTable, RecordIs, LineIs};
-ghost use Rattle.image_line.specs.declared.line.Effect.the-variants.{Nothing};
+ghost use Rattle.image_line.specs.Contracts.{Tables, Recorded, kindMeant, contextFor, effectMeant, InTable, RecordIs, LineIs};
 use crate::line::Effect;
 use crate::line::Read;
 use image::config::Config;
@@ -17,6 +16,7 @@ use image::config::Configured;
 use instruction_operands::assembler::Parsed;
 use text::lexer::Kind;
 use text::parser::Line;
+use text_lexical::bytes::Class;
 
 enum LineKind {
     Empty,
@@ -27,7 +27,7 @@ enum LineKind {
 }
 
 fn line_kind(source: &[u8], line: Line) -> LineKind
-    requires { ⌜ Told (now source) line ⌝ }
+    requires { ⌜ Recorded (now source) line ⌝ }
     ensures { λ r. ⌜ kindMeant (now (source .entry)) line r ≡ kindOf (firsts (now (source .entry)) (line .tokens) (line .count)) ⌝ }
 {
     let tokens = line.tokens;
@@ -63,27 +63,14 @@ fn line_kind(source: &[u8], line: Line) -> LineKind
 }
 
 // A line without a label.
-pub(crate) fn unlabelled(effect: Effect, end: usize) -> Read
-    ensures { λ r. ⌜ r ≡ record { labelled = false; start = 0; length = 0; effect = effect; end = end } ⌝ }
+fn unlabelled(start: usize, effect: Effect, end: usize) -> Read
+    ensures { λ r. ⌜ r ≡ record { labelled = false; start = start; length = 0; effect = effect; end = end } ⌝ }
 {
     Read {
         labelled: false,
-        start: 0,
+        start,
         length: 0,
         effect,
-        end,
-    }
-}
-
-// A line with a label and nothing after it.
-pub(crate) fn label_alone(start: usize, length: usize, end: usize) -> Read
-    ensures { λ r. ⌜ r ≡ record { labelled = true; start = start; length = length; effect = Nothing; end = end } ⌝ }
-{
-    Read {
-        labelled: true,
-        start,
-        length,
-        effect: Effect::Nothing,
         end,
     }
 }
@@ -97,7 +84,7 @@ fn read_instruction(
     forms: &[u8; 50],
     slots: &[u8; 293],
 ) -> Effect
-    requires { ⌜ Told (now source) line ⌝ ∗ ⌜ at ≤ 2 ⌝ ∗ ⌜ Tables (now mnemonics) (now forms) (now slots) ⌝ }
+    requires { ⌜ Recorded (now source) line ⌝ ∗ ⌜ at ≤ 2 ⌝ ∗ ⌜ Tables (now mnemonics) (now forms) (now slots) ⌝ }
     ensures { λ r. ⌜ effectMeant r ≡ coding (readInstruction (behind at (recordMeant (now (source .entry)) line))) ⌝ ∗ ⌜ InTable r ⌝ }
 {
     match instruction_operands::assembler::parse_instruction(
@@ -115,13 +102,30 @@ fn read_instruction(
 
 // A `.config` line.
 fn read_config(source: &[u8], line: Line, config: Config) -> Effect
-    requires { ⌜ Told (now source) line ⌝ }
+    requires { ⌜ Recorded (now source) line ⌝ }
     ensures { λ r. ⌜ effectMeant r ≡ setting (configured (settingsMeant config) (recordMeant (now (source .entry)) line)) ⌝ ∗ ⌜ InTable r ⌝ }
 {
     match image::config::parse_config(source, line, config) {
         Configured::Refused(n) => Effect::Faulty(n),
         Configured::Is(changed) => Effect::Sets(changed),
     }
+}
+
+// What follows a label: nothing, or an instruction.
+fn after_label(
+    source: &[u8],
+    line: Line,
+    mnemonics: &[u64; 50],
+    forms: &[u8; 50],
+    slots: &[u8; 293],
+) -> Effect
+    requires { ⌜ Recorded (now source) line ⌝ ∗ ⌜ 2 ≤ line .count ⌝ ∗ ⌜ Tables (now mnemonics) (now forms) (now slots) ⌝ }
+    ensures { λ r. ⌜ effectMeant r ≡ afterLabel (behind 2 (recordMeant (now (source .entry)) line)) ⌝ ∗ ⌜ InTable r ⌝ }
+{
+    if line.count == 2 {
+        return Effect::Nothing;
+    }
+    read_instruction(source, line, 2, mnemonics, forms, slots)
 }
 
 // A line that begins with a label; an instruction may follow it.
@@ -132,23 +136,17 @@ fn read_label(
     forms: &[u8; 50],
     slots: &[u8; 293],
 ) -> Read
-    requires { ⌜ Told (now source) line ⌝ ∗ ⌜ kindOf (firsts (now source) (line .tokens) (line .count)) ≡ labelled (spellingOf (now source) (getD (line .tokens) 0 filler)) ⌝ ∗ ⌜ Tables (now mnemonics) (now forms) (now slots) ⌝ }
-    ensures { λ r. ⌜ ((c : Context) → RecordIs (now (source .entry)) line c r) ⌝ }
+    requires { ⌜ Recorded (now source) line ⌝ ∗ ⌜ kindOf (firsts (now source) (line .tokens) (line .count)) ≡ labelled (spellingOf (now source) (getD (line .tokens) 0 filler)) ⌝ ∗ ⌜ Tables (now mnemonics) (now forms) (now slots) ⌝ }
+    ensures { λ r. ⌜ ((c : Context) → RecordIs (now (source .entry)) line (getD (line .tokens) 0 filler .start) c r) ⌝ }
 {
     let tokens = line.tokens;
     let label = tokens[0];
-    let start = label.start;
-    let length = label.length;
-    let end = line.end;
-    if line.count == 2 {
-        return label_alone(start, length, end);
-    }
     Read {
         labelled: true,
-        start,
-        length,
-        effect: read_instruction(source, line, 2, mnemonics, forms, slots),
-        end,
+        start: label.start,
+        length: label.length,
+        effect: after_label(source, line, mnemonics, forms, slots),
+        end: line.end,
     }
 }
 
@@ -164,16 +162,18 @@ pub(crate) fn read_record(
     requires { ⌜ at ≤ length (now source) ⌝ ∗ ⌜ Tables (now mnemonics) (now forms) (now slots) ⌝ }
     ensures { λ r. ⌜ LineIs (now (source .entry)) at (contextFor config) r ⌝ }
 {
+    let start = text_lexical::bytes::run_end(source, at, Class::Margin);
     let line = text::parser::tokenize(source, at);
     let end = line.end;
     if line.bad {
-        return unlabelled(Effect::Faulty(3), end);
+        return unlabelled(start, Effect::Faulty(3), end);
     }
     match line_kind(source, line) {
-        LineKind::Empty | LineKind::Ignored => unlabelled(Effect::Nothing, end),
-        LineKind::Config => unlabelled(read_config(source, line, config), end),
+        LineKind::Empty | LineKind::Ignored => unlabelled(start, Effect::Nothing, end),
+        LineKind::Config => unlabelled(start, read_config(source, line, config), end),
         LineKind::Label => read_label(source, line, mnemonics, forms, slots),
         LineKind::Plain => unlabelled(
+            start,
             read_instruction(source, line, 0, mnemonics, forms, slots),
             end,
         ),

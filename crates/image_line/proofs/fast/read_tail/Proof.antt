@@ -1,22 +1,18 @@
--- `image_line::fast::read_tail` meets its contract. The loop's invariant: what has been read of the operands, and which are ahead.
-use mathlib.Core.Path.{refl, sym, ap, _∙_}
+-- `image_line::fast::read_tail` meets its contract. The loop's invariant: what has been read of the operands, and which are left to read.
+use mathlib.Core.Path.{sym, _∙_}
 use mathlib.Core.Logic.{⊎-elim}
 use native.Mathlib.Omega.{arith}
 use borrow.Author.Needs.{needs}
-use Rattle.text_lexical.specs.declared.register.Register.the-variants.{R0}
-use Rattle.text.specs.Contracts.{extractMeant}
-use Rattle.text.proofs.Meanings.{extracted-number}
-use Rattle.image_line.proofs.Operands.{Reading, reading-begin, reading-register, reading-number, room-ahead, reading-end, mark-any}
+use Rattle.image_line.proofs.Operands.{Reading, reading-begin, reading-register, reading-number, room-ahead, reading-tail, mark-any}
 use Rattle.image_line.proofs.fast.read_tail.Statement.{statement}
 use Rattle.image_line.proofs.fast.read_tail.Tie as tie
 
 abbrev Inv-loop : tie.InvT-loop
-Inv-loop source from form registers₀ count₀ negative₀ magnitude₀ at₀ left₀ registers count negative magnitude at left =
-    Reading source from form at left count registers negative magnitude
+Inv-loop source from form registers₀ count₀ number₀ at₀ left₀ registers count number at left =
+    Reading source from form at left count registers (number .negative) (number .magnitude)
 
 abbrev μ-loop : tie.MeasureT-loop
-μ-loop source from form registers₀ count₀ negative₀ magnitude₀ at₀ left₀ registers count negative magnitude at left =
-    left
+μ-loop source from form registers₀ count₀ number₀ at₀ left₀ registers count number at left = left
 
 operands-of-requires : tie.Need-operands-of-requires Inv-loop μ-loop
 operands-of-requires c κs = search needs
@@ -27,8 +23,8 @@ loop-holds c = let b = c .before .before in reading-begin (b .args .source .now)
 is-number-requires : tie.Need-is-number-requires Inv-loop μ-loop
 is-number-requires c κs = search needs
 
-number-at-requires : tie.Need-number-at-requires Inv-loop μ-loop
-number-at-requires c κs = c .before .before .before .loop .inv .partly .place
+operand-at-requires : tie.Need-operand-at-requires Inv-loop μ-loop
+operand-at-requires c κs = c .before .before .loop .inv .partly .place
 
 enum-told : tie.Need-enum-told Inv-loop μ-loop
 enum-told c = search needs
@@ -39,63 +35,35 @@ returns c = tt
 enum-known-kind : tie.Need-enum-known-kind Inv-loop μ-loop
 enum-known-kind c = search needs
 
-extract-number-requires : tie.Need-extract-number-requires Inv-loop μ-loop
-extract-number-requires c κs = search needs
-
-enum-told-2 : tie.Need-enum-told-2 Inv-loop μ-loop
-enum-told-2 c = search needs
-
-returns-2 : tie.Need-returns-2 Inv-loop μ-loop
-returns-2 c = tt
-
-enum-known-whole : tie.Need-enum-known-whole Inv-loop μ-loop
-enum-known-whole c = search needs
-
-register-at-requires : tie.Need-register-at-requires Inv-loop μ-loop
-register-at-requires c κs = c .before .before .before .loop .inv .partly .place
-
-enum-told-3 : tie.Need-enum-told-3 Inv-loop μ-loop
-enum-told-3 c = search needs
-
-returns-3 : tie.Need-returns-3 Inv-loop μ-loop
-returns-3 c = tt
-
 enum-known-register : tie.Need-enum-known-register Inv-loop μ-loop
 enum-known-register c = search needs
 
 array-set-from-registers : tie.Need-array-set-from-registers Inv-loop μ-loop
 array-set-from-registers c =
-    let i = c .before .before .before .before .before in
-    let l = i .before in
-    let k = l .before in
+    let o = c .before .before .before in
+    let i = o .before in
+    let k = i .before .before in
     let b = k .before .before .before in
-    room-ahead (b .args .source .now) (b .args .from) (b .args .form) (k .loop .at) (k .loop .left) (k .loop .count) (k .loop .registers) (k .loop .negative) (k .loop .magnitude) (k .loop .inv)
-    (l .loop-test .taken) (sym (i .is-number .ensures) ∙ c .before .before .before .before .if1 .left)
+    let (letter, rd) = rw (c .before .register .given .1) at (o .operand-at .ensures) in
+    room-ahead (b .args .source .now) (b .args .from) (b .args .form) (k .loop .at) (k .loop .left) (k .loop .count) (k .loop .registers) (k .loop .number .negative) (k .loop .number .magnitude) (k .loop .inv)
+    (i .before .loop-test .taken) (sym (i .is-number .ensures) ∙ letter)
 
 add-count : tie.Need-add-count Inv-loop μ-loop
-add-count c =
-    let i = c .before .before .before .before .before in
-    let l = i .before in
-    let k = l .before in
-    let b = k .before .before .before in
-    omega (
-      arith,
-      room-ahead (b .args .source .now) (b .args .from) (b .args .form) (k .loop .at) (k .loop .left) (k .loop .count) (k .loop .registers) (k .loop .negative) (k .loop .magnitude) (k .loop .inv)
-          (l .loop-test .taken) (sym (i .is-number .ensures) ∙ c .before .before .before .before .if1 .left),
-    )
+add-count c = omega (arith, array-set-from-registers c)
 
 mark-of-requires : tie.Need-mark-of-requires Inv-loop μ-loop
 mark-of-requires c κs = search needs
 
 behind-mark-requires : tie.Need-behind-mark-requires Inv-loop μ-loop
 behind-mark-requires c κs =
-    let j = c .before in (
-      ⊎-elim (λ w. let (u, rd) = rw (w .3 .given .1) at (w .1 .ensures) in rw (w .13) (rd .in-text)) (λ w. let rd = rw (w .3 .given .1) at (w .1 .ensures) in rw (w .9) (rd .in-text)) (j .if1 .came),
+    let m = c .before in
+    let o = m .before in (
+      ⊎-elim (λ w. let (digit, (t, (v, rd))) = rw (w .1 .given .1) at (o .operand-at .ensures) in rw (w .6) (rd .in-text)) (λ w. let (letter, rd) = rw (w .1 .given .1) at (o .operand-at .ensures) in rw (w .6) (rd .in-text)) (m .match .came),
       mark-any _ _ (c .mark-of .ensures),
     )
 
-returns-4 : tie.Need-returns-4 Inv-loop μ-loop
-returns-4 c = tt
+returns-2 : tie.Need-returns-2 Inv-loop μ-loop
+returns-2 c = tt
 
 loop-less : tie.Need-loop-less Inv-loop μ-loop
 loop-less c = search needs
@@ -104,54 +72,33 @@ loop-again : tie.Need-loop-again Inv-loop μ-loop
 loop-again c =
     let m = c .before .before in
     let j = m .before in
-    let i = j .before in
+    let o = j .before in
+    let i = o .before in
     let l = i .before in
     let k = l .before in
     let b = k .before .before .before in
-    let behind = rw (m .mark-of .ensures) at (c .before .behind-mark .ensures) in
+    let after = rw (m .mark-of .ensures) at (c .before .behind-mark .ensures) in
     ⊎-elim
-    (λ w. let (u, rd) = rw (w .3 .given .1) at (w .1 .ensures) in
-    rw (w .9, w .10, w .11, w .12)
-    (reading-number (b .args .source .now) (b .args .from) (b .args .form) (k .loop .at) (k .loop .left) (k .loop .count) (k .loop .registers) (k .loop .negative) (k .loop .magnitude) (k .loop .inv)
-    (l .loop-test .taken) (sym (i .is-number .ensures) ∙ w .0 .taken) _ _ _ _ (c .before .behind-mark .result)
-    (sym (ap extractMeant (sym (w .7 .given .1) ∙ w .5 .ensures) ∙ extracted-number (w .3 .given .0 .0) u)) rd (rw (w .13) at behind) (c .if2 .left)))
-    (λ w. let rd = rw (w .3 .given .1) at (w .1 .ensures) in
-    rw (w .5, w .6, w .7, w .8)
-    (reading-register (b .args .source .now) (b .args .from) (b .args .form) (k .loop .at) (k .loop .left) (k .loop .count) (k .loop .registers) (k .loop .negative) (k .loop .magnitude) (k .loop .inv)
-    (l .loop-test .taken) (sym (i .is-number .ensures) ∙ w .0 .left) (w .3 .given .0 .0) _ (c .before .behind-mark .result) rd (rw (w .9) at behind) (c .if2 .left)))
-    (j .if1 .came)
+    (λ w. let (digit, (t, (v, rd))) = rw (w .1 .given .1) at (o .operand-at .ensures) in
+    rw (w .3, w .4, w .5)
+    (reading-number (b .args .source .now) (b .args .from) (b .args .form) (k .loop .at) (k .loop .left) (k .loop .count) (k .loop .registers) (k .loop .number .negative) (k .loop .number .magnitude) (k .loop .inv)
+    (l .loop-test .taken) (sym (i .is-number .ensures) ∙ digit) t _ _ _ (c .before .behind-mark .result) v rd (rw (w .6) at after) (c .if1 .left)))
+    (λ w. let (letter, rd) = rw (w .1 .given .1) at (o .operand-at .ensures) in
+    rw (w .3, w .4, w .5)
+    (reading-register (b .args .source .now) (b .args .from) (b .args .form) (k .loop .at) (k .loop .left) (k .loop .count) (k .loop .registers) (k .loop .number .negative) (k .loop .number .magnitude) (k .loop .inv)
+    (l .loop-test .taken) (sym (i .is-number .ensures) ∙ letter) (w .1 .given .0 .0) _ (c .before .behind-mark .result) rd (rw (w .6) at after) (c .if1 .left)))
+    (j .match .came)
 
-end-at-requires : tie.Need-end-at-requires Inv-loop μ-loop
-end-at-requires c κs = c .before .loop .inv .partly .place
+tail-at-requires : tie.Need-tail-at-requires Inv-loop μ-loop
+tail-at-requires c κs = c .before .loop .inv .partly .place
 
-enum-told-4 : tie.Need-enum-told-4 Inv-loop μ-loop
-enum-told-4 c = search needs
-
-enum-known-end : tie.Need-enum-known-end Inv-loop μ-loop
-enum-known-end c = search needs
-
-array-copy-out-t31 : tie.Need-array-copy-out-t31 Inv-loop μ-loop
-array-copy-out-t31 c = search needs
-
-array-copy-out-t34 : tie.Need-array-copy-out-t34 Inv-loop μ-loop
-array-copy-out-t34 c = search needs
-
-array-copy-out-t37 : tie.Need-array-copy-out-t37 Inv-loop μ-loop
-array-copy-out-t37 c = search needs
-
-returns-5 : tie.Need-returns-5 Inv-loop μ-loop
-returns-5 c = tt
-
-returns-6 : tie.Need-returns-6 Inv-loop μ-loop
-returns-6 c =
-    let e = c .before .before .before .before in
-    let a = e .before .before in
-    let l = a .before in
+returns-3 : tie.Need-returns-3 Inv-loop μ-loop
+returns-3 c =
+    let l = c .before in
     let k = l .before in
     let b = k .before .before .before in
-    let ends = rw (e .end .given .1) at (a .end-at .ensures) in
-    reading-end (b .args .source .now) (b .args .from) (b .args .form) (k .loop .at) (k .loop .left) (k .loop .count) (k .loop .registers) (k .loop .negative) (k .loop .magnitude) _ R0 (k .loop .inv)
-    (λ p. omega (arith, l .loop-test .left)) (ends .0) (ends .1)
+    reading-tail (b .args .source .now) (b .args .from) (b .args .form) (k .loop .at) (k .loop .left) (k .loop .count) (k .loop .registers) (k .loop .number) (k .loop .inv)
+    (λ p. omega (arith, l .loop-test .left)) (c .tail-at .result) (c .tail-at .ensures)
 
 pub read-tail-spec : {M : Type 1} → statement M
 read-tail-spec =
@@ -162,30 +109,17 @@ read-tail-spec =
     operands-of-requires
     loop-holds
     is-number-requires
-    number-at-requires
+    operand-at-requires
     enum-told
     returns
-    enum-known-kind
-    extract-number-requires
-    enum-told-2
-    returns-2
-    enum-known-whole
-    register-at-requires
-    enum-told-3
-    returns-3
+    enum-known-n
     enum-known-register
     array-set-from-registers
     add-count
     mark-of-requires
     behind-mark-requires
-    returns-4
+    returns-2
     loop-less
     loop-again
-    end-at-requires
-    enum-told-4
-    enum-known-end
-    array-copy-out-t31
-    array-copy-out-t34
-    array-copy-out-t37
-    returns-5
-    returns-6)
+    tail-at-requires
+    returns-3)

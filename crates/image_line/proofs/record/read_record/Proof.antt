@@ -1,11 +1,14 @@
 -- `image_line::record::read_record` meets its contract.
-use Prim.Native.Nat.{ℕ}
+use Prim.Native.Nat.{ℕ, _+_, _≤_}
 use mathlib.Core.Path.{_≡_, sym}
 use native.Mathlib.Omega.{arith}
 use mathlib.Core.List.{List, [], _∷_}
+use lib.ListN.{length}
 use denote.Enum.Declared.{tagOf}
 use types.Run.{OneOf, miss}
 use borrow.Author.Needs.{needs}
+use Rattle.text.specs.Lines.{indent}
+use Rattle.text.specs.Places.{restAt}
 use Rattle.text.specs.Contracts.{firsts}
 use Rattle.text.specs.declared.parser.Line.{Line}
 use Rattle.image.specs.Assembling.{kindOf, Context}
@@ -14,12 +17,21 @@ use Rattle.image_line.specs.declared.line.Effect.the-variants.{Nothing}
 use Rattle.image_line.specs.declared.record.LineKind.{LineKind}
 use Rattle.image_line.specs.declared.record.LineKind.the-variants.{Empty, Label, Config as ConfigKind, Ignored, Plain}
 use Rattle.image_line.proofs.record.LineKind as line-kind-type
-use Rattle.image_line.proofs.Records.{told, bare, record-empty, record-ignored, record-config, record-plain, line-record, line-bad}
+use Rattle.image_line.proofs.Lines.{content-starts}
+use Rattle.image_line.proofs.Records.{recorded, bare, record-empty, record-ignored, record-config, record-plain, line-record, line-bad, first-starts, two-tokens}
 use Rattle.image_line.proofs.record.read_record.Statement.{statement}
 use Rattle.image_line.proofs.record.read_record.Tie as tie
 
+run-end-requires : tie.Need-run-end-requires
+run-end-requires c κs = search needs
+
+-- where the content starts
+begins : (c : tie.After-run-end) → let a = c .before .before .args in
+    (c .run-end .result ≡ a .at + indent (restAt (a .source .now) (a .at))) × (c .run-end .result ≤ length (a .source .now))
+begins c = let b = c .before .before in content-starts (b .args .source .now) (b .args .at) (c .run-end .result) (b .pre .0) (c .run-end .ensures)
+
 tokenize-requires : tie.Need-tokenize-requires
-tokenize-requires c κs = c .before .pre .0
+tokenize-requires c κs = search needs
 
 unlabelled-requires : tie.Need-unlabelled-requires
 unlabelled-requires c κs = search needs
@@ -27,11 +39,12 @@ unlabelled-requires c κs = search needs
 returns : tie.Need-returns
 returns c =
     let t = c .before .before in
-    let a = t .before .before .args in
-    rw (c .unlabelled .ensures) (line-bad (a .source .now) (a .at) (t .tokenize .result) (t .tokenize .ensures) (contextFor (a .config)) (c .before .if1 .taken))
+    let g = t .before in
+    let a = g .before .before .args in
+    rw (c .unlabelled .ensures) (line-bad (a .source .now) (a .at) (t .tokenize .result) (t .tokenize .ensures) (contextFor (a .config)) (g .run-end .result) (c .before .if1 .taken) (begins g .0) (begins g .1))
 
 line-kind-requires : tie.Need-line-kind-requires
-line-kind-requires c κs = told _ _ _ (c .before .tokenize .ensures)
+line-kind-requires c κs = recorded _ _ _ (c .before .tokenize .ensures)
 
 unlabelled-requires-2 : tie.Need-unlabelled-requires-2
 unlabelled-requires-2 c κs = search needs
@@ -40,7 +53,7 @@ enum-told : tie.Need-enum-told
 enum-told c = search needs
 
 read-config-requires : tie.Need-read-config-requires
-read-config-requires c κs = told _ _ _ (c .before .before .before .before .tokenize .ensures)
+read-config-requires c κs = recorded _ _ _ (c .before .before .before .before .tokenize .ensures)
 
 unlabelled-requires-3 : tie.Need-unlabelled-requires-3
 unlabelled-requires-3 c κs = search needs
@@ -52,7 +65,7 @@ read-label-requires : tie.Need-read-label-requires
 read-label-requires c κs =
     let k = c .before .before in
     let t = k .before .before in
-    (told _ _ _ (t .tokenize .ensures), (sym (rw (c .enum-told2 .given .1) at (k .line-kind .ensures)), t .before .before .pre .1))
+    (recorded _ _ _ (t .tokenize .ensures), (sym (rw (c .enum-told2 .given .1) at (k .line-kind .ensures)), t .before .before .before .pre .1))
 
 enum-told-3 : tie.Need-enum-told-3
 enum-told-3 c = search needs
@@ -60,7 +73,7 @@ enum-told-3 c = search needs
 read-instruction-requires : tie.Need-read-instruction-requires
 read-instruction-requires c κs =
     let t = c .before .before .before .before in
-    (told _ _ _ (t .tokenize .ensures), (omega arith, t .before .before .pre .1))
+    (recorded _ _ _ (t .tokenize .ensures), (omega arith, t .before .before .before .pre .1))
 
 unlabelled-requires-4 : tie.Need-unlabelled-requires-4
 unlabelled-requires-4 c κs = search needs
@@ -69,23 +82,24 @@ unlabelled-requires-4 c κs = search needs
 abbrev quiet : List ℕ
 quiet = 0 ∷ 3 ∷ []
 
-record-quiet : (s : List ℕ) (l : Line) (x : Context) (k : LineKind) → OneOf quiet (tagOf line-kind-type.the-type k)
-    → kindMeant s l k ≡ kindOf (firsts s (l .tokens) (l .count)) → RecordIs s l x (bare s l x Nothing)
-record-quiet s l x Empty h e = record-empty s l x e
-record-quiet s l x Ignored h e = record-ignored s l x e
-record-quiet s l x Label h e = absurd (miss quiet 1 tt h)
-record-quiet s l x ConfigKind h e = absurd (miss quiet 2 tt h)
-record-quiet s l x Plain h e = absurd (miss quiet 4 tt h)
+record-quiet : (s : List ℕ) (l : Line) (x : Context) (start : ℕ) (i : start ≤ length s) (k : LineKind) → OneOf quiet (tagOf line-kind-type.the-type k)
+    → kindMeant s l k ≡ kindOf (firsts s (l .tokens) (l .count)) → RecordIs s l start x (bare s l x start i Nothing)
+record-quiet s l x start i Empty h e = record-empty s l x start i e
+record-quiet s l x start i Ignored h e = record-ignored s l x start i e
+record-quiet s l x start i Label h e = absurd (miss quiet 1 tt h)
+record-quiet s l x start i ConfigKind h e = absurd (miss quiet 2 tt h)
+record-quiet s l x start i Plain h e = absurd (miss quiet 4 tt h)
 
 returns-2 : tie.Need-returns-2
 returns-2 c =
     let k = c .before .before in
     let t = k .before .before in
-    let a = t .before .before .args in
+    let g = t .before in
+    let a = g .before .before .args in
     let x = contextFor (a .config) in
     rw (c .unlabelled2 .ensures)
-    (line-record (a .source .now) (a .at) (t .tokenize .result) (t .tokenize .ensures) x _ (k .before .if1 .left)
-    (record-quiet (a .source .now) (t .tokenize .result) x (k .line-kind .result) (c .before .match .keys1) (k .line-kind .ensures)))
+    (line-record (a .source .now) (a .at) (t .tokenize .result) (t .tokenize .ensures) x (g .run-end .result) _ (k .before .if1 .left) (begins g .0)
+    (record-quiet (a .source .now) (t .tokenize .result) x (g .run-end .result) (begins g .1) (k .line-kind .result) (c .before .match .keys1) (k .line-kind .ensures)))
 
 returns-3 : tie.Need-returns-3
 returns-3 c =
@@ -93,19 +107,23 @@ returns-3 c =
     let e = f .before in
     let k = e .before .before in
     let t = k .before .before in
-    let a = t .before .before .args in
+    let g = t .before in
+    let a = g .before .before .args in
     let x = contextFor (a .config) in
     rw (c .unlabelled3 .ensures)
-    (line-record (a .source .now) (a .at) (t .tokenize .result) (t .tokenize .ensures) x _ (k .before .if1 .left)
-    (record-config (a .source .now) (t .tokenize .result) x (f .read-config .result) (rw (e .enum-told .given .1) at (k .line-kind .ensures)) (f .read-config .ensures .0) (f .read-config .ensures .1)))
+    (line-record (a .source .now) (a .at) (t .tokenize .result) (t .tokenize .ensures) x (g .run-end .result) _ (k .before .if1 .left) (begins g .0)
+    (record-config (a .source .now) (t .tokenize .result) x (g .run-end .result) (begins g .1) (f .read-config .result) (rw (e .enum-told .given .1) at (k .line-kind .ensures)) (f .read-config .ensures .0) (f .read-config .ensures .1)))
 
 returns-4 : tie.Need-returns-4
 returns-4 c =
     let k = c .before .before .before in
     let t = k .before .before in
-    let a = t .before .before .args in
+    let g = t .before in
+    let a = g .before .before .args in
     let x = contextFor (a .config) in
-    line-record (a .source .now) (a .at) (t .tokenize .result) (t .tokenize .ensures) x _ (k .before .if1 .left) (c .read-label .ensures x)
+    let l = t .tokenize .result in
+    let two = two-tokens (a .source .now) (l .tokens) (l .count) _ (rw (c .before .enum-told2 .given .1) at (k .line-kind .ensures)) in
+    line-record (a .source .now) (a .at) l (t .tokenize .ensures) x _ _ (k .before .if1 .left) (first-starts (a .source .now) (a .at) l (t .tokenize .ensures) x (omega (arith, two))) (c .read-label .ensures x)
 
 returns-5 : tie.Need-returns-5
 returns-5 c =
@@ -113,16 +131,18 @@ returns-5 c =
     let e = f .before in
     let k = e .before .before in
     let t = k .before .before in
-    let a = t .before .before .args in
+    let g = t .before in
+    let a = g .before .before .args in
     let x = contextFor (a .config) in
     rw (c .unlabelled4 .ensures)
-    (line-record (a .source .now) (a .at) (t .tokenize .result) (t .tokenize .ensures) x _ (k .before .if1 .left)
-    (record-plain (a .source .now) (t .tokenize .result) x (f .read-instruction .result) (rw (e .enum-told3 .given .1) at (k .line-kind .ensures)) (f .read-instruction .ensures .0) (f .read-instruction .ensures .1)))
+    (line-record (a .source .now) (a .at) (t .tokenize .result) (t .tokenize .ensures) x (g .run-end .result) _ (k .before .if1 .left) (begins g .0)
+    (record-plain (a .source .now) (t .tokenize .result) x (g .run-end .result) (begins g .1) (f .read-instruction .result) (rw (e .enum-told3 .given .1) at (k .line-kind .ensures)) (f .read-instruction .ensures .0) (f .read-instruction .ensures .1)))
 
 pub read-record-spec : {M : Type 1} → statement M
 read-record-spec =
     tie.close
     (tie.spec
+    run-end-requires
     tokenize-requires
     unlabelled-requires
     returns
