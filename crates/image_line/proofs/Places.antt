@@ -19,7 +19,7 @@ use Rattle.text_lexical.proofs.Tests.{split, both}
 use Rattle.text_lexical.proofs.Strings.{every-head, every-tail, every-mono, every-run, take-run, run-past, run-no, run-end, run-le}
 use Rattle.text.specs.Tokens.{Token, isIdentifier, isRegister, register, comma, colon, opening, closing, markToken, infront, tokens}
 use Rattle.text.specs.Places.{restAt, leftAt, endAt}
-use Rattle.text.specs.Contracts.{meant, scanAt, NoWord}
+use Rattle.text.specs.Contracts.{meant, scanAt, numberStart, NoWord}
 use Rattle.text.specs.declared.lexer.Token.{Token as KeptToken}
 use Rattle.text.specs.declared.lexer.Kind.the-variants.{Register as RegisterKind, Comma, Colon, LParen, RParen}
 use Rattle.text.specs.declared.lexer.Scan.the-variants.{Found}
@@ -135,15 +135,15 @@ register-case s from at e Other fl q h l g n = tt
 -- ---- marks
 
 mark-plain : (b : ℕ) → IsMark b → NoWord b
-unfolding blank nameStart letter digit between
-mark-plain b (inl e) = record { no-blank = rw e; no-start = rw e; no-digit = rw e; no-minus = λ h. absurd (omega arith); no-dot = λ h. absurd (omega arith) }
-mark-plain b (inr (inl e)) = record { no-blank = rw e; no-start = rw e; no-digit = rw e; no-minus = λ h. absurd (omega arith); no-dot = λ h. absurd (omega arith) }
-mark-plain b (inr (inr e)) = record { no-blank = rw e; no-start = rw e; no-digit = rw e; no-minus = λ h. absurd (omega arith); no-dot = λ h. absurd (omega arith) }
+unfolding blank nameStart letter digit between numberStart
+mark-plain b (inl e) = record { no-blank = rw e; no-start = rw e; no-number = rw e; no-dot = λ h. absurd (omega arith) }
+mark-plain b (inr (inl e)) = record { no-blank = rw e; no-start = rw e; no-number = rw e; no-dot = λ h. absurd (omega arith) }
+mark-plain b (inr (inr e)) = record { no-blank = rw e; no-start = rw e; no-number = rw e; no-dot = λ h. absurd (omega arith) }
 
 -- A colon.
 colon-plain : NoWord 58
-unfolding blank nameStart letter digit between
-colon-plain = record { no-blank = refl; no-start = refl; no-digit = refl; no-minus = λ h. absurd (omega arith); no-dot = λ h. absurd (omega arith) }
+unfolding blank nameStart letter digit between numberStart
+colon-plain = record { no-blank = refl; no-start = refl; no-number = refl; no-dot = λ h. absurd (omega arith) }
 
 pub colon-reads : (s : List ℕ) (at : ℕ) → at < length s → getD s at 0 ≡ 58 → Reads s at colon (at + 1)
 unfolding mark markToken

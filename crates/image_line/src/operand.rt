@@ -74,7 +74,14 @@ pub(crate) fn number_at(text: &[u8], from: usize) -> NumberAt
     requires { ⌜ from ≤ length (now text) ⌝ }
     ensures { λ r. ⌜ NumberIs (now (text .entry)) from r ⌝ }
 {
-    match text::reader::token_at(text, from) {
+    let at = text_lexical::bytes::run_end(text, from, Class::Blank);
+    if text.len() <= at {
+        return NumberAt::Other;
+    }
+    if !text::lexer::is_number_start(text[at]) {
+        return NumberAt::Other;
+    }
+    match text::lexer::number(text, at) {
         Scan::Found { token, next } => {
             let kind = token.kind;
             NumberAt::Is { kind, next }

@@ -11,18 +11,23 @@ use lib.ListN.{length, take, drop, getD, length-drop, drop-of-length-le}
 use lib.Seq.{drop-cons}
 use lib.Dec.{eqb}
 use lib.IntN.{pos}
-use borrow.Author.Tests.{eqb-true, ne-eqb, lt-ltb, le-ltb, le-leb, lt-leb}
+use borrow.Author.Tests.{eqb-true, eq-eqb, ne-eqb, lt-ltb, le-ltb, le-leb, lt-leb}
 use Rattle.text_lexical.specs.Bytes.{bytes, between, letter, digit, hexDigit, binaryDigit, mark, nameStart, namePart, every, before, run, isSome, each}
 use Rattle.text_lexical.specs.Numbers.{valueOf, minus}
 use Rattle.text_lexical.specs.Names.{Name, name, named, numbered, conventional, present}
-use Rattle.text_lexical.specs.Contracts.{nameMeant, nameNumber}
+use Rattle.text_lexical.specs.Contracts.{nameMeant, nameNumber, fitting, baseOf, isDigitOf, digitsAt}
+use Rattle.text_lexical.specs.declared.number.Radix.{Radix}
+use Rattle.text_lexical.specs.declared.number.Radix.the-variants.{Binary as BinaryRadix, Decimal as DecimalRadix, Hex as HexRadix}
+use Rattle.text_lexical.specs.declared.number.Value.the-variants.{Fits, TooLarge}
+use Rattle.text_lexical.specs.declared.number.Digits.{Digits}
 use Rattle.text_lexical.specs.declared.name.RegisterName.{RegisterName}
 use Rattle.text_lexical.specs.declared.name.RegisterName.the-variants.{Is, NoSuch, Other}
-use Rattle.text_lexical.proofs.Tests.{split, by-test}
-use Rattle.text_lexical.proofs.Strings.{take-run, run-le}
+use Rattle.text_lexical.proofs.Tests.{split, by-test, not-true, no-both, or-left, or-right, or-elim}
+use Rattle.text_lexical.proofs.Strings.{take-run, run-le, run-yes, run-no}
+use Rattle.text_lexical.proofs.Values.{fits-is, large-is}
 use Rattle.text_lexical.proofs.Registers.{register-index}
 use Rattle.text.specs.Tokens.{isIdentifier, isRegister, Class, Number, Hex, Binary, Directive, Mark, longest, Token, identifier, register, number, hex, binary, directive, within, numberToken, patternToken, registerToken, markToken, tokenOf, sized, matched, front}
-use Rattle.text.specs.Contracts.{kindMeant, kindFor, tokenAt}
+use Rattle.text.specs.Contracts.{kindMeant, patternKind, kindFor, tokenAt, numberStart, IsDecimal, PrefixIs, Prefixed}
 use Rattle.text.specs.declared.lexer.Kind.{Kind}
 use Rattle.text.specs.declared.lexer.Kind.the-variants.{Identifier as IdentifierKind, Register as RegisterKind, NoRegister, Number as NumberKind, Negative}
 use Rattle.text.specs.declared.lexer.Scan.the-variants.{Found, Bad}
@@ -72,11 +77,11 @@ unfolding matched
 front-none s h = front-scan present names-ok s ∙ rw h
 
 -- The longest match is what the scan finds.
-pub longest-found : (s : List ℕ) (n : ℕ) (c : Class) → scan present s ≡ some (matching n c) → longest present s (length s) ≡ some (record { size = n; class = c })
+longest-found : (s : List ℕ) (n : ℕ) (c : Class) → scan present s ≡ some (matching n c) → longest present s (length s) ≡ some (record { size = n; class = c })
 unfolding matching
 longest-found s n c h = longest-scan present names-ok s ∙ h
 
-pub found-longest : (s : List ℕ) (n : ℕ) (c : Class) → longest present s (length s) ≡ some (record { size = n; class = c }) → scan present s ≡ some (matching n c)
+found-longest : (s : List ℕ) (n : ℕ) (c : Class) → longest present s (length s) ≡ some (record { size = n; class = c }) → scan present s ≡ some (matching n c)
 unfolding matching
 found-longest s n c h = sym (longest-scan present names-ok s) ∙ h
 
@@ -136,19 +141,29 @@ word-at s at e n l h q m =
 
 -- ---- a number
 
+-- A byte that no number begins with.
+pub no-number-start : (b : ℕ) → numberStart b ≡ false → (digit b ≡ false) × (b ≡ 45 → ⊥)
+unfolding numberStart
+no-number-start b h = (not-true (digit b) (λ t. no-both (or-left (digit b) (eqb b 45) t) h), λ e. no-both (or-right (digit b) (eqb b 45) (eq-eqb b 45 e)) h)
+
+-- One that a number begins with, and that is no sign.
+pub number-digit : (b : ℕ) → numberStart b ≡ true → (b ≡ 45 → ⊥) → digit b ≡ true
+unfolding numberStart
+number-digit b h f = or-elim (digit b) (eqb b 45) h (λ d. d) (λ e. absurd (f (eqb-true b 45 e)))
+
 digit-no-minus : (b : ℕ) → digit b ≡ true → eqb b 45 ≡ false
 digit-no-minus b h = let l = digit-from b h in ne-eqb b 45 (λ e. omega arith)
 
 -- A number's kind, by the first byte of its spelling.
-pub number-kind : (s : List ℕ) (at e n : ℕ) → at < e → at < length s → digit (getD s at 0) ≡ true
+number-kind : (s : List ℕ) (at e n : ℕ) → at < e → at < length s → digit (getD s at 0) ≡ true
     → kindFor (number (pos n)) (take (e - at) (drop at s)) ≡ NumberKind n
 number-kind s at e n h l d = rw (part-cons s at e h l, digit-no-minus (getD s at 0) d)
 
-pub minus-kind : (s : List ℕ) (at e n : ℕ) → at < e → at < length s → getD s at 0 ≡ 45
+minus-kind : (s : List ℕ) (at e n : ℕ) → at < e → at < length s → getD s at 0 ≡ 45
     → kindFor (number (minus n)) (take (e - at) (drop at s)) ≡ Negative n
 minus-kind s at e n h l d = rw (part-cons s at e h l, d, abs-minus n)
 
-pub decimal-fits : (s : List ℕ) (at e v : ℕ) → at < e → e ≤ length s → digit (getD s at 0) ≡ true
+decimal-fits : (s : List ℕ) (at e v : ℕ) → at < e → e ≤ length s → digit (getD s at 0) ≡ true
     → scan present (drop at s) ≡ some (matching (e - at) Number) → valueOf 10 (take (e - at) (drop at s)) ≡ v → v < 2 ^ 63
     → front present (drop at s) ≡ sized (e - at) (some (number (pos v)))
 unfolding tokenOf numberToken within
@@ -159,7 +174,7 @@ decimal-fits s at e v h l d q k m =
     go : (u : List ℕ) → valueOf 10 (getD s at 0 ∷ u) ≡ v → numberToken (getD s at 0 ∷ u) ≡ some (number (pos v))
     go u k′ = rw (numberToken, digit-no-minus (getD s at 0) d, k′, lt-ltb v (2 ^ 63) m)
 
-pub decimal-large : (s : List ℕ) (at e : ℕ) → at < e → e ≤ length s → digit (getD s at 0) ≡ true
+decimal-large : (s : List ℕ) (at e : ℕ) → at < e → e ≤ length s → digit (getD s at 0) ≡ true
     → scan present (drop at s) ≡ some (matching (e - at) Number) → 2 ^ 63 ≤ valueOf 10 (take (e - at) (drop at s))
     → front present (drop at s) ≡ none
 unfolding tokenOf numberToken within sized
@@ -182,7 +197,7 @@ digits-two b x h g =
     (λ t. rw (digitScan, t))
 
 -- Digits that no 0x or 0b begins
-pub digits-scan : (s : List ℕ) (at e : ℕ) → at < length s → digit (getD s at 0) ≡ true → e ≡ at + 1 + run digit (drop (at + 1) s)
+digits-scan : (s : List ℕ) (at e : ℕ) → at < length s → digit (getD s at 0) ≡ true → e ≡ at + 1 + run digit (drop (at + 1) s)
     → (getD s at 0 ≡ 48 → at + 1 < length s → (getD s (at + 1) 0 ≡ 120 → ⊥) × (getD s (at + 1) 0 ≡ 98 → ⊥))
     → scan present (drop at s) ≡ some (matching (e - at) Number)
 unfolding scan
@@ -206,7 +221,7 @@ scan-minus-some : (t : List ℕ) (n : ℕ) → run digit t ≡ suc n → scan pr
 unfolding atLeastOne
 scan-minus-some t n r = scan-minus t ∙ rw r
 
-pub minus-none : (s : List ℕ) (at e : ℕ) → at < length s → getD s at 0 ≡ 45 → e ≡ at + 1 + run digit (drop (at + 1) s) → e ≡ at + 1
+minus-none : (s : List ℕ) (at e : ℕ) → at < length s → getD s at 0 ≡ 45 → e ≡ at + 1 + run digit (drop (at + 1) s) → e ≡ at + 1
     → front present (drop at s) ≡ none
 minus-none s at e l b q z =
     let r : run digit (drop (suc at) s) ≡ 0 = omega (arith, rw (add-one at) at q) in
@@ -234,22 +249,22 @@ number-minus-large : (u : List ℕ) → 2 ^ 63 < valueOf 10 u → numberToken (4
 unfolding numberToken within
 number-minus-large u m = rw (numberToken, lt-leb (valueOf 10 u) (2 ^ 63) m)
 
-pub minus-fits : (s : List ℕ) (at e v : ℕ) → at < length s → getD s at 0 ≡ 45 → e ≡ at + 1 + run digit (drop (at + 1) s) → (e ≡ at + 1 → ⊥)
+minus-fits : (s : List ℕ) (at e v : ℕ) → at < length s → getD s at 0 ≡ 45 → e ≡ at + 1 + run digit (drop (at + 1) s) → (e ≡ at + 1 → ⊥)
     → valueOf 10 (take (e - (at + 1)) (drop (at + 1) s)) ≡ v → v ≤ 2 ^ 63
     → front present (drop at s) ≡ sized (e - at) (some (number (minus v)))
 minus-fits s at e v l b q z k m = minus-front s at e l b q z ∙ ap (sized (e - at)) (number-minus _ v k m)
 
-pub minus-large : (s : List ℕ) (at e : ℕ) → at < length s → getD s at 0 ≡ 45 → e ≡ at + 1 + run digit (drop (at + 1) s) → (e ≡ at + 1 → ⊥)
+minus-large : (s : List ℕ) (at e : ℕ) → at < length s → getD s at 0 ≡ 45 → e ≡ at + 1 + run digit (drop (at + 1) s) → (e ≡ at + 1 → ⊥)
     → 2 ^ 63 < valueOf 10 (take (e - (at + 1)) (drop (at + 1) s)) → front present (drop at s) ≡ none
 unfolding sized
 minus-large s at e l b q z m = minus-front s at e l b q z ∙ ap (sized (e - at)) (number-minus-large _ m)
 
 -- 0x and 0b
-pub hex-scan : (h : List ℕ) → digitScan 48 (120 ∷ h) ≡ radixOr Hex (run hexDigit h)
+hex-scan : (h : List ℕ) → digitScan 48 (120 ∷ h) ≡ radixOr Hex (run hexDigit h)
 unfolding digitScan
 hex-scan h = refl
 
-pub binary-scan : (h : List ℕ) → digitScan 48 (98 ∷ h) ≡ radixOr Binary (run binaryDigit h)
+binary-scan : (h : List ℕ) → digitScan 48 (98 ∷ h) ≡ radixOr Binary (run binaryDigit h)
 unfolding digitScan
 binary-scan h = refl
 
@@ -259,7 +274,7 @@ zero-first t = refl
 
 -- What the two have in common: the second byte, the class and the token class are given, with what the scan then is
 module _ (x : ℕ) (p : ℕ → Bool) (c : Class) (scan-is : (h : List ℕ) → digitScan 48 (x ∷ h) ≡ radixOr c (run p h)) where
-  pub radix-none : (s : List ℕ) (at e : ℕ) → at + 1 < length s → getD s at 0 ≡ 48 → getD s (at + 1) 0 ≡ x
+  radix-none : (s : List ℕ) (at e : ℕ) → at + 1 < length s → getD s at 0 ≡ 48 → getD s (at + 1) 0 ≡ x
       → e ≡ at + 2 + run p (drop (at + 2) s) → e ≡ at + 2 → scan present (drop at s) ≡ some (matching (at + 1 - at) Number)
   unfolding radixOr
   radix-none s at e l b y q z =
@@ -269,7 +284,7 @@ module _ (x : ℕ) (p : ℕ → Bool) (c : Class) (scan-is : (h : List ℕ) → 
       rw (w, drop-cons s at 0 (omega arith), b, drop-cons s (suc at) 0 (omega arith), rw (add-one at) at y)
       (zero-first (x ∷ drop (suc (suc at)) s) ∙ ap some (scan-is (drop (suc (suc at)) s) ∙ ap (radixOr c) r))
 
-  pub radix-some : (s : List ℕ) (at e : ℕ) → at + 1 < length s → getD s at 0 ≡ 48 → getD s (at + 1) 0 ≡ x
+  radix-some : (s : List ℕ) (at e : ℕ) → at + 1 < length s → getD s at 0 ≡ 48 → getD s (at + 1) 0 ≡ x
       → e ≡ at + 2 + run p (drop (at + 2) s) → (e ≡ at + 2 → ⊥) → scan present (drop at s) ≡ some (matching (e - at) c)
   unfolding radixOr
   radix-some s at e l b y q z =
@@ -280,10 +295,94 @@ module _ (x : ℕ) (p : ℕ → Bool) (c : Class) (scan-is : (h : List ℕ) → 
       (zero-first (x ∷ drop (suc (suc at)) s) ∙ ap some (scan-is (drop (suc (suc at)) s) ∙ ap (radixOr c) r))
 
 -- What stands behind `0x`
-pub part-two : (s : List ℕ) (at e : ℕ) → at + 2 ≤ e → e ≤ length s → drop 2 (take (e - at) (drop at s)) ≡ take (e - (at + 2)) (drop (at + 2) s)
+part-two : (s : List ℕ) (at e : ℕ) → at + 2 ≤ e → e ≤ length s → drop 2 (take (e - at) (drop at s)) ≡ take (e - (at + 2)) (drop (at + 2) s)
 part-two s at e h l =
     let v : at + 1 + 1 ≡ at + 2 = omega arith in
     rw (part-cons s at e (omega arith) (omega arith), part-cons s (at + 1) e (omega arith) (omega arith), v)
+
+-- ---- digits that have been read
+
+-- What the answer of `digits_at` says: where the digits end, and their value.
+pub record Digits-are (radix : Radix) (s : List ℕ) (begin : ℕ) (d : Digits) : Type 0 where
+  pub ends : d .end ≡ begin + run (isDigitOf radix) (drop begin s)
+  pub on : begin ≤ d .end
+  pub in-text : d .end ≤ length s
+  value-is : d .value ≡ fitting (valueOf (baseOf radix) (take (d .end - begin) (drop begin s)))
+
+pub digits-are : (radix : Radix) (s : List ℕ) (begin : ℕ) (d : Digits) → begin ≤ length s → d ≡ digitsAt s begin radix → Digits-are radix s begin d
+digits-are radix s begin d l e =
+    let n : d .end ≡ begin + run (isDigitOf radix) (drop begin s) = rw e in
+    let q : d .end - begin ≡ run (isDigitOf radix) (drop begin s) = omega (arith, n) in
+    record {
+      ends = n;
+      on = omega (arith, n);
+      in-text = omega (arith, n, run-in (isDigitOf radix) s begin l);
+      value-is = rw (q, take-run (isDigitOf radix) (drop begin s)) (ap (λ (x : Digits). x .value) e);
+    }
+
+module _ (radix : Radix) (s : List ℕ) (begin : ℕ) (d : Digits) (q : Digits-are radix s begin d) where
+  -- A value that fits, and one that does not.
+  value-fits : (n : ℕ) → d .value ≡ Fits n → (valueOf (baseOf radix) (take (d .end - begin) (drop begin s)) ≡ n) × (n < 2 ^ 64)
+  value-fits n e = let (v, l) = fits-is (valueOf (baseOf radix) (take (d .end - begin) (drop begin s))) n (sym e ∙ q .value-is) in (v, omega (arith, v, l))
+
+  value-large : d .value ≡ TooLarge → 2 ^ 64 ≤ valueOf (baseOf radix) (take (d .end - begin) (drop begin s))
+  value-large e = large-is (valueOf (baseOf radix) (take (d .end - begin) (drop begin s))) (sym e ∙ q .value-is)
+
+-- ---- decimal digits, without a sign
+
+-- No 0x or 0b begins them.
+pub decimal-here : (s : List ℕ) (at : ℕ) → at < length s → digit (getD s at 0) ≡ true
+    → (getD s at 0 ≡ 48 → at + 1 < length s → (getD s (at + 1) 0 ≡ 120 → ⊥) × (getD s (at + 1) 0 ≡ 98 → ⊥)) → IsDecimal s at
+decimal-here s at l d f =
+    let e = at + run digit (drop at s) in
+    let y = run-yes digit s at l d in
+    let q : at + run digit (drop at s) - at ≡ run digit (drop at s) = omega arith in
+    record { in-text = l; is-digit = d; is-number = rw q at (longest-found (drop at s) (at + run digit (drop at s) - at) Number (digits-scan s at (at + run digit (drop at s)) l d (rw (add-one at) (omega (arith, y))) f)) }
+
+module _ (s : List ℕ) (at : ℕ) (d : Digits) (h : IsDecimal s at) (q : Digits-are DecimalRadix s at d) where
+  some-digits : at < d .end
+  some-digits = omega (arith, q .ends, run-yes digit s at (h .in-text) (h .is-digit))
+
+  decimal-scanned : scan present (drop at s) ≡ some (matching (d .end - at) Number)
+  decimal-scanned =
+      let n : d .end - at ≡ run digit (drop at s) = omega (arith, q .ends) in
+      rw n (found-longest (drop at s) (run digit (drop at s)) Number (h .is-number))
+
+  pub decimal-found : (n : ℕ) → d .value ≡ Fits n → n < 2 ^ 63 → Found (record { kind = NumberKind n; start = at; length = d .end - at }) (d .end) ≡ tokenAt s at
+  decimal-found n e k =
+      at-found s at (d .end) (NumberKind n) (q .on) (number-kind s at (d .end) n some-digits (h .in-text) (h .is-digit))
+      (decimal-fits s at (d .end) n some-digits (q .in-text) (h .is-digit) decimal-scanned (value-fits DecimalRadix s at d q n e .0) k)
+
+  -- A value of 2^63 or more is bad, whether it fits 64 bits or not.
+  decimal-bad : 2 ^ 63 ≤ valueOf 10 (take (d .end - at) (drop at s)) → Bad ≡ tokenAt s at
+  decimal-bad k = at-none s at (decimal-large s at (d .end) some-digits (q .in-text) (h .is-digit) decimal-scanned k)
+
+  pub decimal-wide : d .value ≡ TooLarge → Bad ≡ tokenAt s at
+  decimal-wide e = decimal-bad (omega (arith, value-large DecimalRadix s at d q e))
+
+  pub decimal-over : (n : ℕ) → d .value ≡ Fits n → 2 ^ 63 ≤ n → Bad ≡ tokenAt s at
+  decimal-over n e k = decimal-bad (omega (arith, value-fits DecimalRadix s at d q n e .0))
+
+-- ---- decimal digits after a sign
+
+module _ (s : List ℕ) (at : ℕ) (d : Digits) (l : at < length s) (b : getD s at 0 ≡ 45) (q : Digits-are DecimalRadix s (at + 1) d) where
+  pub minus-alone : d .end ≡ at + 1 → Bad ≡ tokenAt s at
+  minus-alone z = at-none s at (minus-none s at (d .end) l b (q .ends) z)
+
+  module _ (z : d .end ≡ at + 1 → ⊥) where
+    pub minus-found : (n : ℕ) → d .value ≡ Fits n → n ≤ 2 ^ 63 → Found (record { kind = Negative n; start = at; length = d .end - at }) (d .end) ≡ tokenAt s at
+    minus-found n e k =
+        at-found s at (d .end) (Negative n) (omega (arith, q .on)) (minus-kind s at (d .end) n (omega (arith, q .on)) l b)
+        (minus-fits s at (d .end) n l b (q .ends) z (value-fits DecimalRadix s (at + 1) d q n e .0) k)
+
+    minus-bad : 2 ^ 63 < valueOf 10 (take (d .end - (at + 1)) (drop (at + 1) s)) → Bad ≡ tokenAt s at
+    minus-bad k = at-none s at (minus-large s at (d .end) l b (q .ends) z k)
+
+    pub minus-wide : d .value ≡ TooLarge → Bad ≡ tokenAt s at
+    minus-wide e = minus-bad (omega (arith, value-large DecimalRadix s (at + 1) d q e))
+
+    pub minus-over : (n : ℕ) → d .value ≡ Fits n → 2 ^ 63 < n → Bad ≡ tokenAt s at
+    minus-over n e k = minus-bad (omega (arith, value-fits DecimalRadix s (at + 1) d q n e .0))
 
 -- ---- a directive and a mark
 
@@ -341,31 +440,85 @@ unfolding patternToken within
 pattern-large make radix u m = rw (le-ltb (valueOf radix (drop 2 u)) (2 ^ 64) m)
 
 module _ (c : Class) (make : ℕ → Token) (radix : ℕ) (token-is : (u : List ℕ) → tokenOf present c u ≡ patternToken make radix u) where
-  pub radix-fits : (s : List ℕ) (at e v : ℕ) → at + 2 ≤ e → e ≤ length s → scan present (drop at s) ≡ some (matching (e - at) c)
+  radix-fits : (s : List ℕ) (at e v : ℕ) → at + 2 ≤ e → e ≤ length s → scan present (drop at s) ≡ some (matching (e - at) c)
       → valueOf radix (take (e - (at + 2)) (drop (at + 2) s)) ≡ v → v < 2 ^ 64
       → front present (drop at s) ≡ sized (e - at) (some (make v))
   radix-fits s at e v h l q k m =
       front-found (drop at s) (e - at) c q
       ∙ ap (sized (e - at)) (token-is (take (e - at) (drop at s)) ∙ pattern-fits make radix _ v (ap (valueOf radix) (part-two s at e h l) ∙ k) m)
 
-  pub radix-large : (s : List ℕ) (at e : ℕ) → at + 2 ≤ e → e ≤ length s → scan present (drop at s) ≡ some (matching (e - at) c)
+  radix-large : (s : List ℕ) (at e : ℕ) → at + 2 ≤ e → e ≤ length s → scan present (drop at s) ≡ some (matching (e - at) c)
       → 2 ^ 64 ≤ valueOf radix (take (e - (at + 2)) (drop (at + 2) s)) → front present (drop at s) ≡ none
   unfolding sized
   radix-large s at e h l q m =
       front-found (drop at s) (e - at) c q
       ∙ ap (sized (e - at)) (token-is (take (e - at) (drop at s)) ∙ pattern-large make radix _ (rw (part-two s at e h l) m))
 
-pub hex-means : (u : List ℕ) → tokenOf present Hex u ≡ patternToken hex 16 u
+hex-means : (u : List ℕ) → tokenOf present Hex u ≡ patternToken hex 16 u
 unfolding tokenOf
 hex-means u = refl
 
-pub binary-means : (u : List ℕ) → tokenOf present Binary u ≡ patternToken binary 2 u
+binary-means : (u : List ℕ) → tokenOf present Binary u ≡ patternToken binary 2 u
 unfolding tokenOf
 binary-means u = refl
 
-pub zero-is-digit : (b : ℕ) → b ≡ 48 → digit b ≡ true
+zero-is-digit : (b : ℕ) → b ≡ 48 → digit b ≡ true
 unfolding digit between
 zero-is-digit b e = rw e
+
+-- ---- digits after `0x` and `0b`: one argument for both
+
+-- What a radix' prefix, class and token are.
+record Pattern (radix : Radix) (x : ℕ) : Type 0 where
+  class : Class
+  make : ℕ → Token
+  scan-is : (h : List ℕ) → digitScan 48 (x ∷ h) ≡ radixOr class (run (isDigitOf radix) h)
+  token-is : (u : List ℕ) → tokenOf present class u ≡ patternToken make (baseOf radix) u
+  kind-meant : (n : ℕ) (u : List ℕ) → kindMeant (patternKind radix n) u ≡ make n
+  kind-for : (n : ℕ) (u : List ℕ) → kindFor (make n) u ≡ patternKind radix n
+  no-digit : digit x ≡ false
+
+hex-pattern : Pattern HexRadix 120
+unfolding digit between
+hex-pattern = record { class = Hex; make = hex; scan-is = hex-scan; token-is = hex-means; kind-meant = λ n u. refl; kind-for = λ n u. refl; no-digit = refl }
+
+binary-pattern : Pattern BinaryRadix 98
+unfolding digit between
+binary-pattern = record { class = Binary; make = binary; scan-is = binary-scan; token-is = binary-means; kind-meant = λ n u. refl; kind-for = λ n u. refl; no-digit = refl }
+
+pattern-of : (radix : Radix) (b : ℕ) → PrefixIs radix b → Pattern radix b
+pattern-of HexRadix b e = rw e hex-pattern
+pattern-of BinaryRadix b e = rw e binary-pattern
+pattern-of DecimalRadix b e = absurd e
+
+module _ (s : List ℕ) (at : ℕ) (radix : Radix) (d : Digits) (h : Prefixed s at radix) (q : Digits-are radix s (at + 2) d) where
+  abbrev here : Pattern radix (getD s (at + 1) 0)
+  here = pattern-of radix (getD s (at + 1) 0) (h .is-prefix)
+
+  -- No digit follows: `0` is the token.
+  pub prefix-alone : d .end ≡ at + 2 → IsDecimal s at
+  prefix-alone z =
+      let m = radix-none (getD s (at + 1) 0) (isDigitOf radix) (here .class) (here .scan-is) s at (d .end) (h .in-text) (h .is-zero) refl (q .ends) z in
+      let o = zero-is-digit _ (h .is-zero) in
+      let y = run-yes digit s at (omega (arith, h .in-text)) o in
+      let n = run-no digit s (at + 1) (h .in-text) (here .no-digit) in
+      let w : at + 1 - at ≡ run digit (drop at s) = omega (arith, rw (add-one at) at n, y) in
+      record { in-text = omega (arith, h .in-text); is-digit = o; is-number = rw w at (longest-found (drop at s) (at + 1 - at) Number m) }
+
+  module _ (z : d .end ≡ at + 2 → ⊥) where
+    scanned : scan present (drop at s) ≡ some (matching (d .end - at) (here .class))
+    scanned = radix-some (getD s (at + 1) 0) (isDigitOf radix) (here .class) (here .scan-is) s at (d .end) (h .in-text) (h .is-zero) refl (q .ends) z
+
+    pub prefix-found : (n : ℕ) → d .value ≡ Fits n → Found (record { kind = patternKind radix n; start = at; length = d .end - at }) (d .end) ≡ tokenAt s at
+    prefix-found n e =
+        let u = take (d .end - at) (drop at s) in
+        let (v, k) = value-fits radix s (at + 2) d q n e in
+        at-found s at (d .end) (patternKind radix n) (omega (arith, q .on)) (rw (here .kind-meant n u) (here .kind-for n u))
+        (rw (here .kind-meant n u) (radix-fits (here .class) (here .make) (baseOf radix) (here .token-is) s at (d .end) n (q .on) (q .in-text) scanned v k))
+
+    pub prefix-wide : d .value ≡ TooLarge → Bad ≡ tokenAt s at
+    prefix-wide e =
+        at-none s at (radix-large (here .class) (here .make) (baseOf radix) (here .token-is) s at (d .end) (q .on) (q .in-text) scanned (value-large radix s (at + 2) d q e))
 
 -- The marks
 pub mark-yes : (b : ℕ) → (b ≡ 44) ⊎ ((b ≡ 58) ⊎ ((b ≡ 40) ⊎ (b ≡ 41))) → mark b ≡ true

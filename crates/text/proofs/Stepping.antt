@@ -8,20 +8,23 @@ use mathlib.Core.List.{List, [], _∷_}
 use mathlib.Core.Option.{Option, none, some}
 use lib.ListN.{length, take, drop, getD, length-drop}
 use lib.Seq.{getD-take, getD-drop}
+use lib.Dec.{eqb}
+use borrow.Author.Tests.{eqb-true, eqb-false}
 use Rattle.text_lexical.specs.Bytes.{blank, mark, before, run, every, inside, margin}
 use Rattle.text_lexical.specs.Names.{present}
+use Rattle.text_lexical.proofs.Tests.{by-test}
 use Rattle.text_lexical.proofs.Strings.{run-le, run-no, run-end, run-stop, take-run, every-run, every-mono}
 use Rattle.text.specs.Tokens.{Token as Meant, markToken, Sized, front, infront, tokens}
 use Rattle.text.specs.Places.{leftAt, endAt}
-use Rattle.text.specs.Contracts.{kindMeant, kindFor, meant, foundAt, tokenAt, standsAt, past, scanAt, NoWord}
+use Rattle.text.specs.Contracts.{kindMeant, kindFor, meant, foundAt, tokenAt, standsAt, past, scanAt, numberStart, NoWord}
 use Rattle.text.specs.declared.lexer.Kind.{Kind}
 use Rattle.text.specs.declared.lexer.Kind.the-variants.{Number, Negative}
 use Rattle.text.specs.declared.lexer.Token.{Token}
 use Rattle.text.specs.declared.lexer.Scan.{Scan}
 use Rattle.text.specs.declared.lexer.Scan.the-variants.{Found, Bad, End}
-use Rattle.text.proofs.Left.{solid, mark-solid, solid-plain, margin-inside, blank-inside, blanks-at, front-at, left-byte, solid-left, found-at, found-solid, nothing-left, none-read, left-read-bad, bad-left, bad-at, end-on}
+use Rattle.text.proofs.Left.{solid, digit-solid, high-solid, mark-solid, solid-plain, margin-inside, blank-inside, blanks-at, front-at, left-byte, solid-left, found-at, found-solid, nothing-left, none-read, left-read-bad, bad-left, bad-at, end-on}
 use Rattle.text.proofs.Meanings.{front-means, kind-sign}
-use Rattle.text.proofs.Fronts.{names-ok, at-found, at-none, mark-front, mark-none}
+use Rattle.text.proofs.Fronts.{names-ok, at-found, at-none, mark-front, mark-none, no-number-start, number-digit}
 
 -- ---- what stands at a place
 
@@ -58,6 +61,13 @@ margin-on s at stop l q =
     = rw (take-run margin (drop at s)) (every-mono margin inside margin-inside (before margin (drop at s)) (every-run margin (drop at s))) in
     (omega arith, omega arith, ap (endAt s) q ∙ end-on s at (run margin (drop at s)) (omega arith) i)
 
+-- A number begins with no blank.
+pub number-step : (s : List ℕ) (at : ℕ) (r : Scan) → at < length s → numberStart (getD s at 0) ≡ true → r ≡ tokenAt s at → r ≡ scanAt s at
+number-step s at r l h e =
+    by-test (eqb (getD s at 0) 45)
+    (λ t. solid-step s at r l (high-solid (getD s at 0) (omega (arith, eqb-true (getD s at 0) 45 t))) e)
+    (λ f. solid-step s at r l (digit-solid (getD s at 0) (number-digit (getD s at 0) h (eqb-false (getD s at 0) 45 f))) e)
+
 pub end-step : (s : List ℕ) (at stop : ℕ) → at < length s → blank (getD s at 0) ≡ false → stop ≡ at + run margin (drop at s)
     → (stop < length s → (getD s stop 0 ≡ 10) ⊎ (getD s stop 0 ≡ 35)) → End stop ≡ scanAt s at
 end-step s at stop l b q f =
@@ -65,7 +75,7 @@ end-step s at stop l b q f =
 
 -- Neither a word nor a number nor a directive nor a mark.
 none-front : (s : List ℕ) (at : ℕ) → at < length s → NoWord (getD s at 0) → mark (getD s at 0) ≡ false → front present (drop at s) ≡ none
-none-front s at l w k = mark-none s at l (w .no-start) (w .no-digit) (w .no-minus) (w .no-dot) k
+none-front s at l w k = let (d, m) = no-number-start (getD s at 0) (w .no-number) in mark-none s at l (w .no-start) d m (w .no-dot) k
 
 pub bad-step : (s : List ℕ) (at stop : ℕ) → at < length s → NoWord (getD s at 0) → mark (getD s at 0) ≡ false → stop ≡ at + run margin (drop at s) → stop < length s
     → (getD s stop 0 ≡ 10 → ⊥) → (getD s stop 0 ≡ 35 → ⊥) → Bad ≡ scanAt s at
@@ -84,7 +94,7 @@ mark-step s at k t l w h e m g =
     let u = take (at + 1 - at) (drop at s) in
     solid-step s at _ l (mark-solid (getD s at 0) h)
     (at-found s at (at + 1) k (omega arith) (ap (λ (x : Meant). kindFor x u) (m u) ∙ g u)
-    (mark-front s at t l (w .no-start) (w .no-digit) (w .no-minus) (w .no-dot) h e ∙ rw (one, m (take 1 (drop at s)))))
+    (mark-front s at t l (w .no-start) (no-number-start _ (w .no-number) .0) (no-number-start _ (w .no-number) .1) (w .no-dot) h e ∙ rw (one, m (take 1 (drop at s)))))
 
 -- ---- past blanks
 

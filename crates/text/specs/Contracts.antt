@@ -1,7 +1,7 @@
 -- What the code's values mean in terms of the definitions, and what its functions answer.
-use Prim.Native.Nat.{ℕ, zero, suc, _+_, _-_, _≤_, _<_}
+use Prim.Native.Nat.{ℕ, zero, suc, _+_, _-_, _<_}
 use mathlib.Core.Path.{_≡_}
-use mathlib.Core.Bool.{Bool, true, false}
+use mathlib.Core.Bool.{Bool, true, false, _||_}
 use mathlib.Core.Option.{Option, none, some}
 use mathlib.Core.List.{List, [], _∷_, _++_, map}
 use lib.ListN.{length, take, drop, getD, replicate}
@@ -11,6 +11,8 @@ use Rattle.text_lexical.specs.Bytes.{Result, value, refused, digit, nameStart, 
 use Rattle.text_lexical.specs.Numbers.{minus}
 use Rattle.text_lexical.specs.Names.{present}
 use Rattle.text_lexical.specs.Contracts.{indexOf, registerAt, wholeMeant}
+use Rattle.text_lexical.specs.declared.number.Radix.{Radix}
+use Rattle.text_lexical.specs.declared.number.Radix.the-variants.{Binary as BinaryRadix, Decimal as DecimalRadix, Hex as HexRadix}
 use Rattle.text.specs.Tokens.{identifier, register, number, hex, binary, directive, comma, colon, opening, closing, Number as NumberClass, longest, Sized, front}
 use Rattle.text.specs.Tokens.{Token as Meant}
 use Rattle.text.specs.Places.{leftAt, endAt}
@@ -77,6 +79,12 @@ abbrev pub signedKind : Bool → ℕ → Kind
 signedKind true n = Negative n
 signedKind false n = Number n
 
+-- The kind of a number in a radix.
+abbrev pub patternKind : Radix → ℕ → Kind
+patternKind HexRadix n = Hex n
+patternKind BinaryRadix n = Binary n
+patternKind DecimalRadix n = Number n
+
 -- The kind of a token, by its meaning and its spelling. A Number is negative exactly if its spelling begins with `-`: so is `-0`.
 abbrev pub kindFor : Meant → List ℕ → Kind
 kindFor (identifier v) u = Identifier
@@ -113,19 +121,32 @@ past s from = from + run blank (drop from s)
 unfoldable pub scanAt : List ℕ → ℕ → Scan
 scanAt s from = standsAt s (past s from)
 
--- Decimal digits, from a place to another, which no longer match begins.
-pub record IsDecimal (s : List ℕ) (at end : ℕ) : Type 0 where
-  pub some-digits : at < end
-  pub in-text : end ≤ length s
+-- A number's first byte: a digit or `-`.
+unfoldable pub numberStart : ℕ → Bool
+numberStart b = digit b || eqb b 45
+
+-- Decimal digits at a place, which no longer match begins.
+pub record IsDecimal (s : List ℕ) (at : ℕ) : Type 0 where
+  pub in-text : at < length s
   pub is-digit : digit (getD s at 0) ≡ true
-  pub is-number : longest present (drop at s) (length (drop at s)) ≡ some (record { size = end - at; class = NumberClass })
+  pub is-number : longest present (drop at s) (length (drop at s)) ≡ some (record { size = run digit (drop at s); class = NumberClass })
+
+-- The byte after the `0` of a number that is not decimal.
+abbrev pub PrefixIs : Radix → ℕ → Type 0
+PrefixIs HexRadix b = b ≡ 120
+PrefixIs BinaryRadix b = b ≡ 98
+PrefixIs DecimalRadix b = ⊥
+
+pub record Prefixed (s : List ℕ) (at : ℕ) (radix : Radix) : Type 0 where
+  pub in-text : at + 1 < length s
+  pub is-zero : getD s at 0 ≡ 48
+  pub is-prefix : PrefixIs radix (getD s (at + 1) 0)
 
 -- A byte that begins neither a word nor a number nor a directive.
 pub record NoWord (b : ℕ) : Type 0 where
   pub no-blank : blank b ≡ false
   pub no-start : nameStart b ≡ false
-  pub no-digit : digit b ≡ false
-  pub no-minus : b ≡ 45 → ⊥
+  pub no-number : numberStart b ≡ false
   pub no-dot : b ≡ 46 → ⊥
 
 -- ---- the reader

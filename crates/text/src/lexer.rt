@@ -4,7 +4,7 @@ ghost use mathlib.Core.Bool.{true, false};
 ghost use Prim.Native.Nat.{_+_, _-_, _≤_, _<_};
 ghost use lib.ListN.{length, getD};
 ghost use Rattle.text_lexical.specs.Bytes.{nameStart, digit, mark, blank};
-ghost use Rattle.text.specs.Contracts.{tokenAt, scanAt, IsDecimal, NoWord};
+ghost use Rattle.text.specs.Contracts.{patternKind, tokenAt, scanAt, numberStart, IsDecimal, Prefixed, NoWord};
 use text_lexical::bytes::Class;
 use text_lexical::name::RegisterName;
 use text_lexical::number::Radix;
@@ -69,16 +69,19 @@ fn word(text: &[u8], at: usize) -> Scan
     }
 }
 
-// Decimal digits from `at` to `end`.
-fn decimal(text: &[u8], at: usize, end: usize) -> Scan
-    requires { ⌜ IsDecimal (now text) at end ⌝ }
+// Decimal digits at `at`, all of which make the token.
+fn decimal(text: &[u8], at: usize) -> Scan
+    requires { ⌜ IsDecimal (now text) at ⌝ }
     ensures { λ r. ⌜ r ≡ tokenAt (now (text .entry)) at ⌝ }
 {
-    match text_lexical::number::value_of(&text[at..end], Radix::Decimal) {
+    let digits = text_lexical::number::digits_at(text, at, Radix::Decimal);
+    let end = digits.end;
+    let value = digits.value;
+    match value {
         Value::TooLarge => Scan::Bad,
-        Value::Fits(value) => {
-            if value < 9223372036854775808 {
-                found(Kind::Number(value), at, end)
+        Value::Fits(magnitude) => {
+            if magnitude < 9223372036854775808 {
+                found(Kind::Number(magnitude), at, end)
             } else {
                 Scan::Bad
             }
@@ -92,15 +95,17 @@ fn minus(text: &[u8], at: usize) -> Scan
     ensures { λ r. ⌜ r ≡ tokenAt (now (text .entry)) at ⌝ }
 {
     let begin = at + 1;
-    let end = text_lexical::bytes::run_end(text, begin, Class::Digit);
+    let digits = text_lexical::number::digits_at(text, begin, Radix::Decimal);
+    let end = digits.end;
+    let value = digits.value;
     if end == begin {
         return Scan::Bad;
     }
-    match text_lexical::number::value_of(&text[begin..end], Radix::Decimal) {
+    match value {
         Value::TooLarge => Scan::Bad,
-        Value::Fits(value) => {
-            if value <= 9223372036854775808 {
-                found(Kind::Negative(value), at, end)
+        Value::Fits(magnitude) => {
+            if magnitude <= 9223372036854775808 {
+                found(Kind::Negative(magnitude), at, end)
             } else {
                 Scan::Bad
             }
@@ -108,35 +113,32 @@ fn minus(text: &[u8], at: usize) -> Scan
     }
 }
 
-// `0x` at `at`.
-fn hex(text: &[u8], at: usize) -> Scan
-    requires { ⌜ at + 1 < length (now text) ⌝ ∗ ⌜ getD (now text) at 0 ≡ 48 ⌝ ∗ ⌜ getD (now text) (at + 1) 0 ≡ 120 ⌝ }
-    ensures { λ r. ⌜ r ≡ tokenAt (now (text .entry)) at ⌝ }
+// The kind of a number in another radix than ten.
+fn pattern(radix: Radix, magnitude: u64) -> Kind
+    ensures { λ r. ⌜ r ≡ patternKind radix magnitude ⌝ }
 {
-    let begin = at + 2;
-    let end = text_lexical::bytes::run_end(text, begin, Class::HexDigit);
-    if end == begin {
-        return decimal(text, at, at + 1);
-    }
-    match text_lexical::number::value_of(&text[begin..end], Radix::Hex) {
-        Value::TooLarge => Scan::Bad,
-        Value::Fits(value) => found(Kind::Hex(value), at, end),
+    match radix {
+        Radix::Hex => Kind::Hex(magnitude),
+        Radix::Binary => Kind::Binary(magnitude),
+        Radix::Decimal => Kind::Number(magnitude),
     }
 }
 
-// `0b` at `at`.
-fn binary(text: &[u8], at: usize) -> Scan
-    requires { ⌜ at + 1 < length (now text) ⌝ ∗ ⌜ getD (now text) at 0 ≡ 48 ⌝ ∗ ⌜ getD (now text) (at + 1) 0 ≡ 98 ⌝ }
+// `0x` or `0b` at `at`; without a digit after it, only `0` is the token.
+fn prefixed(text: &[u8], at: usize, radix: Radix) -> Scan
+    requires { ⌜ Prefixed (now text) at radix ⌝ }
     ensures { λ r. ⌜ r ≡ tokenAt (now (text .entry)) at ⌝ }
 {
     let begin = at + 2;
-    let end = text_lexical::bytes::run_end(text, begin, Class::BinaryDigit);
+    let digits = text_lexical::number::digits_at(text, begin, radix);
+    let end = digits.end;
+    let value = digits.value;
     if end == begin {
-        return decimal(text, at, at + 1);
+        return decimal(text, at);
     }
-    match text_lexical::number::value_of(&text[begin..end], Radix::Binary) {
+    match value {
         Value::TooLarge => Scan::Bad,
-        Value::Fits(value) => found(Kind::Binary(value), at, end),
+        Value::Fits(magnitude) => found(pattern(radix, magnitude), at, end),
     }
 }
 
@@ -148,14 +150,31 @@ fn digits(text: &[u8], at: usize) -> Scan
     let second = at + 1;
     if text[at] == b'0' && second < text.len() {
         if text[second] == b'x' {
-            return hex(text, at);
+            return prefixed(text, at, Radix::Hex);
         }
         if text[second] == b'b' {
-            return binary(text, at);
+            return prefixed(text, at, Radix::Binary);
         }
     }
-    let end = text_lexical::bytes::run_end(text, second, Class::Digit);
-    decimal(text, at, end)
+    decimal(text, at)
+}
+
+// Whether a number may begin with a byte: a digit or `-`.
+pub fn is_number_start(b: u8) -> bool
+    ensures { λ r. ⌜ r ≡ numberStart b ⌝ }
+{
+    text_lexical::bytes::is_digit(b) || b == b'-'
+}
+
+// A number at `at`.
+pub fn number(text: &[u8], at: usize) -> Scan
+    requires { ⌜ at < length (now text) ⌝ ∗ ⌜ numberStart (getD (now text) at 0) ≡ true ⌝ }
+    ensures { λ r. ⌜ r ≡ tokenAt (now (text .entry)) at ⌝ }
+{
+    if text[at] == b'-' {
+        return minus(text, at);
+    }
+    digits(text, at)
 }
 
 // `.` at `at`.
@@ -213,11 +232,8 @@ fn front(text: &[u8], at: usize) -> Scan
     if text_lexical::bytes::is_name_start(b) {
         return word(text, at);
     }
-    if text_lexical::bytes::is_digit(b) {
-        return digits(text, at);
-    }
-    if b == b'-' {
-        return minus(text, at);
+    if is_number_start(b) {
+        return number(text, at);
     }
     if b == b'.' {
         return directive(text, at);

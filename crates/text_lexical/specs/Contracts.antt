@@ -4,14 +4,14 @@ use mathlib.Core.Path.{_≡_}
 use mathlib.Core.Bool.{Bool, true, false}
 use mathlib.Core.Option.{Option, none, some}
 use mathlib.Core.List.{List, [], _∷_}
-use lib.ListN.{length, getD}
+use lib.ListN.{length, drop, getD}
 use lib.Dec.{leb, ltb}
 use lib.IntN.{ℤ, pos, negsuc}
-use Rattle.text_lexical.specs.Bytes.{digit, hexDigit, binaryDigit, namePart, blank, inside, margin, ascii}
-use Rattle.text_lexical.specs.Numbers.{minus, residue}
+use Rattle.text_lexical.specs.Bytes.{digit, hexDigit, binaryDigit, namePart, blank, inside, margin, ascii, before, run}
+use Rattle.text_lexical.specs.Numbers.{digitValue, valueOf, minus, residue}
 use Rattle.text_lexical.specs.Names.{Name}
 use Rattle.text_lexical.specs.declared.bytes.Class.{Class}
-use Rattle.text_lexical.specs.declared.bytes.Class.the-variants.{NamePart, Digit, HexDigit, BinaryDigit, Blank, Margin, Inside, Ascii}
+use Rattle.text_lexical.specs.declared.bytes.Class.the-variants.{NamePart, Blank, Margin, Inside, Ascii}
 use Rattle.text_lexical.specs.declared.register.Register.{Register}
 use Rattle.text_lexical.specs.declared.register.Register.the-variants.{R0, R1, R2, R3, R4, R5, R6, R7, R8, R9, R10, R11, R12, R13, R14, R15}
 use Rattle.text_lexical.specs.declared.name.RegisterName.{RegisterName}
@@ -20,15 +20,13 @@ use Rattle.text_lexical.specs.declared.number.Radix.{Radix}
 use Rattle.text_lexical.specs.declared.number.Radix.the-variants.{Binary, Decimal, Hex}
 use Rattle.text_lexical.specs.declared.number.Value.{Value}
 use Rattle.text_lexical.specs.declared.number.Value.the-variants.{Fits, TooLarge}
+use Rattle.text_lexical.specs.declared.number.Digits.{Digits}
 use Rattle.text_lexical.specs.declared.number.Whole.{Whole}
 
 -- ---- classes and runs
 
 abbrev pub isOf : Class → ℕ → Bool
 isOf NamePart = namePart
-isOf Digit = digit
-isOf HexDigit = hexDigit
-isOf BinaryDigit = binaryDigit
 isOf Blank = blank
 isOf Margin = margin
 isOf Inside = inside
@@ -90,6 +88,24 @@ abbrev pub baseOf : Radix → ℕ
 baseOf Binary = 2
 baseOf Decimal = 10
 baseOf Hex = 16
+
+-- The digits of a radix.
+abbrev pub isDigitOf : Radix → ℕ → Bool
+isDigitOf Binary = binaryDigit
+isDigitOf Decimal = digit
+isDigitOf Hex = hexDigit
+
+-- A byte's rank among the sixteen digits; 16 if it is none of them.
+unfoldable pub digitRank : ℕ → ℕ
+digitRank b = elim (hexDigit b) [ true ↦ digitValue b | false ↦ 16 ]
+
+-- The digits of a radix from a place on: their value, where it fits, and where they end.
+abbrev pub digitsAt : List ℕ → ℕ → Radix → Digits
+digitsAt s at radix =
+    record {
+      value = fitting (valueOf (baseOf radix) (before (isDigitOf radix) (drop at s)));
+      end = at + run (isDigitOf radix) (drop at s);
+    }
 
 -- The cap is the largest number whose product with the radix is below 2^64.
 pub record Capped (radix cap : ℕ) : Type 0 where

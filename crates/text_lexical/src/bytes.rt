@@ -9,9 +9,6 @@ ghost use Rattle.text_lexical.specs.Contracts.{isOf};
 // Byte classes that `run_end` can skip.
 pub enum Class {
     NamePart,
-    Digit,
-    HexDigit,
-    BinaryDigit,
     Blank,
     Margin,
     Inside,
@@ -36,7 +33,7 @@ pub fn is_digit(b: u8) -> bool
     within(b'0', b'9', b)
 }
 
-fn is_hex_digit(b: u8) -> bool
+pub(crate) fn is_hex_digit(b: u8) -> bool
     ensures { λ r. ⌜ r ≡ hexDigit b ⌝ }
 {
     is_digit(b) || (within(b'a', b'f', b) || within(b'A', b'F', b))
@@ -75,9 +72,6 @@ fn is_in(class: Class, b: u8) -> bool
 {
     match class {
         Class::NamePart => is_name_part(b),
-        Class::Digit => is_digit(b),
-        Class::HexDigit => is_hex_digit(b),
-        Class::BinaryDigit => within(b'0', b'1', b),
         Class::Blank => is_blank(b),
         Class::Margin => is_margin(b),
         Class::Inside => b != b'\n',

@@ -1,8 +1,10 @@
-// Numbers: the value of digits where it fits 64 bits, whole numbers, and their residues.
+// Numbers: digits at a place of a text, their value where it fits 64 bits, whole numbers, and their residues.
 ghost use mathlib.Core.Path.{_≡_};
-ghost use Prim.Native.Nat.{suc, _%_};
-ghost use Rattle.text_lexical.specs.Numbers.{digitValue, valueOf};
-ghost use Rattle.text_lexical.specs.Contracts.{baseOf, fitting, Capped, wholeMeant, Reduced};
+ghost use Prim.Native.Nat.{suc, _+_, _%_, _≤_};
+ghost use lib.ListN.{length, drop};
+ghost use Rattle.text_lexical.specs.Bytes.{run};
+ghost use Rattle.text_lexical.specs.Numbers.{digitValue};
+ghost use Rattle.text_lexical.specs.Contracts.{baseOf, isDigitOf, digitRank, digitsAt, Capped, wholeMeant, Reduced};
 
 // The radix by which digits are read.
 pub enum Radix {
@@ -14,6 +16,12 @@ pub enum Radix {
 pub enum Value {
     Fits(u64),
     TooLarge,
+}
+
+// Digits from a place on: their value, and the place after them.
+pub struct Digits {
+    pub value: Value,
+    pub end: usize,
 }
 
 // A whole number by its sign and its magnitude; -0 is 0.
@@ -39,6 +47,16 @@ fn digit_value(b: u8) -> u8
         return 0;
     }
     b - 87
+}
+
+// A byte's rank among the sixteen digits; 16 if it is none of them.
+fn digit_rank(b: u8) -> u8
+    ensures { λ r. ⌜ r ≡ digitRank b ⌝ }
+{
+    if crate::bytes::is_hex_digit(b) {
+        return digit_value(b);
+    }
+    16
 }
 
 // A byte as a number of 64 bits.
@@ -71,27 +89,64 @@ impl Radix {
     }
 }
 
-// The value of digits, the highest first.
-pub fn value_of(digits: &[u8], radix: Radix) -> Value
-    ensures { λ r. ⌜ r ≡ fitting (valueOf (baseOf radix) (now (digits .entry))) ⌝ }
+// Where the digits of a radix from `at` on end.
+fn digits_end(text: &[u8], at: usize, radix: Radix) -> usize
+    requires { ⌜ at ≤ length (now text) ⌝ }
+    ensures { λ r. ⌜ r ≡ at + run (isDigitOf radix) (drop at (now (text .entry))) ⌝ }
+{
+    let mut i = at;
+    while i < text.len() {
+        if radix.base() <= wide(digit_rank(text[i])) {
+            return i;
+        }
+        i += 1;
+    }
+    i
+}
+
+// The digits from `begin` on where their value does not fit: only their end is left to find.
+fn too_large(text: &[u8], begin: usize, radix: Radix) -> Digits
+    requires { ⌜ begin ≤ length (now text) ⌝ }
+    ensures { λ r. ⌜ r ≡ record { value = Value.TooLarge; end = begin + run (isDigitOf radix) (drop begin (now (text .entry))) } ⌝ }
+{
+    let end = digits_end(text, begin, radix);
+    Digits {
+        value: Value::TooLarge,
+        end,
+    }
+}
+
+// The digits of a radix from `begin` on, the highest first, in one pass.
+pub fn digits_at(text: &[u8], begin: usize, radix: Radix) -> Digits
+    requires { ⌜ begin ≤ length (now text) ⌝ }
+    ensures { λ r. ⌜ r ≡ digitsAt (now (text .entry)) begin radix ⌝ }
 {
     let base = radix.base();
     let cap = radix.cap();
     let mut value: u64 = 0;
-    let mut i = 0;
-    while i < digits.len() {
+    let mut end = begin;
+    while end < text.len() {
+        let digit = wide(digit_rank(text[end]));
+        if base <= digit {
+            return Digits {
+                value: Value::Fits(value),
+                end,
+            };
+        }
         if cap < value {
-            return Value::TooLarge;
+            return too_large(text, begin, radix);
         }
         let shifted = value * base;
-        let digit = wide(digit_value(digits[i]));
         if 0xFFFF_FFFF_FFFF_FFFF - shifted < digit {
-            return Value::TooLarge;
+            return too_large(text, begin, radix);
         }
         value = shifted + digit;
-        i += 1;
+        end += 1;
     }
-    Value::Fits(value)
+    Digits {
+        value: Value::Fits(value),
+        end,
+    }
 }
 
 // What a number leaves modulo `most` + 1, which may be 2^64.

@@ -1,27 +1,69 @@
 -- `image_line::operand::number_at` meets its contract.
-use Rattle.text.specs.Contracts.{spelling}
-use Rattle.image_line.proofs.Places.{stepped-reads}
+use mathlib.Core.Path.{_≡_, sym, _∙_}
+use mathlib.Core.Bool.{true}
+use native.Mathlib.Omega.{arith}
+use lib.ListN.{getD}
 use borrow.Author.Needs.{needs}
+use borrow.Author.Tests.{not-false}
+use Rattle.text.specs.Contracts.{spelling, numberStart}
+use Rattle.text.proofs.Stepping.{number-step, blank-step}
+use Rattle.image_line.proofs.Places.{stepped-reads}
 use Rattle.image_line.proofs.operand.number_at.Statement.{statement}
 use Rattle.image_line.proofs.operand.number_at.Tie as tie
 
-token-at-requires : tie.Need-token-at-requires
-token-at-requires c κs = search needs
-
-enum-known-token : tie.Need-enum-known-token
-enum-known-token c = search needs
+run-end-requires : tie.Need-run-end-requires
+run-end-requires c κs = search needs
 
 returns : tie.Need-returns
-returns c =
-    let t = c .before in
-    let f = t .before .before in
-    let b = f .before .before in (
-      spelling (b .args .text .now) (t .token .given .0 .0),
-      stepped-reads (b .args .text .now) (b .args .from) (t .token .given .0 .0) (t .token .given .0 .1 .0) (rw (t .token .given .1) at (f .token-at .ensures)),
-    )
+returns c = search needs
+
+shared-slice-read-is-number-start : tie.Need-shared-slice-read-is-number-start
+shared-slice-read-is-number-start c = search needs
+
+is-number-start-requires : tie.Need-is-number-start-requires
+is-number-start-requires c κs = search needs
 
 returns-2 : tie.Need-returns-2
 returns-2 c = search needs
 
+-- a number begins here
+begins : (c : tie.Else2) → let r = c .before .before .before .before in numberStart (getD (r .before .before .args .text .now) (r .run-end .result) 0) ≡ true
+begins c = sym (c .before .is-number-start .ensures) ∙ not-false _ (c .if2 .left)
+
+number-requires : tie.Need-number-requires
+number-requires c κs = (omega (arith, c .before .before .before .if1 .left), begins c)
+
+enum-known-token : tie.Need-enum-known-token
+enum-known-token c = search needs
+
+returns-3 : tie.Need-returns-3
+returns-3 c =
+    let t = c .before in
+    let n = t .before .before in
+    let e = n .before in
+    let o = e .before .before .before in
+    let r = o .before in
+    let b = r .before .before in
+    let s = b .args .text .now in (
+      spelling s (t .token .given .0 .0),
+      stepped-reads s (b .args .from) (t .token .given .0 .0) (t .token .given .0 .1 .0)
+          (blank-step s (b .args .from) (r .run-end .result) _ (b .pre) (r .run-end .ensures) (omega (arith, o .if1 .left))
+          (number-step s (r .run-end .result) _ (omega (arith, o .if1 .left)) (begins e) (rw (t .token .given .1) at (n .number .ensures)))),
+    )
+
+returns-4 : tie.Need-returns-4
+returns-4 c = search needs
+
 pub number-at-spec : {M : Type 1} → statement M
-number-at-spec = tie.close (tie.spec token-at-requires enum-known-token returns returns-2)
+number-at-spec =
+    tie.close
+    (tie.spec
+    run-end-requires
+    returns
+    shared-slice-read-is-number-start
+    is-number-start-requires
+    returns-2
+    number-requires
+    enum-known-token
+    returns-3
+    returns-4)

@@ -1,14 +1,12 @@
 -- `text::lexer::digits` meets its contract.
 use mathlib.Core.Path.{_≡_}
-use Prim.Native.Nat.{_+_, _-_, _<_}
+use Prim.Native.Nat.{_+_, _<_}
 use native.Mathlib.Omega.{arith}
-use lib.ListN.{length, drop, getD}
+use lib.ListN.{length, getD}
 use mathlib.Core.Logic.{⊎-elim}
-use borrow.Author.Tests.{ltb-false}
-use Rattle.text_lexical.specs.Bytes.{digit}
-use Rattle.text.specs.Tokens.{Number}
-use Rattle.text.proofs.Fronts.{run-in, longest-found, digits-scan}
 use borrow.Author.Needs.{needs}
+use borrow.Author.Tests.{ltb-false}
+use Rattle.text.proofs.Fronts.{decimal-here}
 use Rattle.text.proofs.lexer.digits.Statement.{statement}
 use Rattle.text.proofs.lexer.digits.Tie as tie
 
@@ -29,8 +27,8 @@ shared-slice-read-if1 c = search needs
 shared-slice-read-if3 : tie.Need-shared-slice-read-if3
 shared-slice-read-if3 c = search needs
 
-hex-requires : tie.Need-hex-requires
-hex-requires c κs = search needs
+prefixed-requires : tie.Need-prefixed-requires
+prefixed-requires c κs = record { in-text = search needs; is-zero = search needs; is-prefix = c .if3 .taken }
 
 returns : tie.Need-returns
 returns c = search needs
@@ -38,27 +36,16 @@ returns c = search needs
 shared-slice-read-if4 : tie.Need-shared-slice-read-if4
 shared-slice-read-if4 c = search needs
 
-binary-requires : tie.Need-binary-requires
-binary-requires c κs = (search needs, (search needs, search needs))
+prefixed-requires-2 : tie.Need-prefixed-requires-2
+prefixed-requires-2 c κs = record { in-text = search needs; is-zero = search needs; is-prefix = c .if4 .taken }
 
 returns-2 : tie.Need-returns-2
 returns-2 c = search needs
 
-run-end-requires : tie.Need-run-end-requires
-run-end-requires c κs = search needs
-
 decimal-requires : tie.Need-decimal-requires
 decimal-requires c κs =
-    let r = c .before .before .before .before in
-    let a = r .args in
-    let m = run-in digit (a .text .now) (a .at + 1) (omega (arith, r .pre .0)) in
-    record {
-      some-digits = omega (arith, c .run-end .ensures);
-      in-text = omega (arith, m, c .run-end .ensures);
-      is-digit = r .pre .1;
-      is-number = longest-found (drop (a .at) (a .text .now)) (c .run-end .result - a .at) Number
-          (digits-scan (a .text .now) (a .at) (c .run-end .result) (r .pre .0) (r .pre .1) (c .run-end .ensures) (second (c .before)));
-    }
+    let b = c .before .before .before in
+    decimal-here (b .args .text .now) (b .args .at) (b .pre .0) (b .pre .1) (second c)
 
 returns-3 : tie.Need-returns-3
 returns-3 c = search needs
@@ -70,11 +57,10 @@ digits-spec =
     add-second
     shared-slice-read-if1
     shared-slice-read-if3
-    hex-requires
+    prefixed-requires
     returns
     shared-slice-read-if4
-    binary-requires
+    prefixed-requires-2
     returns-2
-    run-end-requires
     decimal-requires
     returns-3)

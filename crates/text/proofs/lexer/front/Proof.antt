@@ -1,8 +1,8 @@
 -- `text::lexer::front` meets its contract.
 use mathlib.Core.Path.{sym, _∙_}
 use native.Mathlib.Omega.{arith}
-use Rattle.text.proofs.Left.{start-solid, digit-solid, high-solid}
-use Rattle.text.proofs.Stepping.{solid-step}
+use Rattle.text.proofs.Left.{start-solid, high-solid}
+use Rattle.text.proofs.Stepping.{solid-step, number-step}
 use borrow.Author.Needs.{needs}
 use Rattle.text.proofs.lexer.front.Statement.{statement}
 use Rattle.text.proofs.lexer.front.Tie as tie
@@ -22,51 +22,42 @@ returns c =
     let r = n .before .before .before in
     solid-step (r .args .text .now) (r .args .at) (c .word .result) (r .pre .0) (start-solid _ (sym (n .is-name-start .ensures) ∙ c .before .if1 .taken)) (c .word .ensures)
 
-is-digit-requires : tie.Need-is-digit-requires
-is-digit-requires c κs = search needs
+is-number-start-requires : tie.Need-is-number-start-requires
+is-number-start-requires c κs = search needs
 
-digits-requires : tie.Need-digits-requires
-digits-requires c κs = (c .before .before .before .before .before .before .pre .0, sym (c .before .is-digit .ensures) ∙ c .if2 .taken)
+number-requires : tie.Need-number-requires
+number-requires c κs = (c .before .before .before .before .before .before .pre .0, sym (c .before .is-number-start .ensures) ∙ c .if2 .taken)
 
 returns-2 : tie.Need-returns-2
 returns-2 c =
     let d = c .before .before in
     let r = d .before .before .before .before .before in
-    solid-step (r .args .text .now) (r .args .at) (c .digits .result) (r .pre .0) (digit-solid _ (sym (d .is-digit .ensures) ∙ c .before .if2 .taken)) (c .digits .ensures)
-
-minus-requires : tie.Need-minus-requires
-minus-requires c κs = search needs
-
-returns-3 : tie.Need-returns-3
-returns-3 c =
-    let r = c .before .before .before .before .before .before .before .before in
-    solid-step (r .args .text .now) (r .args .at) (c .minus .result) (r .pre .0) (high-solid _ (omega (arith, c .before .if3 .taken))) (c .minus .ensures)
+    number-step (r .args .text .now) (r .args .at) (c .number .result) (r .pre .0) (sym (d .is-number-start .ensures) ∙ c .before .if2 .taken) (c .number .ensures)
 
 directive-requires : tie.Need-directive-requires
 directive-requires c κs = search needs
 
-returns-4 : tie.Need-returns-4
-returns-4 c =
-    let r = c .before .before .before .before .before .before .before .before .before in
-    solid-step (r .args .text .now) (r .args .at) (c .directive .result) (r .pre .0) (high-solid _ (omega (arith, c .before .if4 .taken))) (c .directive .ensures)
+returns-3 : tie.Need-returns-3
+returns-3 c =
+    let r = c .before .before .before .before .before .before .before .before in
+    solid-step (r .args .text .now) (r .args .at) (c .directive .result) (r .pre .0) (high-solid _ (omega (arith, c .before .if3 .taken))) (c .directive .ensures)
 
 mark-or-ending-requires : tie.Need-mark-or-ending-requires
 mark-or-ending-requires c κs =
-    let d = c .before .before .before in
+    let d = c .before .before in
     let n = d .before .before in
     let r = n .before .before .before in (
       r .pre .0,
       record {
         no-blank = r .pre .1;
         no-start = sym (n .is-name-start .ensures) ∙ d .before .if1 .left;
-        no-digit = sym (d .is-digit .ensures) ∙ c .before .before .if2 .left;
-        no-minus = c .before .if3 .left;
-        no-dot = c .if4 .left;
+        no-number = sym (d .is-number-start .ensures) ∙ c .before .if2 .left;
+        no-dot = c .if3 .left;
       },
     )
 
-returns-5 : tie.Need-returns-5
-returns-5 c = search needs
+returns-4 : tie.Need-returns-4
+returns-4 c = search needs
 
 pub front-spec : {M : Type 1} → statement M
 front-spec =
@@ -76,12 +67,10 @@ front-spec =
     is-name-start-requires
     word-requires
     returns
-    is-digit-requires
-    digits-requires
+    is-number-start-requires
+    number-requires
     returns-2
-    minus-requires
-    returns-3
     directive-requires
-    returns-4
+    returns-3
     mark-or-ending-requires
-    returns-5)
+    returns-4)

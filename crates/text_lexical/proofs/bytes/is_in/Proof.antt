@@ -1,6 +1,6 @@
 -- `text_lexical::bytes::is_in` meets its contract.
 use borrow.Author.Needs.{needs}
-use Rattle.text_lexical.specs.Bytes.{binaryDigit, ascii, inside}
+use Rattle.text_lexical.specs.Bytes.{ascii, inside}
 use Rattle.text_lexical.proofs.bytes.is_in.Statement.{statement}
 use Rattle.text_lexical.proofs.bytes.is_in.Tie as tie
 
@@ -13,65 +13,37 @@ is-name-part-requires c κs = search needs
 enum-told-2 : tie.Need-enum-told-2
 enum-told-2 c = search needs
 
-is-digit-requires : tie.Need-is-digit-requires
-is-digit-requires c κs = search needs
+is-blank-requires : tie.Need-is-blank-requires
+is-blank-requires c κs = search needs
 
 enum-told-3 : tie.Need-enum-told-3
 enum-told-3 c = search needs
 
-is-hex-digit-requires : tie.Need-is-hex-digit-requires
-is-hex-digit-requires c κs = search needs
+is-margin-requires : tie.Need-is-margin-requires
+is-margin-requires c κs = search needs
 
 enum-told-4 : tie.Need-enum-told-4
 enum-told-4 c = search needs
 
-within-requires : tie.Need-within-requires
-within-requires c κs = search needs
-
 enum-told-5 : tie.Need-enum-told-5
 enum-told-5 c = search needs
-
-is-blank-requires : tie.Need-is-blank-requires
-is-blank-requires c κs = search needs
-
-enum-told-6 : tie.Need-enum-told-6
-enum-told-6 c = search needs
-
-is-margin-requires : tie.Need-is-margin-requires
-is-margin-requires c κs = search needs
-
-enum-told-7 : tie.Need-enum-told-7
-enum-told-7 c = search needs
-
-enum-told-8 : tie.Need-enum-told-8
-enum-told-8 c = search needs
 
 returns : tie.Need-returns
 returns c = rw (c .before .enum-told .given .1) (c .is-name-part .ensures)
 
 returns-2 : tie.Need-returns-2
-returns-2 c = rw (c .before .enum-told2 .given .1) (c .is-digit .ensures)
+returns-2 c = rw (c .before .enum-told2 .given .1) (c .is-blank .ensures)
 
 returns-3 : tie.Need-returns-3
-returns-3 c = rw (c .before .enum-told3 .given .1) (c .is-hex-digit .ensures)
+returns-3 c = rw (c .before .enum-told3 .given .1) (c .is-margin .ensures)
 
 returns-4 : tie.Need-returns-4
-unfolding binaryDigit
-returns-4 c = rw (c .before .enum-told4 .given .1) (c .within .ensures)
+unfolding inside
+returns-4 c = rw (c .enum-told4 .given .1)
 
 returns-5 : tie.Need-returns-5
-returns-5 c = rw (c .before .enum-told5 .given .1) (c .is-blank .ensures)
-
-returns-6 : tie.Need-returns-6
-returns-6 c = rw (c .before .enum-told6 .given .1) (c .is-margin .ensures)
-
-returns-7 : tie.Need-returns-7
-unfolding inside
-returns-7 c = rw (c .enum-told7 .given .1)
-
-returns-8 : tie.Need-returns-8
 unfolding ascii
-returns-8 c = rw (c .enum-told8 .given .1)
+returns-5 c = rw (c .enum-told5 .given .1)
 
 pub is-in-spec : {M : Type 1} → statement M
 is-in-spec =
@@ -80,22 +52,13 @@ is-in-spec =
     enum-told
     is-name-part-requires
     enum-told-2
-    is-digit-requires
-    enum-told-3
-    is-hex-digit-requires
-    enum-told-4
-    within-requires
-    enum-told-5
     is-blank-requires
-    enum-told-6
+    enum-told-3
     is-margin-requires
-    enum-told-7
-    enum-told-8
+    enum-told-4
+    enum-told-5
     returns
     returns-2
     returns-3
     returns-4
-    returns-5
-    returns-6
-    returns-7
-    returns-8)
+    returns-5)
