@@ -31,7 +31,7 @@ use Rattle.instruction.specs.declared.instruction.Operands.{Operands as Kept}
 use Rattle.instruction.specs.declared.opcode.Row.{Row as Looked}
 use Rattle.instruction.specs.declared.opcode.Row.the-variants.{At}
 use Rattle.instruction.proofs.Columns.{form-numbered}
-use Rattle.instruction_operands.proofs.Line.{Each, in-run, six-places, below-part, named-by-key}
+use Rattle.instruction_operands.proofs.Line.{six-places, below-part, named-by-key}
 use Rattle.image.specs.Assembling.{plain, identifierKind, kindOf, Context, nothing, codes, coding, afterLabel, readKind, readOn}
 use Rattle.image_line.specs.Contracts.{Reads, TailIs, wordEnd, part, WordIs, isLabel, Labels, OptionalLabel, without, with-label, WordAfter, InTable, readMeant, endOf, LineIs, ReadsAs}
 use Rattle.image_line.specs.declared.line.Effect.the-variants.{Nothing, Codes}

@@ -11,7 +11,7 @@ use mathlib.Core.List.{List, [], _∷_, map}
 use lib.ListN.{length, take, drop, getD}
 use Rattle.text_lexical.specs.Bytes.{value, nameStart, namePart, lower, run, isSome}
 use Rattle.text_lexical.specs.Names.{named, present}
-use Rattle.text_lexical.specs.Contracts.{indexOf, keyOf, signedMeant}
+use Rattle.text_lexical.specs.Contracts.{indexOf, nameNumber, keyOf, signedMeant}
 use Rattle.text_lexical.specs.declared.name.RegisterName.{RegisterName}
 use Rattle.text_lexical.specs.declared.name.RegisterName.the-variants.{Is as Named, NoSuch, Other as NoName}
 use Rattle.text_lexical.specs.declared.number.Whole.{Whole}

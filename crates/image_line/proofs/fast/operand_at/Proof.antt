@@ -1,5 +1,8 @@
 -- `image_line::fast::operand_at` meets its contract.
+use mathlib.Core.Path.{sym, ap, _∙_}
 use borrow.Author.Needs.{needs}
+use Rattle.text.specs.Contracts.{extractMeant}
+use Rattle.text.proofs.Meanings.{extracted-number}
 use Rattle.image_line.proofs.fast.operand_at.Statement.{statement}
 use Rattle.image_line.proofs.fast.operand_at.Tie as tie
 
@@ -9,31 +12,49 @@ number-at-requires c κs = search needs
 enum-told : tie.Need-enum-told
 enum-told c = search needs
 
-enum-known-negative : tie.Need-enum-known-negative
-enum-known-negative c = search needs
+enum-known-kind : tie.Need-enum-known-kind
+enum-known-kind c = search needs
+
+extract-number-requires : tie.Need-extract-number-requires
+extract-number-requires c κs = search needs
+
+enum-told-2 : tie.Need-enum-told-2
+enum-told-2 c = search needs
+
+enum-known-number : tie.Need-enum-known-number
+enum-known-number c = search needs
 
 returns : tie.Need-returns
 returns c = search needs
 
 returns-2 : tie.Need-returns-2
-returns-2 c =
-    let e = c .before in
-    (e .before .before .before .if1 .taken, rw (e .negative .given .1) at (e .before .before .number-at .ensures))
+returns-2 c = search needs
+
+returns-3 : tie.Need-returns-3
+returns-3 c =
+    let n = c .before in
+    let x = n .before .before in
+    let k = x .before .before in
+    let (u, rd) = rw (k .kind .given .1) at (k .before .before .number-at .ensures) in
+    (
+      k .before .before .before .if1 .taken,
+      (_, (sym (ap extractMeant (sym (n .number .given .1) ∙ x .extract-number .ensures) ∙ extracted-number (k .kind .given .0 .0) u), rd)),
+    )
 
 register-at-requires : tie.Need-register-at-requires
 register-at-requires c κs = search needs
 
-enum-told-2 : tie.Need-enum-told-2
-enum-told-2 c = search needs
+enum-told-3 : tie.Need-enum-told-3
+enum-told-3 c = search needs
 
 enum-known-register : tie.Need-enum-known-register
 enum-known-register c = search needs
 
-returns-3 : tie.Need-returns-3
-returns-3 c = search needs
-
 returns-4 : tie.Need-returns-4
-returns-4 c =
+returns-4 c = search needs
+
+returns-5 : tie.Need-returns-5
+returns-5 c =
     let e = c .before in
     (e .before .before .before .if1 .left, rw (e .register .given .1) at (e .before .before .register-at .ensures))
 
@@ -43,11 +64,15 @@ operand-at-spec =
     (tie.spec
     number-at-requires
     enum-told
-    enum-known-negative
+    enum-known-kind
+    extract-number-requires
+    enum-told-2
+    enum-known-number
     returns
     returns-2
-    register-at-requires
-    enum-told-2
-    enum-known-register
     returns-3
-    returns-4)
+    register-at-requires
+    enum-told-3
+    enum-known-register
+    returns-4
+    returns-5)

@@ -32,8 +32,8 @@ enum-told c = search needs
 returns : tie.Need-returns Inv-loop μ-loop
 returns c = tt
 
-enum-known-kind : tie.Need-enum-known-kind Inv-loop μ-loop
-enum-known-kind c = search needs
+enum-known-n : tie.Need-enum-known-n Inv-loop μ-loop
+enum-known-n c = search needs
 
 enum-known-register : tie.Need-enum-known-register Inv-loop μ-loop
 enum-known-register c = search needs
