@@ -27,15 +27,12 @@ use Rattle.walking.proofs.Numbers.{Numbers, NumbersAre, In, ref, Away, lends-lo
 use Rattle.image_labels.proofs.label.Label as L
 use Rattle.image_labels.proofs.Row.{vals}
 use Rattle.image_passes.specs.declared.first_pass.Pass.{Pass}
-use Rattle.image_passes.specs.declared.first_pass.Pass.the-variants.{From, AtLabel, Ended}
-use Rattle.image_passes.specs.declared.first_pass.Place.{Place}
+use Rattle.image_passes.specs.declared.first_pass.Pass.the-variants.{AtLabel, Ended}
 use Rattle.image_passes.specs.declared.first_pass.LabelLine.{LabelLine}
 use Rattle.image_passes.specs.declared.first_pass.Outcome.{Outcome}
 use Rattle.image_passes.specs.declared.second_pass.Assembled.{Assembled}
 use Rattle.image_passes.proofs.first_pass.Pass as P
 use Rattle.image_passes.proofs.first_pass.Pass.Laws as P′
-use Rattle.image_passes.proofs.first_pass.Place as S
-use Rattle.image_passes.proofs.first_pass.Place.Laws as S′
 use Rattle.image_passes.proofs.first_pass.LabelLine as Q
 use Rattle.image_passes.proofs.first_pass.LabelLine.Laws as Q′
 use Rattle.image_passes.proofs.first_pass.Outcome as O
@@ -43,19 +40,13 @@ use Rattle.image_passes.proofs.first_pass.Outcome.Laws as O′
 use Rattle.image_passes.proofs.second_pass.Assembled as R
 use Rattle.image_passes.proofs.second_pass.Assembled.Laws as R′
 
--- ---- a pass, a place, a line with a label, an outcome and an answer
+-- ---- a pass, a line with a label, an outcome and an answer
 
 abbrev pub pval : Pass → Val
 pval = EL.val P.the-type P′.the-laws
 
 abbrev pub PassIs : Pass → Type 0
 PassIs p = Is P.the-row p (pval p ∷ [])
-
-abbrev pub sval : Place → Val
-sval = LL.val S.the-type S′.the-laws
-
-abbrev pub PlaceIs : Place → Type 0
-PlaceIs p = Is S.the-row p (sval p ∷ [])
 
 abbrev pub lval : LabelLine → Val
 lval = LL.val Q.the-type Q′.the-laws
@@ -68,9 +59,6 @@ oval = LL.val O.the-type O′.the-laws
 
 abbrev pub OutcomeIs : Outcome → Type 0
 OutcomeIs o = Is O.the-row o (oval o ∷ [])
-
-pub place-is : (p : Place) → PassIs (From p) → PlaceIs p
-place-is p is = EL.owed P.the-type P′.the-laws (From p) _ is .0
 
 pub label-line-is : (p : LabelLine) → PassIs (AtLabel p) → LabelLineIs p
 label-line-is p is = EL.owed P.the-type P′.the-laws (AtLabel p) _ is .0

@@ -1,5 +1,5 @@
 -- Laws of the first walk over a label table: how it begins, goes on from a label to the next, and what it comes to.
-use Prim.Native.Nat.{ℕ, suc, _+_, _-_, _*_, _≤_, _<_}
+use Prim.Native.Nat.{ℕ, suc, _+_, _-_, _≤_, _<_}
 use mathlib.Core.Path.{_≡_, refl, sym, ap, ap₂, subst, _∙_}
 use native.Mathlib.Omega.{arith}
 use native.Mathlib.Numerals.{add-one}
@@ -21,10 +21,9 @@ use Rattle.image_labels.proofs.Finding.{unlinked-long}
 use Rattle.image_labels.specs.declared.label.Label.{Label}
 use Rattle.image_labels.specs.declared.label.Entered.{Entered}
 use Rattle.image_labels.specs.declared.label.Entered.the-variants.{New, Duplicate, Full}
-use Rattle.image_passes.specs.Contracts.{LabelNext, Progress, Sound, SoundPass, ScannedFrom, Scans, LineAfter, Begins, withEntry, labelAt, GoesOn, overlong, Finishable, Finishes}
+use Rattle.image_passes.specs.Contracts.{LabelNext, Progress, Sound, SoundPass, NotBefore, Begins, withEntry, labelAt, GoesOn, overlong, Finishable, Finishes}
 use Rattle.image_passes.specs.declared.first_pass.Pass.{Pass}
-use Rattle.image_passes.specs.declared.first_pass.Pass.the-variants.{From, AtLabel, Ended}
-use Rattle.image_passes.specs.declared.first_pass.Place.{Place}
+use Rattle.image_passes.specs.declared.first_pass.Pass.the-variants.{AtLabel, Ended}
 use Rattle.image_passes.specs.declared.first_pass.LabelLine.{LabelLine}
 use Rattle.image_passes.specs.declared.first_pass.Outcome.{Outcome}
 use Rattle.image_passes.specs.declared.second_pass.Assembled.{Assembled}
@@ -71,7 +70,6 @@ counted ls l Full = refl
 
 -- The labels that have been entered where the walk stands.
 abbrev pub labelsOf : Pass → ℕ
-labelsOf (From p) = p .labels
 labelsOf (AtLabel p) = p .labels
 labelsOf (Ended o) = o .labels
 
@@ -85,7 +83,6 @@ pub record Walking (s : List ℕ) (old table : List Label) (roots : List ℕ) (p
 
 -- The labels are counted.
 counted-by : (s : List ℕ) (room : ℕ) (ls : List Meant) (p : Pass) → Progress s room ls p → labelsOf p ≡ length ls
-counted-by s room ls (From p) h = h .count
 counted-by s room ls (AtLabel p) h = h .count
 counted-by s room ls (Ended o) h = h .count
 
@@ -115,19 +112,6 @@ holds-long {s} {old} {table} {ls} h = table-long s old table ls (h .table-is) (h
 
 pub walking-long : {s : List ℕ} {old table : List Label} {roots : List ℕ} {p : Pass} → Walking s old table roots p → length table ≡ length old
 walking-long {table = table} {p = p} w = sym (unlinked-long (labelsOf p) table) ∙ holds-long (w .holds)
-
--- Lines are read.
-pub walking-scan : {s : List ℕ} {old table : List Label} {roots : List ℕ} {p : Place} {r : Pass} → Walking s old table roots (From p) → Scans s p r → Walking s old table roots r
-walking-scan {s} {old} {table} {roots} {p} {r} w g =
-    let on : Progress s (length old) (w .labels) r = g .stands (length old) (w .labels) (w .stands) in
-    let n : labelsOf r ≡ p .labels = counted-by s (length old) (w .labels) r on ∙ sym (w .stands .count) in
-    record {
-      labels = w .labels;
-      stands = on;
-      sound = g .sound;
-      holds = subst (λ (m : ℕ). Holds s old (unlinked m table) (w .labels)) (sym n) (w .holds);
-      tree = subst (Tree s table roots) (sym n) (w .tree);
-    }
 
 -- A label is entered, or refused.
 module _ {s : List ℕ} {old table : List Label} {p : LabelLine} {ls : List Meant} (n : LabelNext s (length old) ls p) (inside : InText s (p .label)) (h : Holds s old table ls) where
@@ -209,26 +193,16 @@ module _ {s : List ℕ} {old table : List Label} {roots : List ℕ} {p : LabelLi
       after Duplicate t = kept t
       after Full t = kept t
 
--- What is left: two steps for each line, one to read it and one to enter its label.
+-- What is left, counted in lines.
 abbrev pub left : List ℕ → Pass → ℕ
-left s (From p) = 2 * (length s + 2 - p .line) + 1
-left s (AtLabel p) = 2 * (length s + 2 - p .line)
+left s (AtLabel p) = length s + 2 - p .line
 left s (Ended o) = 0
 
-pub nearer-scan : {s : List ℕ} {p : Place} {r : Pass} → Scans s p r → left s r < left s (From p)
-nearer-scan {s} {p} {r} g = go r (g .after)
-  where
-    go : (r : Pass) → ScannedFrom (p .line) r → left s r < left s (From p)
-    go (From q) b = absurd b
-    go (AtLabel q) b = omega (arith, b)
-    go (Ended o) b = omega arith
-
 pub nearer : {s : List ℕ} {p : LabelLine} {r : Pass} {e : Entered} → Sound s p → GoesOn s p e r → left s r < left s (AtLabel p)
-nearer {s} {p} {r} {e} k g = go r (g .after)
+nearer {s} {p} {r} k g = go r (g .after)
   where
-    go : (r : Pass) → LineAfter (p .line) e r → left s r < left s (AtLabel p)
-    go (From q) b = omega (arith, k .line-fits, b .1)
-    go (AtLabel q) b = absurd b
+    go : (r : Pass) → NotBefore (p .line + 1) r → left s r < left s (AtLabel p)
+    go (AtLabel q) b = omega (arith, k .line-fits, b)
     go (Ended o) b = omega (arith, k .line-fits)
 
 -- It has ended.

@@ -19,15 +19,19 @@ fn walk(
     requires { ⌜ Tables (now mnemonics) (now forms) (now slots) ⌝ ∗ ⌜ Starts (now source) (now roots) ⌝ }
     ensures { λ r. ⌜ Walks (now (source .entry)) (now (table .entry)) (now (table .exit)) (now (roots .exit)) r ⌝ }
 {
-    let mut pass = image_passes::first_pass::begin(source);
+    let mut pass = image_passes::first_pass::begin(source, mnemonics, forms, slots);
     loop {
         match pass {
-            Pass::From(place) => {
-                pass = image_passes::first_pass::scan(source, place, mnemonics, forms, slots);
-            }
             Pass::AtLabel(at) => {
                 let entered = image_labels::label::enter(source, table, roots, at.labels, at.label);
-                pass = image_passes::first_pass::go_on(source, at, entered);
+                pass = image_passes::first_pass::go_on(
+                    source,
+                    at,
+                    entered,
+                    mnemonics,
+                    forms,
+                    slots,
+                );
             }
             Pass::Ended(outcome) => return outcome,
         }

@@ -24,10 +24,10 @@ use Rattle.image.specs.declared.config.Config.{Config}
 use Rattle.image_labels.specs.Contracts.{spelled, entryFault}
 use Rattle.image_labels.specs.declared.label.Entered.the-variants.{New, Duplicate, Full}
 use Rattle.image_line.specs.Contracts.{contextFor, labelIf, LineIs}
-use Rattle.image_passes.specs.Contracts.{effectAt, grown, RestDone, RestIs, whole, Clean, Reached, LabelNext, Progress, refusedPass, finishedPass, labelPass, RestFits, Sound, PlaceFits, Scans, labelAt, GoesOn}
+use Rattle.image_passes.specs.Contracts.{effectAt, grown, RestDone, RestIs, whole, Clean, Reached, LabelNext, Progress, refusedPass, finishedPass, labelPass, RestFits, Sound, ScanFrom, Scans, labelAt, OnlyAfter, GoesOn}
 use Rattle.image_line.specs.declared.line.Read.{Read}
-use Rattle.image_passes.specs.declared.first_pass.Pass.the-variants.{From}
-use Rattle.image_passes.specs.declared.first_pass.Place.{Place}
+use Rattle.image_passes.specs.declared.first_pass.Pass.{Pass}
+use Rattle.image_passes.specs.declared.first_pass.Pass.the-variants.{AtLabel, Ended}
 use Rattle.image_passes.specs.declared.first_pass.LabelLine.{LabelLine}
 use Rattle.image_passes.specs.declared.first_pass.Rest.{Rest}
 use Rattle.image_passes.specs.declared.first_pass.Rest.the-variants.{Refused, Done}
@@ -171,44 +171,39 @@ module _ {s : List ℕ} {room line at : ℕ} {ls : List Meant} {words : ℕ} {se
 -- ---- from line to line
 
 -- What the lines from a place on have come to.
-pub record Scanning (s : List ℕ) (p : Place) (at line words : ℕ) (c : Config) : Type 0 where
-  pub safe : PlaceFits s (record { at = at; line = line; labels = p .labels; words = words; config = c })
-  pub reached : (room : ℕ) (ls : List Meant) → Reached s room (p .line) (p .at) ls (p .words) (settingsMeant (p .config))
-      → Reached s room line at ls words (settingsMeant c)
-  pub after : p .line ≤ line
+pub record Scanning (s : List ℕ) (from first labels before : ℕ) (settings : Settings) (at line words : ℕ) (c : Config) : Type 0 where
+  pub safe : ScanFrom s at line labels words
+  pub reached : (room : ℕ) (ls : List Meant) → Reached s room first from ls before settings → Reached s room line at ls words (settingsMeant c)
+  pub after : first ≤ line
 
-pub scanning-none : {s : List ℕ} {p : Place} → PlaceFits s p → Scanning s p (p .at) (p .line) (p .words) (p .config)
-scanning-none h =
-    record {
-      safe = record { short = h .short; in-text = h .in-text; few-lines = h .few-lines; few-labels = h .few-labels; few-words = h .few-words };
-      reached = λ room ls q. q;
-      after = omega arith;
-    }
+pub scanning-none : {s : List ℕ} {from first labels before : ℕ} {c : Config} → ScanFrom s from first labels before → Scanning s from first labels before (settingsMeant c) from first before c
+scanning-none h = record { safe = h; reached = λ room ls q. q; after = omega arith }
 
 -- A line that is not refused ends where it begins, or after that.
 pub ends-after : {s : List ℕ} {at words : ℕ} {setup : Settings} {words′ end : ℕ} {c : Config} → RestDone s at words setup words′ c end → at ≤ end
 unfolding endAt
 ends-after h = omega (arith, h .ends)
 
-module _ {s : List ℕ} {p : Place} {at line words : ℕ} {c : Config} (w : Scanning s p at line words c) (r : Read) (h : LineIs s at (contextFor c) r) where
+module _ {s : List ℕ} {from first labels before : ℕ} {settings : Settings} {at line words : ℕ} {c : Config} (w : Scanning s from first labels before settings at line words c)
+    (r : Read) (h : LineIs s at (contextFor c) r) where
   -- its label
   label-is : {b : Bool} → r .labelled ≡ b → readOn (contextFor c) (readLine present (restAt s at)) .label ≡ labelIf b (take (r .length) (drop (r .start) s))
   label-is b = ap (λ (x : MeantRead). x .label) (sym (h .reads)) ∙ ap (λ (x : Bool). labelIf x (take (r .length) (drop (r .start) s))) b
 
   -- A label.
   pub scans-label : {rest : Rest} → r .labelled ≡ true → RestIs s at words (settingsMeant c) rest → RestFits line rest
-      → Scans s p (labelPass (r .start) (r .length) words line (p .labels) rest)
+      → Scans s from first labels before settings (labelPass (r .start) (r .length) words line labels rest)
   unfolding entry
   scans-label b k f =
       record {
-        stands = λ room ls q.
+        stands = λ room ls e q.
             record {
-              count = q .count;
+              count = e;
               at = at;
               in-text = w .safe .in-text;
               words = words;
               setup = settingsMeant c;
-              reached = w .reached room ls (q .reached);
+              reached = w .reached room ls q;
               reads = label-is b;
               starts = h .starts b;
               address-is = refl;
@@ -227,21 +222,20 @@ module _ {s : List ℕ} {p : Place} {at line words : ℕ} {c : Config} (w : Scan
       }
 
   module _ (b : r .labelled ≡ false) where
-    what-is-left : (room : ℕ) (ls : List Meant) → Reached s room (p .line) (p .at) ls (p .words) (settingsMeant (p .config))
-        → Doing s room line at ls words (settingsMeant c)
+    what-is-left : (room : ℕ) (ls : List Meant) → Reached s room first from ls before settings → Doing s room line at ls words (settingsMeant c)
     what-is-left room ls q = plain-doing (w .reached room ls q) (w .safe .in-text) (label-is b)
 
     -- A refusal.
-    pub scans-refused : {n : ℕ} → RestIs s at words (settingsMeant c) (Refused n) → Scans s p (refusedPass n (rustLine n line) line (p .labels))
-    scans-refused k = record { stands = λ room ls q. doing-refused (what-is-left room ls (q .reached)) k (q .count); sound = tt; after = tt }
+    pub scans-refused : {n : ℕ} → RestIs s at words (settingsMeant c) (Refused n) → Scans s from first labels before settings (refusedPass n (rustLine n line) line labels)
+    scans-refused k = record { stands = λ room ls e q. doing-refused (what-is-left room ls q) k e; sound = tt; after = tt }
 
     module _ {words′ end : ℕ} {d : Config} (k : RestDone s at words (settingsMeant c) words′ d end) where
       -- The last line.
-      pub scans-last : length s ≤ end → Scans s p (finishedPass (p .labels) words′ d)
-      scans-last z = record { stands = λ room ls q. doing-last (what-is-left room ls (q .reached)) k z (q .count); sound = tt; after = tt }
+      pub scans-last : length s ≤ end → Scans s from first labels before settings (finishedPass labels words′ d)
+      scans-last z = record { stands = λ room ls e q. doing-last (what-is-left room ls q) k z e; sound = tt; after = tt }
 
       -- The next line.
-      pub scans-on : RestFits line (Done words′ d end) → end < length s → Scanning s p (end + 1) (line + 1) words′ d
+      pub scans-on : RestFits line (Done words′ d end) → end < length s → Scanning s from first labels before settings (end + 1) (line + 1) words′ d
       scans-on f z =
           record {
             safe =
@@ -326,34 +320,41 @@ module _ {s : List ℕ} {p : LabelLine} {room : ℕ} {ls : List Meant} (a : Labe
 
 module _ {s : List ℕ} {p : LabelLine} where
   pub goes-duplicate : GoesOn s p Duplicate (refusedPass 4 (rustLine 4 (p .line)) (p .line) (p .labels))
-  goes-duplicate = record { stands = λ room ls a e. label-refused a e; sound = tt; after = tt }
+  goes-duplicate = record { stands = λ room ls a e. label-refused a e; sound = tt; after = tt; entered = tt }
 
   pub goes-full : GoesOn s p Full (refusedPass 5 (rustLine 5 (p .line)) (p .line) (p .labels))
-  goes-full = record { stands = λ room ls a e. label-refused a e; sound = tt; after = tt }
+  goes-full = record { stands = λ room ls a e. label-refused a e; sound = tt; after = tt; entered = tt }
 
   pub goes-refused : {n : ℕ} → p .rest ≡ Refused n → GoesOn s p New (refusedPass n (rustLine n (p .line)) (p .line) (p .labels + 1))
   goes-refused k =
-      record { stands = λ room ls a e. doing-refused (label-doing a e) (rw k at (a .rest-is)) (named-count a e); sound = tt; after = tt }
+      record { stands = λ room ls a e. doing-refused (label-doing a e) (rw k at (a .rest-is)) (named-count a e); sound = tt; after = tt; entered = tt }
 
   module _ {words end : ℕ} {c : Config} (k : p .rest ≡ Done words c end) where
     pub goes-last : length s ≤ end → GoesOn s p New (finishedPass (p .labels + 1) words c)
     goes-last z =
-        record { stands = λ room ls a e. doing-last (label-doing a e) (rw k at (a .rest-is)) z (named-count a e); sound = tt; after = tt }
+        record { stands = λ room ls a e. doing-last (label-doing a e) (rw k at (a .rest-is)) z (named-count a e); sound = tt; after = tt; entered = tt }
 
-    -- The next line.
-    pub goes-from : Sound s p → end < length s
-        → GoesOn s p New (From (record { at = end + 1; line = p .line + 1; labels = p .labels + 1; words = words; config = c }))
+    -- From where it goes on.
+    pub goes-from : Sound s p → end < length s → ScanFrom s (end + 1) (p .line + 1) (p .labels + 1) words
     goes-from d z =
         let f = rw k at (d .rest-fits) in
         record {
-          stands = λ room ls a e. record { count = named-count a e; reached = doing-on (label-doing a e) (rw k at (a .rest-is)) z };
-          sound =
-              record {
-                short = d .short;
-                in-text = omega arith;
-                few-lines = omega (arith, f .0);
-                few-labels = omega (arith, d .few-labels);
-                few-words = f .1;
-              };
-          after = (refl, refl);
+          short = d .short;
+          in-text = omega arith;
+          few-lines = omega (arith, f .0);
+          few-labels = omega (arith, d .few-labels);
+          few-words = f .1;
         }
+
+    pub goes-scan : {r : Pass} → end < length s → Scans s (end + 1) (p .line + 1) (p .labels + 1) words (settingsMeant c) r → GoesOn s p New r
+    goes-scan {r} z g =
+        record {
+          stands = λ room ls a e. g .stands room (ls ++ (labelAt s p ∷ [])) (named-count a e) (doing-on (label-doing a e) (rw k at (a .rest-is)) z);
+          sound = g .sound;
+          after = g .after;
+          entered = only r;
+        }
+      where
+        only : (r : Pass) → OnlyAfter New r
+        only (AtLabel q) = refl
+        only (Ended o) = tt

@@ -24,8 +24,7 @@ use Rattle.image_labels.specs.declared.label.Entered.{Entered}
 use Rattle.image_labels.specs.declared.label.Entered.the-variants.{New, Duplicate, Full}
 use Rattle.image_line.specs.Contracts.{endOf}
 use Rattle.image_passes.specs.declared.first_pass.Pass.{Pass}
-use Rattle.image_passes.specs.declared.first_pass.Pass.the-variants.{From, AtLabel, Ended}
-use Rattle.image_passes.specs.declared.first_pass.Place.{Place}
+use Rattle.image_passes.specs.declared.first_pass.Pass.the-variants.{AtLabel, Ended}
 use Rattle.image_passes.specs.declared.first_pass.LabelLine.{LabelLine}
 use Rattle.image_passes.specs.declared.first_pass.Rest.{Rest}
 use Rattle.image_passes.specs.declared.first_pass.Rest.the-variants.{Refused as RestRefused, Done}
@@ -91,11 +90,6 @@ pub record Reached (s : List ℕ) (room line at : ℕ) (labels : List Meant) (wo
   pub words-are : length (state .instructions) ≡ words
   pub setup-is : state .setup ≡ setup
 
--- The walk stands before a line, with labels entered.
-pub record LineNext (s : List ℕ) (room : ℕ) (labels : List Meant) (p : Place) : Type 0 where
-  pub count : p .labels ≡ length labels
-  pub reached : Reached s room (p .line) (p .at) labels (p .words) (settingsMeant (p .config))
-
 -- The walk stands at a line whose label is to be entered after others.
 pub record LabelNext (s : List ℕ) (room : ℕ) (labels : List Meant) (p : LabelLine) : Type 0 where
   pub count : p .labels ≡ length labels
@@ -129,7 +123,6 @@ pub record WalkEnds (s : List ℕ) (room : ℕ) (labels : List Meant) (o : Outco
 
 -- Where the first walk stands, with labels entered.
 abbrev pub Progress : List ℕ → ℕ → List Meant → Pass → Type 0
-Progress s room labels (From p) = LineNext s room labels p
 Progress s room labels (AtLabel p) = LabelNext s room labels p
 Progress s room labels (Ended o) = WalkEnds s room labels o
 
@@ -160,32 +153,30 @@ pub record Sound (s : List ℕ) (p : LabelLine) : Type 0 where
   pub few-labels : p .labels + 1 ≤ p .line
   pub rest-fits : RestFits (p .line) (p .rest)
 
--- What is known of a place from where lines are to be read.
-pub record PlaceFits (s : List ℕ) (p : Place) : Type 0 where
-  pub short : length s ≤ most-bytes
-  pub in-text : p .at ≤ length s
-  pub few-lines : p .line ≤ p .at + 1
-  pub few-labels : p .labels + 1 ≤ p .line
-  pub few-words : p .words ≤ 32768
-
 abbrev pub SoundPass : List ℕ → Pass → Type 0
-SoundPass s (From p) = PlaceFits s p
 SoundPass s (AtLabel p) = Sound s p
 SoundPass s (Ended o) = Unit {0}
 
--- A scan from a line ends at that line's label or a later one's, or at the end of the walk.
-abbrev pub ScannedFrom : ℕ → Pass → Type 0
-ScannedFrom line (From p) = ⊥
-ScannedFrom line (AtLabel p) = line ≤ p .line
-ScannedFrom line (Ended o) = Unit {0}
+-- A pass at a label is not before a line.
+abbrev pub NotBefore : ℕ → Pass → Type 0
+NotBefore line (AtLabel p) = line ≤ p .line
+NotBefore line (Ended o) = Unit {0}
 
--- Where it comes to from a place: to the next label or to its end.
-pub record Scans (s : List ℕ) (p : Place) (r : Pass) : Type 0 where
-  pub stands : (room : ℕ) (ls : List Meant) → LineNext s room ls p → Progress s room ls r
-  pub sound : SoundPass s r
-  pub after : ScannedFrom (p .line) r
+-- From where the walk may go on.
+pub record ScanFrom (s : List ℕ) (at line labels words : ℕ) : Type 0 where
+  pub short : length s ≤ most-bytes
+  pub in-text : at ≤ length s
+  pub few-lines : line ≤ at + 1
+  pub few-labels : labels + 1 ≤ line
+  pub few-words : words ≤ 32768
 
--- The walk before the first line.
+-- Where it comes to from there: to the next label, after the place, or to its end.
+pub record Scans (s : List ℕ) (at line labels words : ℕ) (setup : Settings) (p : Pass) : Type 0 where
+  pub stands : (room : ℕ) (ls : List Meant) → labels ≡ length ls → Reached s room line at ls words setup → Progress s room ls p
+  pub sound : SoundPass s p
+  pub after : NotBefore line p
+
+-- The walk from the first line on.
 pub record Begins (s : List ℕ) (p : Pass) : Type 0 where
   pub stands : (room : ℕ) → Progress s room [] p
   pub sound : SoundPass s p
@@ -200,18 +191,18 @@ withEntry Full ls l = ls
 abbrev pub labelAt : List ℕ → LabelLine → Meant
 labelAt s p = record { spelling = spelled s (p .label); start = p .label .start; address = p .label .address }
 
--- After a label's line the next is read, if the label was entered, or the walk ends.
-abbrev pub LineAfter : ℕ → Entered → Pass → Type 0
-LineAfter line e (From p) = (e ≡ New) × (p .line ≡ line + 1)
-LineAfter line e (AtLabel p) = ⊥
-LineAfter line e (Ended o) = Unit {0}
+-- There is no label after a refused one.
+abbrev pub OnlyAfter : Entered → Pass → Type 0
+OnlyAfter e (AtLabel p) = e ≡ New
+OnlyAfter e (Ended o) = Unit {0}
 
 -- The walk after a label, as document 01 has it entered: "4 duplicate label; 5 new label, table full".
 pub record GoesOn (s : List ℕ) (p : LabelLine) (e : Entered) (r : Pass) : Type 0 where
   pub stands : (room : ℕ) (ls : List Meant) → LabelNext s room ls p → enteredMeant e ≡ entryFault (isKnown ls (spelled s (p .label))) (ltb (length ls) room)
       → Progress s room (withEntry e ls (labelAt s p)) r
   pub sound : SoundPass s r
-  pub after : LineAfter (p .line) e r
+  pub after : NotBefore (p .line + 1) r
+  pub entered : OnlyAfter e r
 
 -- ---- the second walk
 

@@ -8,26 +8,16 @@ ghost use Rattle.text.specs.Lines.{lines};
 ghost use Rattle.image.specs.Assembling.{rustLine, most-bytes};
 ghost use Rattle.image.specs.Contracts.{settingsMeant};
 ghost use Rattle.image_line.specs.Contracts.{Tables};
-ghost use Rattle.image_passes.specs.Contracts.{refusedPass, finishedPass, oneMore, restOf, labelPass, Sound, PlaceFits, Scans, Begins, GoesOn};
+ghost use Rattle.image_passes.specs.Contracts.{refusedPass, finishedPass, oneMore, restOf, labelPass, Sound, ScanFrom, Scans, Begins, GoesOn};
 use image::config::Config;
 use image_labels::label::Entered;
 use image_labels::label::Label;
 use image_line::line::Effect;
 
-// Where the first walk stands: before lines that are to be read, at a label that is to be entered, or at its end.
+// Where the first walk stands: at a label that is to be entered, or at its end.
 pub enum Pass {
-    From(Place),
     AtLabel(LabelLine),
     Ended(Outcome),
-}
-
-// Where the next line begins and its number, after so many labels and words and with settings.
-pub struct Place {
-    pub at: usize,
-    pub line: usize,
-    pub labels: usize,
-    pub words: usize,
-    pub config: Config,
 }
 
 // A line whose label is to be entered, after `labels` others, and what the rest of the line comes to.
@@ -181,23 +171,25 @@ fn at_label(
     })
 }
 
-// The walk goes on from a place to the next label or the end. The caller's loop calls it at one place, so that it is compiled in line
-// there: where a pass is handed on through memory, a label takes half as long again.
-pub fn scan(
+// The walk goes on from the line that begins at `from` to the next label or the end.
+fn scan(
     source: &[u8],
-    place: Place,
+    from: usize,
+    first: usize,
+    labels: usize,
+    before: usize,
+    settings: Config,
     mnemonics: &[u64; 50],
     forms: &[u8; 50],
     slots: &[u8; 293],
 ) -> Pass
-    requires { ⌜ PlaceFits (now source) place ⌝ ∗ ⌜ Tables (now mnemonics) (now forms) (now slots) ⌝ }
-    ensures { λ r. ⌜ Scans (now (source .entry)) place r ⌝ }
+    requires { ⌜ ScanFrom (now source) from first labels before ⌝ ∗ ⌜ Tables (now mnemonics) (now forms) (now slots) ⌝ }
+    ensures { λ r. ⌜ Scans (now (source .entry)) from first labels before (settingsMeant settings) r ⌝ }
 {
-    let labels = place.labels;
-    let mut at = place.at;
-    let mut line = place.line;
-    let mut words = place.words;
-    let mut config = place.config;
+    let mut at = from;
+    let mut line = first;
+    let mut words = before;
+    let mut config = settings;
     loop {
         let read = image_line::line::read_line(source, at, config, mnemonics, forms, slots);
         let effect = read.effect;
@@ -231,27 +223,28 @@ pub fn too_long(source: &[u8]) -> bool
     1048576 < source.len()
 }
 
-// The walk stands before a source's first line, unless a byte is above 127 (2).
-pub fn begin(source: &[u8]) -> Pass
-    requires { ⌜ length (now source) ≤ most-bytes ⌝ }
+// The walk from a source's first line to the first label or the end: 2, then the lines.
+pub fn begin(source: &[u8], mnemonics: &[u64; 50], forms: &[u8; 50], slots: &[u8; 293]) -> Pass
+    requires { ⌜ Tables (now mnemonics) (now forms) (now slots) ⌝ ∗ ⌜ length (now source) ≤ most-bytes ⌝ }
     ensures { λ r. ⌜ Begins (now (source .entry)) r ⌝ }
 {
     let clean = text_lexical::bytes::ascii_end(source, 0);
     if clean < source.len() {
         return stopped(2, 0, line_number(source, clean), 0);
     }
-    Pass::From(Place {
-        at: 0,
-        line: 1,
-        labels: 0,
-        words: 0,
-        config: Config::begin(),
-    })
+    scan(source, 0, 1, 0, 0, Config::begin(), mnemonics, forms, slots)
 }
 
 // The walk after a label that has been entered, or refused: the label's refusal, that of its line, or the lines after it.
-pub fn go_on(source: &[u8], at: LabelLine, entered: Entered) -> Pass
-    requires { ⌜ Sound (now source) at ⌝ }
+pub fn go_on(
+    source: &[u8],
+    at: LabelLine,
+    entered: Entered,
+    mnemonics: &[u64; 50],
+    forms: &[u8; 50],
+    slots: &[u8; 293],
+) -> Pass
+    requires { ⌜ Sound (now source) at ⌝ ∗ ⌜ Tables (now mnemonics) (now forms) (now slots) ⌝ }
     ensures { λ r. ⌜ GoesOn (now (source .entry)) at entered r ⌝ }
 {
     let line = at.line;
@@ -268,13 +261,17 @@ pub fn go_on(source: &[u8], at: LabelLine, entered: Entered) -> Pass
             if source.len() <= end {
                 return finished(labels, words, config);
             }
-            Pass::From(Place {
-                at: end + 1,
-                line: line + 1,
+            scan(
+                source,
+                end + 1,
+                line + 1,
                 labels,
                 words,
                 config,
-            })
+                mnemonics,
+                forms,
+                slots,
+            )
         }
     }
 }

@@ -2,7 +2,7 @@
 use native.Mathlib.Omega.{arith}
 use borrow.Author.Needs.{needs}
 use Rattle.image.specs.Assembling.{most-bytes}
-use Rattle.image_passes.proofs.Scanning.{goes-duplicate, goes-full, goes-refused, goes-last, goes-from}
+use Rattle.image_passes.proofs.Scanning.{goes-duplicate, goes-full, goes-refused, goes-last, goes-from, goes-scan}
 use Rattle.image_passes.proofs.first_pass.go_on.Statement.{statement}
 use Rattle.image_passes.proofs.first_pass.go_on.Tie as tie
 
@@ -30,7 +30,7 @@ enum-told-3 c = search needs
 add-labels : tie.Need-add-labels
 unfolding most-bytes
 add-labels c =
-    let d = c .before .before .before .before .pre in
+    let d = c .before .before .before .before .pre .0 in
     omega (arith, d .few-labels, d .line-fits, d .short)
 
 enum-known-rest : tie.Need-enum-known-rest
@@ -50,17 +50,23 @@ returns-3 c =
     let f = c .before .before .before in
     rw (c .finished .ensures, f .before .before .before .enum-told3 .given .1) (goes-last (f .rest2 .given .1) (c .before .if1 .taken))
 
-add-t12 : tie.Need-add-t12
+add-scan : tie.Need-add-scan
 unfolding most-bytes
-add-t12 c =
-    let d = c .before .before .before .before .before .before .before .before .pre in
+add-scan c =
+    let d = c .before .before .before .before .before .before .before .before .pre .0 in
     omega (arith, c .if1 .left, d .short)
 
-add-t14 : tie.Need-add-t14
+add-scan-2 : tie.Need-add-scan-2
 unfolding most-bytes
-add-t14 c =
-    let d = c .before .before .before .before .before .before .before .before .pre in
+add-scan-2 c =
+    let d = c .before .before .before .before .before .before .before .before .pre .0 in
     omega (arith, d .line-fits, d .short)
+
+scan-requires : tie.Need-scan-requires
+scan-requires c κs =
+    let f = c .before .before in
+    let p = f .before .before .before .before .before .before .pre in
+    (goes-from (f .rest2 .given .1) (p .0) (omega (arith, c .if1 .left)), p .1)
 
 returns-4 : tie.Need-returns-4
 returns-4 c =
@@ -69,9 +75,8 @@ returns-4 c =
 
 returns-5 : tie.Need-returns-5
 returns-5 c =
-    let f = c .before .before in
-    let d = f .before .before .before .before .before .before .pre in
-    rw (f .before .before .before .enum-told3 .given .1) (goes-from (f .rest2 .given .1) d (omega (arith, c .if1 .left)))
+    let f = c .before .before .before in
+    rw (f .before .before .before .enum-told3 .given .1) (goes-scan (f .rest2 .given .1) (omega (arith, c .before .if1 .left)) (c .scan .ensures))
 
 pub go-on-spec : {M : Type 1} → statement M
 go-on-spec =
@@ -90,7 +95,8 @@ go-on-spec =
     enum-known-rest-2
     finished-requires
     returns-3
-    add-t12
-    add-t14
+    add-scan
+    add-scan-2
+    scan-requires
     returns-4
     returns-5)
