@@ -1,4 +1,4 @@
--- What the walks of this crate share: the machine values of a pass, of what it holds and of an answer, and the source and the constant tables, which are lent as `&` and passed on to callees.
+-- What the walks of this crate share: the machine values that the first walk goes through and that of an answer, and the source and the constant tables, which are lent as `&` and passed on to callees.
 --     Shared           what is had of these.        shared-twice     it can be had twice.        Alive    the tokens of their lifetimes, and Others those but the source's
 --     lends-tables     the three locals that hold the constant tables are lent as `&`, to be shared with the source.        tables-back     they come back
 use Prim.Native.Nat.{ℕ}
@@ -26,11 +26,14 @@ use denote.Steps.{nothing}
 use Rattle.walking.proofs.Numbers.{Numbers, NumbersAre, In, ref, Away, lends-local, local-back}
 use Rattle.image_labels.proofs.label.Label as L
 use Rattle.image_labels.proofs.Row.{vals}
+use Rattle.image_passes.specs.declared.first_pass.Next.{Next}
 use Rattle.image_passes.specs.declared.first_pass.Pass.{Pass}
 use Rattle.image_passes.specs.declared.first_pass.Pass.the-variants.{AtLabel, Ended}
 use Rattle.image_passes.specs.declared.first_pass.LabelLine.{LabelLine}
 use Rattle.image_passes.specs.declared.first_pass.Outcome.{Outcome}
 use Rattle.image_passes.specs.declared.second_pass.Assembled.{Assembled}
+use Rattle.image_passes.proofs.first_pass.Next as N
+use Rattle.image_passes.proofs.first_pass.Next.Laws as N′
 use Rattle.image_passes.proofs.first_pass.Pass as P
 use Rattle.image_passes.proofs.first_pass.Pass.Laws as P′
 use Rattle.image_passes.proofs.first_pass.LabelLine as Q
@@ -40,7 +43,13 @@ use Rattle.image_passes.proofs.first_pass.Outcome.Laws as O′
 use Rattle.image_passes.proofs.second_pass.Assembled as R
 use Rattle.image_passes.proofs.second_pass.Assembled.Laws as R′
 
--- ---- a pass, a line with a label, an outcome and an answer
+-- ---- what the walk does next, a pass, a line with a label, an outcome and an answer
+
+abbrev pub nval : Next → Val
+nval = EL.val N.the-type N′.the-laws
+
+abbrev pub NextIs : Next → Type 0
+NextIs n = Is N.the-row n (nval n ∷ [])
 
 abbrev pub pval : Pass → Val
 pval = EL.val P.the-type P′.the-laws

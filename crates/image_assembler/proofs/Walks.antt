@@ -21,9 +21,11 @@ use Rattle.image_labels.proofs.Finding.{unlinked-long}
 use Rattle.image_labels.specs.declared.label.Label.{Label}
 use Rattle.image_labels.specs.declared.label.Entered.{Entered}
 use Rattle.image_labels.specs.declared.label.Entered.the-variants.{New, Duplicate, Full}
-use Rattle.image_passes.specs.Contracts.{LabelNext, Progress, Sound, SoundPass, NotBefore, Begins, withEntry, labelAt, GoesOn, overlong, Finishable, Finishes}
+use Rattle.image_passes.specs.Contracts.{LabelNext, Progress, SoundPass, Resumes, ScannableNext, After, ReadsOn, Begins, Follows, withEntry, labelAt, GoesOn, overlong, Finishable, Finishes}
 use Rattle.image_passes.specs.declared.first_pass.Pass.{Pass}
-use Rattle.image_passes.specs.declared.first_pass.Pass.the-variants.{AtLabel, Ended}
+use Rattle.image_passes.specs.declared.first_pass.Pass.the-variants.{AtLabel, Ended as PassEnded}
+use Rattle.image_passes.specs.declared.first_pass.Next.{Next}
+use Rattle.image_passes.specs.declared.first_pass.Next.the-variants.{From, Ended as NextEnded}
 use Rattle.image_passes.specs.declared.first_pass.LabelLine.{LabelLine}
 use Rattle.image_passes.specs.declared.first_pass.Outcome.{Outcome}
 use Rattle.image_passes.specs.declared.second_pass.Assembled.{Assembled}
@@ -68,34 +70,50 @@ counted ls l Full = refl
 
 -- ---- the walk
 
--- The labels that have been entered where the walk stands.
-abbrev pub labelsOf : Pass → ℕ
-labelsOf (AtLabel p) = p .labels
-labelsOf (Ended o) = o .labels
+-- The labels that have been entered where the walk reads on, and where it has come to.
+abbrev pub labelsBefore : Next → ℕ
+labelsBefore (From c) = c .labels
+labelsBefore (NextEnded o) = o .labels
 
--- Where it stands: the labels so far, and their trees.
-pub record Walking (s : List ℕ) (old table : List Label) (roots : List ℕ) (p : Pass) : Type 0 where
+abbrev pub labelsAt : Pass → ℕ
+labelsAt (AtLabel p) = p .labels
+labelsAt (PassEnded o) = o .labels
+
+-- Where it reads on: the labels so far, and their trees.
+pub record Walking (s : List ℕ) (old table : List Label) (roots : List ℕ) (n : Next) : Type 0 where
+  pub labels : List Meant
+  pub stands : Resumes s (length old) labels n
+  pub sound : ScannableNext s n
+  pub holds : Holds s old (unlinked (labelsBefore n) table) labels
+  pub tree : Tree s table roots (labelsBefore n)
+
+-- Where it has come to.
+pub record Stopping (s : List ℕ) (old table : List Label) (roots : List ℕ) (p : Pass) : Type 0 where
   pub labels : List Meant
   pub stands : Progress s (length old) labels p
   pub sound : SoundPass s p
-  pub holds : Holds s old (unlinked (labelsOf p) table) labels
-  pub tree : Tree s table roots (labelsOf p)
+  pub holds : Holds s old (unlinked (labelsAt p) table) labels
+  pub tree : Tree s table roots (labelsAt p)
 
 -- The labels are counted.
-counted-by : (s : List ℕ) (room : ℕ) (ls : List Meant) (p : Pass) → Progress s room ls p → labelsOf p ≡ length ls
-counted-by s room ls (AtLabel p) h = h .count
-counted-by s room ls (Ended o) h = h .count
+counted-before : (s : List ℕ) (room : ℕ) (ls : List Meant) (n : Next) → Resumes s room ls n → labelsBefore n ≡ length ls
+counted-before s room ls (From c) h = h .count
+counted-before s room ls (NextEnded o) h = h .count
+
+counted-at : (s : List ℕ) (room : ℕ) (ls : List Meant) (p : Pass) → Progress s room ls p → labelsAt p ≡ length ls
+counted-at s room ls (AtLabel p) h = h .count
+counted-at s room ls (PassEnded o) h = h .count
 
 -- How it begins.
-pub walking-begin : {s : List ℕ} {p : Pass} {roots : List ℕ} (old : List Label) → Begins s p → Bare roots → Walking s old old roots p
+pub walking-begin : {s : List ℕ} {n : Next} {roots : List ℕ} (old : List Label) → Begins s n → Bare roots → Walking s old old roots n
 unfolding unlinked over
-walking-begin {s} {p} {roots} old b bare =
-    let none : labelsOf p ≡ 0 = counted-by s (length old) [] p (b .stands (length old)) in
+walking-begin {s} {n} {roots} old b bare =
+    let none : labelsBefore n ≡ 0 = counted-before s (length old) [] n (b .stands (length old)) in
     record {
       labels = [];
       stands = b .stands (length old);
       sound = b .sound;
-      holds = subst (λ (n : ℕ). Holds s old (unlinked n old) []) (sym none) (record { table-is = refl; fits = omega arith; spelled = tt });
+      holds = subst (λ (k : ℕ). Holds s old (unlinked k old) []) (sym none) (record { table-is = refl; fits = omega arith; spelled = tt });
       tree = record {
         in-table = rw none (omega arith);
         in-text = λ i h. absurd (omega arith);
@@ -110,8 +128,21 @@ walking-begin {s} {p} {roots} old b bare =
 holds-long : {s : List ℕ} {old table : List Label} {ls : List Meant} → Holds s old table ls → length table ≡ length old
 holds-long {s} {old} {table} {ls} h = table-long s old table ls (h .table-is) (h .fits)
 
-pub walking-long : {s : List ℕ} {old table : List Label} {roots : List ℕ} {p : Pass} → Walking s old table roots p → length table ≡ length old
-walking-long {table = table} {p = p} w = sym (unlinked-long (labelsOf p) table) ∙ holds-long (w .holds)
+pub walking-long : {s : List ℕ} {old table : List Label} {roots : List ℕ} {n : Next} → Walking s old table roots n → length table ≡ length old
+walking-long {table = table} {n = n} w = sym (unlinked-long (labelsBefore n) table) ∙ holds-long (w .holds)
+
+-- It reads on.
+pub walking-reads : {s : List ℕ} {old table : List Label} {roots : List ℕ} {n : Next} {p : Pass} → Walking s old table roots n → ReadsOn s n p → Stopping s old table roots p
+walking-reads {s} {old} {table} {roots} {n} {p} w r =
+    let on : Progress s (length old) (w .labels) p = r .stands (length old) (w .labels) (w .stands) in
+    let e : labelsBefore n ≡ labelsAt p = counted-before s (length old) (w .labels) n (w .stands) ∙ sym (counted-at s (length old) (w .labels) p on) in
+    record {
+      labels = w .labels;
+      stands = on;
+      sound = r .sound;
+      holds = subst (λ (k : ℕ). Holds s old (unlinked k table) (w .labels)) e (w .holds);
+      tree = subst (Tree s table roots) e (w .tree);
+    }
 
 -- A label is entered, or refused.
 module _ {s : List ℕ} {old table : List Label} {p : LabelLine} {ls : List Meant} (n : LabelNext s (length old) ls p) (inside : InText s (p .label)) (h : Holds s old table ls) where
@@ -162,7 +193,7 @@ module _ {s : List ℕ} {old table : List Label} {p : LabelLine} {ls : List Mean
         go false false l New q k = let y : _≡_ {A = ℕ} 0 1 = cc in absurd (omega arith)
 
 -- It stands at a label.
-module _ {s : List ℕ} {old table : List Label} {roots : List ℕ} {p : LabelLine} (w : Walking s old table roots (AtLabel p)) where
+module _ {s : List ℕ} {old table : List Label} {roots : List ℕ} {p : LabelLine} (w : Stopping s old table roots (AtLabel p)) where
   -- What entering the label asks for.
   pub walking-enterable : Enterable s (p .labels) (p .label)
   unfolding most-bytes
@@ -171,12 +202,12 @@ module _ {s : List ℕ} {old table : List Label} {roots : List ℕ} {p : LabelLi
       record { in-text = k .in-text; short = k .short; few = omega (arith, k .short, k .line-fits, k .few-labels); near = k .near }
 
   -- It goes on.
-  pub walking-on : {table′ : List Label} {roots′ : List ℕ} {e : Entered} {r : Pass}
+  pub walking-on : {table′ : List Label} {roots′ : List ℕ} {e : Entered} {r : Next}
       → Enters s (unlinked (p .labels) table) (p .labels) (p .label) (unlinked (countBehind (p .labels) e) table′) e
       → TreeBehind s table roots (p .labels) (p .label) table′ roots′ e → GoesOn s p e r → Walking s old table′ roots′ r
   walking-on {table′} {roots′} {e} {r} x t g =
-      let on : Progress s (length old) (withEntry e (w .labels) (labelAt s p)) r = g .stands (length old) (w .labels) (w .stands) (fault-is (w .stands) (w .sound .in-text) (w .holds) x) in
-      let n : labelsOf r ≡ countBehind (p .labels) e = counted-by s (length old) _ r on ∙ counted (w .labels) (labelAt s p) e ∙ ap (λ (m : ℕ). countBehind m e) (sym (w .stands .count)) in
+      let on : Resumes s (length old) (withEntry e (w .labels) (labelAt s p)) r = g .stands (length old) (w .labels) (w .stands) (fault-is (w .stands) (w .sound .in-text) (w .holds) x) in
+      let n : labelsBefore r ≡ countBehind (p .labels) e = counted-before s (length old) _ r on ∙ counted (w .labels) (labelAt s p) e ∙ ap (λ (m : ℕ). countBehind m e) (sym (w .stands .count)) in
       record {
         labels = withEntry e (w .labels) (labelAt s p);
         stands = on;
@@ -194,19 +225,20 @@ module _ {s : List ℕ} {old table : List Label} {roots : List ℕ} {p : LabelLi
       after Full t = kept t
 
 -- What is left, counted in lines.
-abbrev pub left : List ℕ → Pass → ℕ
-left s (AtLabel p) = length s + 2 - p .line
-left s (Ended o) = 0
+abbrev pub left : List ℕ → Next → ℕ
+left s (From c) = length s + 2 - c .line
+left s (NextEnded o) = 0
 
-pub nearer : {s : List ℕ} {p : LabelLine} {r : Pass} {e : Entered} → Sound s p → GoesOn s p e r → left s r < left s (AtLabel p)
-nearer {s} {p} {r} k g = go r (g .after)
+pub nearer : {s : List ℕ} {n : Next} {p : LabelLine} {e : Entered} {r : Next} → ReadsOn s n (AtLabel p) → GoesOn s p e r → left s r < left s n
+nearer {s} {n} {p} {e} {r} a g = go n (a .after) r (g .follows)
   where
-    go : (r : Pass) → NotBefore (p .line + 1) r → left s r < left s (AtLabel p)
-    go (AtLabel q) b = omega (arith, k .line-fits, b)
-    go (Ended o) b = omega (arith, k .line-fits)
+    go : (n : Next) → After n (AtLabel p) → (r : Next) → Follows p e r → left s r < left s n
+    go (From c) h (From d) k = omega (arith, a .sound .line-fits, h, k .0)
+    go (From c) h (NextEnded o) k = omega (arith, a .sound .line-fits, h)
+    go (NextEnded o) h r k = absurd h
 
 -- It has ended.
-pub walking-ends : {s : List ℕ} {old table : List Label} {roots : List ℕ} {o : Outcome} → Walking s old table roots (Ended o) → Walks s old table roots o
+pub walking-ends : {s : List ℕ} {old table : List Label} {roots : List ℕ} {o : Outcome} → Stopping s old table roots (PassEnded o) → Walks s old table roots o
 walking-ends w = record { labels = w .labels; ends = w .stands; holds = w .holds; tree = w .tree }
 
 module _ {s : List ℕ} {old table : List Label} {roots : List ℕ} {o : Outcome} (w : Walks s old table roots o) where

@@ -19,19 +19,12 @@ fn walk(
     requires { ⌜ Tables (now mnemonics) (now forms) (now slots) ⌝ ∗ ⌜ Starts (now source) (now roots) ⌝ }
     ensures { λ r. ⌜ Walks (now (source .entry)) (now (table .entry)) (now (table .exit)) (now (roots .exit)) r ⌝ }
 {
-    let mut pass = image_passes::first_pass::begin(source, mnemonics, forms, slots);
+    let mut next = image_passes::first_pass::begin(source);
     loop {
-        match pass {
+        match image_passes::first_pass::read_on(source, next, mnemonics, forms, slots) {
             Pass::AtLabel(at) => {
                 let entered = image_labels::label::enter(source, table, roots, at.labels, at.label);
-                pass = image_passes::first_pass::go_on(
-                    source,
-                    at,
-                    entered,
-                    mnemonics,
-                    forms,
-                    slots,
-                );
+                next = image_passes::first_pass::go_on(source, at, entered);
             }
             Pass::Ended(outcome) => return outcome,
         }

@@ -24,9 +24,9 @@ use Rattle.image.specs.Assembling.{Label, State, start, Step, next, stop, readO
 use Rattle.image.specs.Meaning.{instructionsOf, settingsOf, imageOf}
 use Rattle.image.specs.Lent.{answerOf, entered, imageAfter}
 use Rattle.image.specs.Contracts.{settingsMeant}
-use Rattle.image_passes.specs.Contracts.{allRead, codeBytes, whole, Reached, Judges, WalkEnds, Progress, refusedPass, Scans, Begins, Ready, answerMeant, Fills, Finishable, Finishes}
+use Rattle.image_passes.specs.Contracts.{allRead, codeBytes, whole, Reached, Judges, WalkEnds, refusedAt, Begins, Ready, answerMeant, Fills, Finishable, Finishes}
 use Rattle.image.specs.declared.config.Config.{Config}
-use Rattle.image_passes.specs.declared.first_pass.Pass.{Pass}
+use Rattle.image_passes.specs.declared.first_pass.Next.the-variants.{From, Ended as NextEnded}
 use Rattle.image_passes.specs.declared.first_pass.Outcome.{Outcome}
 use Rattle.image_passes.specs.declared.first_pass.Verdict.{Verdict}
 use Rattle.image_passes.specs.declared.first_pass.Verdict.the-variants.{Refused as Rejected, Finished}
@@ -92,7 +92,7 @@ module _ {s : List ℕ} {words : ℕ} {setup : Settings} (r : Ready s words setu
 -- ---- before any line
 
 -- A source with a byte above 127.
-high-byte : (s : List ℕ) (room : ℕ) {line : ℕ} → length s ≤ most-bytes → run ascii s < length s → line ≡ length (lines (take (run ascii s) s)) → Progress s room [] (refusedPass 2 0 line 0)
+high-byte : (s : List ℕ) (room : ℕ) {line : ℕ} → length s ≤ most-bytes → run ascii s < length s → line ≡ length (lines (take (run ascii s) s)) → WalkEnds s room [] (refusedAt 2 0 line 0)
 unfolding reading
 high-byte s room {line} short h e = record { count = refl; judges = rw (reading, le-leb (length s) most-bytes short, not-every h, e, take-run ascii s) }
   where
@@ -117,11 +117,15 @@ reached-first s room c e short clean =
 
 -- What the walk begins with.
 module _ {s : List ℕ} (short : length s ≤ most-bytes) where
-  pub begins-high : {line : ℕ} → run ascii s < length s → line ≡ length (lines (take (run ascii s) s)) → Begins s (refusedPass 2 0 line 0)
+  pub begins-high : {line : ℕ} → run ascii s < length s → line ≡ length (lines (take (run ascii s) s)) → Begins s (NextEnded (refusedAt 2 0 line 0))
   begins-high h e = record { stands = λ room. high-byte s room short h e; sound = tt }
 
-  pub begins-scan : {p : Pass} (c : Config) → settingsMeant c ≡ begin → length s ≤ run ascii s → Scans s 0 1 0 0 (settingsMeant c) p → Begins s p
-  begins-scan c e clean k = record { stands = λ room. k .stands room [] refl (reached-first s room c e short clean); sound = k .sound }
+  pub begins-first : (c : Config) → settingsMeant c ≡ begin → length s ≤ run ascii s → Begins s (From (record { at = 0; line = 1; labels = 0; words = 0; config = c }))
+  begins-first c e clean =
+      record {
+        stands = λ room. record { count = refl; reached = reached-first s room c e short clean };
+        sound = record { short = short; in-text = omega arith; few-lines = omega arith; few-labels = omega arith; few-words = omega arith };
+      }
 
 -- ---- the end
 

@@ -24,10 +24,12 @@ use Rattle.image.specs.declared.config.Config.{Config}
 use Rattle.image_labels.specs.Contracts.{spelled, entryFault}
 use Rattle.image_labels.specs.declared.label.Entered.the-variants.{New, Duplicate, Full}
 use Rattle.image_line.specs.Contracts.{contextFor, labelIf, LineIs}
-use Rattle.image_passes.specs.Contracts.{effectAt, grown, RestDone, RestIs, whole, Clean, Reached, LabelNext, Progress, refusedPass, finishedPass, labelPass, RestFits, Sound, ScanFrom, Scans, labelAt, OnlyAfter, GoesOn}
 use Rattle.image_line.specs.declared.line.Read.{Read}
-use Rattle.image_passes.specs.declared.first_pass.Pass.{Pass}
-use Rattle.image_passes.specs.declared.first_pass.Pass.the-variants.{AtLabel, Ended}
+use Rattle.image_passes.specs.Contracts.{effectAt, grown, RestDone, RestIs, whole, Clean, Reached, LabelNext, WalkEnds, LineNext, refusedAt, finishedWith, labelPass, RestFits, Sound, Scannable, ReadsOn, labelAt, GoesOn}
+use Rattle.image_passes.specs.declared.first_pass.Next.the-variants.{From, Ended as NextEnded}
+use Rattle.image_passes.specs.declared.first_pass.Cursor.{Cursor}
+use Rattle.image_passes.specs.declared.first_pass.Pass.the-variants.{Ended as PassEnded}
+use Rattle.image_passes.specs.declared.first_pass.Outcome.{Outcome}
 use Rattle.image_passes.specs.declared.first_pass.LabelLine.{LabelLine}
 use Rattle.image_passes.specs.declared.first_pass.Rest.{Rest}
 use Rattle.image_passes.specs.declared.first_pass.Rest.the-variants.{Refused, Done}
@@ -52,14 +54,14 @@ record Doing (s : List ℕ) (room line at : ℕ) (labels : List Meant) (words : 
 
 -- The walk has ended with the refusal of a line.
 ends-refused : {s : List ℕ} {room line n labels : ℕ} {ls : List Meant} → labels ≡ length ls → Clean s room → (st : State) → whole s room ≡ stopped n line st → st .labels ≡ ls
-    → Progress s room ls (refusedPass n (rustLine n line) line labels)
+    → WalkEnds s room ls (refusedAt n (rustLine n line) line labels)
 unfolding readTo
 ends-refused {s} {room} {line} {n} count c st e l =
     record { count = count; judges = c ∙ ap readTo e ∙ ap (λ (x : List Meant). refusing n (rustLine n line) line x none) l }
 
 module _ {s : List ℕ} {room line at : ℕ} {ls : List Meant} {words : ℕ} {setup : Settings} (d : Doing s room line at ls words setup) where
   -- The line is refused.
-  doing-refused : {n labels : ℕ} → RestIs s at words setup (Refused n) → labels ≡ length ls → Progress s room ls (refusedPass n (rustLine n line) line labels)
+  doing-refused : {n labels : ℕ} → RestIs s at words setup (Refused n) → labels ≡ length ls → WalkEnds s room ls (refusedAt n (rustLine n line) line labels)
   unfolding afterLine
   doing-refused h count =
       ends-refused count (d .clean) (d .state) (d .comes ∙ ap (afterLine s room line (endAt s at)) (h (d .state) (d .words-are))) (d .labels-are)
@@ -80,7 +82,7 @@ module _ {s : List ℕ} {room line at : ℕ} {ls : List Meant} {words : ℕ} {se
     after-setup = ap (λ (x : Settings). changedBy x (effectAt s at setup)) (d .setup-is) ∙ sym (h .settings)
 
     -- It is the last line,
-    doing-last : {labels : ℕ} → length s ≤ end → labels ≡ length ls → Progress s room ls (finishedPass labels words′ c)
+    doing-last : {labels : ℕ} → length s ≤ end → labels ≡ length ls → WalkEnds s room ls (finishedWith labels words′ c)
     unfolding afterLine readTo
     doing-last z count =
         let e : whole s room ≡ finished after = comes-after ∙ rw (afterLine, le-ltb end (length s) z) in
@@ -171,20 +173,25 @@ module _ {s : List ℕ} {room line at : ℕ} {ls : List Meant} {words : ℕ} {se
 -- ---- from line to line
 
 -- What the lines from a place on have come to.
-pub record Scanning (s : List ℕ) (from first labels before : ℕ) (settings : Settings) (at line words : ℕ) (c : Config) : Type 0 where
-  pub safe : ScanFrom s at line labels words
-  pub reached : (room : ℕ) (ls : List Meant) → Reached s room first from ls before settings → Reached s room line at ls words (settingsMeant c)
-  pub after : first ≤ line
+pub record Scanning (s : List ℕ) (from : Cursor) (at line words : ℕ) (c : Config) : Type 0 where
+  pub safe : Scannable s (record { at = at; line = line; labels = from .labels; words = words; config = c })
+  pub reached : (room : ℕ) (ls : List Meant) → LineNext s room ls from → Reached s room line at ls words (settingsMeant c)
+  pub after : from .line ≤ line
 
-pub scanning-none : {s : List ℕ} {from first labels before : ℕ} {c : Config} → ScanFrom s from first labels before → Scanning s from first labels before (settingsMeant c) from first before c
-scanning-none h = record { safe = h; reached = λ room ls q. q; after = omega arith }
+pub scanning-none : {s : List ℕ} {from : Cursor} → Scannable s from → Scanning s from (from .at) (from .line) (from .words) (from .config)
+scanning-none h =
+    record {
+      safe = record { short = h .short; in-text = h .in-text; few-lines = h .few-lines; few-labels = h .few-labels; few-words = h .few-words };
+      reached = λ room ls n. n .reached;
+      after = omega arith;
+    }
 
 -- A line that is not refused ends where it begins, or after that.
 pub ends-after : {s : List ℕ} {at words : ℕ} {setup : Settings} {words′ end : ℕ} {c : Config} → RestDone s at words setup words′ c end → at ≤ end
 unfolding endAt
 ends-after h = omega (arith, h .ends)
 
-module _ {s : List ℕ} {from first labels before : ℕ} {settings : Settings} {at line words : ℕ} {c : Config} (w : Scanning s from first labels before settings at line words c)
+module _ {s : List ℕ} {from : Cursor} {at line words : ℕ} {c : Config} (w : Scanning s from at line words c)
     (r : Read) (h : LineIs s at (contextFor c) r) where
   -- its label
   label-is : {b : Bool} → r .labelled ≡ b → readOn (contextFor c) (readLine present (restAt s at)) .label ≡ labelIf b (take (r .length) (drop (r .start) s))
@@ -192,20 +199,20 @@ module _ {s : List ℕ} {from first labels before : ℕ} {settings : Settings} {
 
   -- A label.
   pub scans-label : {rest : Rest} → r .labelled ≡ true → RestIs s at words (settingsMeant c) rest → RestFits line rest
-      → Scans s from first labels before settings (labelPass (r .start) (r .length) words line labels rest)
+      → ReadsOn s (From from) (labelPass (r .start) (r .length) words line (from .labels) rest)
   unfolding entry
   scans-label b k f =
       record {
-        stands = λ room ls e q.
+        stands = λ room ls n.
             record {
-              count = e;
+              count = n .count;
               at = at;
               in-text = w .safe .in-text;
               words = words;
               setup = settingsMeant c;
-              reached = w .reached room ls q;
+              reached = w .reached room ls n;
               reads = label-is b;
-              starts = h .starts b;
+              starts = h .starts;
               address-is = refl;
               rest-is = k;
             };
@@ -222,20 +229,20 @@ module _ {s : List ℕ} {from first labels before : ℕ} {settings : Settings} {
       }
 
   module _ (b : r .labelled ≡ false) where
-    what-is-left : (room : ℕ) (ls : List Meant) → Reached s room first from ls before settings → Doing s room line at ls words (settingsMeant c)
-    what-is-left room ls q = plain-doing (w .reached room ls q) (w .safe .in-text) (label-is b)
+    what-is-left : (room : ℕ) (ls : List Meant) → LineNext s room ls from → Doing s room line at ls words (settingsMeant c)
+    what-is-left room ls n = plain-doing (w .reached room ls n) (w .safe .in-text) (label-is b)
 
     -- A refusal.
-    pub scans-refused : {n : ℕ} → RestIs s at words (settingsMeant c) (Refused n) → Scans s from first labels before settings (refusedPass n (rustLine n line) line labels)
-    scans-refused k = record { stands = λ room ls e q. doing-refused (what-is-left room ls q) k e; sound = tt; after = tt }
+    pub scans-refused : {n : ℕ} → RestIs s at words (settingsMeant c) (Refused n) → ReadsOn s (From from) (PassEnded (refusedAt n (rustLine n line) line (from .labels)))
+    scans-refused k = record { stands = λ room ls n. doing-refused (what-is-left room ls n) k (n .count); sound = tt; after = tt }
 
     module _ {words′ end : ℕ} {d : Config} (k : RestDone s at words (settingsMeant c) words′ d end) where
       -- The last line.
-      pub scans-last : length s ≤ end → Scans s from first labels before settings (finishedPass labels words′ d)
-      scans-last z = record { stands = λ room ls e q. doing-last (what-is-left room ls q) k z e; sound = tt; after = tt }
+      pub scans-last : length s ≤ end → ReadsOn s (From from) (PassEnded (finishedWith (from .labels) words′ d))
+      scans-last z = record { stands = λ room ls n. doing-last (what-is-left room ls n) k z (n .count); sound = tt; after = tt }
 
       -- The next line.
-      pub scans-on : RestFits line (Done words′ d end) → end < length s → Scanning s from first labels before settings (end + 1) (line + 1) words′ d
+      pub scans-on : RestFits line (Done words′ d end) → end < length s → Scanning s from (end + 1) (line + 1) words′ d
       scans-on f z =
           record {
             safe =
@@ -246,7 +253,7 @@ module _ {s : List ℕ} {from first labels before : ℕ} {settings : Settings} {
                   few-labels = omega (arith, w .safe .few-labels);
                   few-words = f .1;
                 };
-            reached = λ room ls q. doing-on (what-is-left room ls q) k z;
+            reached = λ room ls n. doing-on (what-is-left room ls n) k z;
             after = omega (arith, w .after);
           }
 
@@ -288,7 +295,7 @@ module _ {s : List ℕ} {p : LabelLine} {room : ℕ} {ls : List Meant} (a : Labe
       ∙ ap (λ (n : ℕ). afterLine s room (p .line) (endAt s (a .at)) (doing (effectAt s (a .at) (a .setup)) (enter room st n name))) (sym (a .starts))
 
   -- The label is refused.
-  pub label-refused : {n : ℕ} → some n ≡ entryFault known (ltb (length ls) room) → Progress s room ls (refusedPass n (rustLine n (p .line)) (p .line) (p .labels))
+  pub label-refused : {n : ℕ} → some n ≡ entryFault known (ltb (length ls) room) → WalkEnds s room ls (refusedAt n (rustLine n (p .line)) (p .line) (p .labels))
   unfolding afterLine doing
   label-refused {n} e =
       let x : enter room st (p .label .start) name ≡ stop n st = enter-refused room st (p .label .start) name n (rw (a .reached .labels-are) e) in
@@ -318,43 +325,36 @@ module _ {s : List ℕ} {p : LabelLine} {room : ℕ} {ls : List Meant} (a : Labe
 
 -- ---- going on
 
+-- A walk that has ended stays so.
+pub reads-end : {s : List ℕ} {o : Outcome} → ReadsOn s (NextEnded o) (PassEnded o)
+reads-end = record { stands = λ room ls n. n; sound = tt; after = tt }
+
 module _ {s : List ℕ} {p : LabelLine} where
-  pub goes-duplicate : GoesOn s p Duplicate (refusedPass 4 (rustLine 4 (p .line)) (p .line) (p .labels))
-  goes-duplicate = record { stands = λ room ls a e. label-refused a e; sound = tt; after = tt; entered = tt }
+  pub goes-duplicate : GoesOn s p Duplicate (NextEnded (refusedAt 4 (rustLine 4 (p .line)) (p .line) (p .labels)))
+  goes-duplicate = record { stands = λ room ls a e. label-refused a e; sound = tt; follows = tt }
 
-  pub goes-full : GoesOn s p Full (refusedPass 5 (rustLine 5 (p .line)) (p .line) (p .labels))
-  goes-full = record { stands = λ room ls a e. label-refused a e; sound = tt; after = tt; entered = tt }
+  pub goes-full : GoesOn s p Full (NextEnded (refusedAt 5 (rustLine 5 (p .line)) (p .line) (p .labels)))
+  goes-full = record { stands = λ room ls a e. label-refused a e; sound = tt; follows = tt }
 
-  pub goes-refused : {n : ℕ} → p .rest ≡ Refused n → GoesOn s p New (refusedPass n (rustLine n (p .line)) (p .line) (p .labels + 1))
-  goes-refused k =
-      record { stands = λ room ls a e. doing-refused (label-doing a e) (rw k at (a .rest-is)) (named-count a e); sound = tt; after = tt; entered = tt }
+  pub goes-refused : {n : ℕ} → p .rest ≡ Refused n → GoesOn s p New (NextEnded (refusedAt n (rustLine n (p .line)) (p .line) (p .labels + 1)))
+  goes-refused k = record { stands = λ room ls a e. doing-refused (label-doing a e) (rw k at (a .rest-is)) (named-count a e); sound = tt; follows = tt }
 
   module _ {words end : ℕ} {c : Config} (k : p .rest ≡ Done words c end) where
-    pub goes-last : length s ≤ end → GoesOn s p New (finishedPass (p .labels + 1) words c)
-    goes-last z =
-        record { stands = λ room ls a e. doing-last (label-doing a e) (rw k at (a .rest-is)) z (named-count a e); sound = tt; after = tt; entered = tt }
+    pub goes-last : length s ≤ end → GoesOn s p New (NextEnded (finishedWith (p .labels + 1) words c))
+    goes-last z = record { stands = λ room ls a e. doing-last (label-doing a e) (rw k at (a .rest-is)) z (named-count a e); sound = tt; follows = tt }
 
-    -- From where it goes on.
-    pub goes-from : Sound s p → end < length s → ScanFrom s (end + 1) (p .line + 1) (p .labels + 1) words
-    goes-from d z =
+    pub goes-line : Sound s p → end < length s → GoesOn s p New (From (record { at = end + 1; line = p .line + 1; labels = p .labels + 1; words = words; config = c }))
+    goes-line d z =
         let f = rw k at (d .rest-fits) in
         record {
-          short = d .short;
-          in-text = omega arith;
-          few-lines = omega (arith, f .0);
-          few-labels = omega (arith, d .few-labels);
-          few-words = f .1;
+          stands = λ room ls a e. record { count = named-count a e; reached = doing-on (label-doing a e) (rw k at (a .rest-is)) z };
+          sound =
+              record {
+                short = d .short;
+                in-text = omega arith;
+                few-lines = omega (arith, f .0);
+                few-labels = omega (arith, d .few-labels);
+                few-words = f .1;
+              };
+          follows = (omega arith, refl);
         }
-
-    pub goes-scan : {r : Pass} → end < length s → Scans s (end + 1) (p .line + 1) (p .labels + 1) words (settingsMeant c) r → GoesOn s p New r
-    goes-scan {r} z g =
-        record {
-          stands = λ room ls a e. g .stands room (ls ++ (labelAt s p ∷ [])) (named-count a e) (doing-on (label-doing a e) (rw k at (a .rest-is)) z);
-          sound = g .sound;
-          after = g .after;
-          entered = only r;
-        }
-      where
-        only : (r : Pass) → OnlyAfter New r
-        only (AtLabel q) = refl
-        only (Ended o) = tt

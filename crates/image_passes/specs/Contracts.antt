@@ -23,8 +23,11 @@ use Rattle.image_labels.specs.Contracts.{InText, spelled, entryFault, enteredMe
 use Rattle.image_labels.specs.declared.label.Entered.{Entered}
 use Rattle.image_labels.specs.declared.label.Entered.the-variants.{New, Duplicate, Full}
 use Rattle.image_line.specs.Contracts.{endOf}
+use Rattle.image_passes.specs.declared.first_pass.Next.{Next}
+use Rattle.image_passes.specs.declared.first_pass.Next.the-variants.{From, Ended as NextEnded}
+use Rattle.image_passes.specs.declared.first_pass.Cursor.{Cursor}
 use Rattle.image_passes.specs.declared.first_pass.Pass.{Pass}
-use Rattle.image_passes.specs.declared.first_pass.Pass.the-variants.{AtLabel, Ended}
+use Rattle.image_passes.specs.declared.first_pass.Pass.the-variants.{AtLabel, Ended as PassEnded}
 use Rattle.image_passes.specs.declared.first_pass.LabelLine.{LabelLine}
 use Rattle.image_passes.specs.declared.first_pass.Rest.{Rest}
 use Rattle.image_passes.specs.declared.first_pass.Rest.the-variants.{Refused as RestRefused, Done}
@@ -124,15 +127,25 @@ pub record WalkEnds (s : List ℕ) (room : ℕ) (labels : List Meant) (o : Outco
 -- Where the first walk stands, with labels entered.
 abbrev pub Progress : List ℕ → ℕ → List Meant → Pass → Type 0
 Progress s room labels (AtLabel p) = LabelNext s room labels p
-Progress s room labels (Ended o) = WalkEnds s room labels o
+Progress s room labels (PassEnded o) = WalkEnds s room labels o
+
+-- A line is to be read, with labels entered.
+pub record LineNext (s : List ℕ) (room : ℕ) (labels : List Meant) (c : Cursor) : Type 0 where
+  pub count : c .labels ≡ length labels
+  pub reached : Reached s room (c .line) (c .at) labels (c .words) (settingsMeant (c .config))
+
+-- What the first walk does next, with labels entered.
+abbrev pub Resumes : List ℕ → ℕ → List Meant → Next → Type 0
+Resumes s room labels (From c) = LineNext s room labels c
+Resumes s room labels (NextEnded o) = WalkEnds s room labels o
 
 -- The walk ends with a refusal,
-abbrev pub refusedPass : ℕ → ℕ → ℕ → ℕ → Pass
-refusedPass number rust line labels = Ended (record { labels = labels; verdict = Rejected number rust line })
+abbrev pub refusedAt : ℕ → ℕ → ℕ → ℕ → Outcome
+refusedAt number rust line labels = record { labels = labels; verdict = Rejected number rust line }
 
 -- or after the last line.
-abbrev pub finishedPass : ℕ → ℕ → Config → Pass
-finishedPass labels words c = Ended (record { labels = labels; verdict = Finished words c })
+abbrev pub finishedWith : ℕ → ℕ → Config → Outcome
+finishedWith labels words c = record { labels = labels; verdict = Finished words c }
 
 -- A label is to be entered, after so many words.
 abbrev pub labelPass : ℕ → ℕ → ℕ → ℕ → ℕ → Rest → Pass
@@ -155,31 +168,37 @@ pub record Sound (s : List ℕ) (p : LabelLine) : Type 0 where
 
 abbrev pub SoundPass : List ℕ → Pass → Type 0
 SoundPass s (AtLabel p) = Sound s p
-SoundPass s (Ended o) = Unit {0}
+SoundPass s (PassEnded o) = Unit {0}
 
--- A pass at a label is not before a line.
-abbrev pub NotBefore : ℕ → Pass → Type 0
-NotBefore line (AtLabel p) = line ≤ p .line
-NotBefore line (Ended o) = Unit {0}
-
--- From where the walk may go on.
-pub record ScanFrom (s : List ℕ) (at line labels words : ℕ) : Type 0 where
+-- From where the walk may read on.
+pub record Scannable (s : List ℕ) (c : Cursor) : Type 0 where
   pub short : length s ≤ most-bytes
-  pub in-text : at ≤ length s
-  pub few-lines : line ≤ at + 1
-  pub few-labels : labels + 1 ≤ line
-  pub few-words : words ≤ 32768
+  pub in-text : c .at ≤ length s
+  pub few-lines : c .line ≤ c .at + 1
+  pub few-labels : c .labels + 1 ≤ c .line
+  pub few-words : c .words ≤ 32768
 
--- Where it comes to from there: to the next label, after the place, or to its end.
-pub record Scans (s : List ℕ) (at line labels words : ℕ) (setup : Settings) (p : Pass) : Type 0 where
-  pub stands : (room : ℕ) (ls : List Meant) → labels ≡ length ls → Reached s room line at ls words setup → Progress s room ls p
+abbrev pub ScannableNext : List ℕ → Next → Type 0
+ScannableNext s (From c) = Scannable s c
+ScannableNext s (NextEnded o) = Unit {0}
+
+-- A label is reached from a line before it, or its own; none is reached from the end.
+abbrev pub After : Next → Pass → Type 0
+After (From c) (AtLabel p) = c .line ≤ p .line
+After (From c) (PassEnded o) = Unit {0}
+After (NextEnded o) (AtLabel p) = ⊥
+After (NextEnded o) (PassEnded o′) = Unit {0}
+
+-- The walk reads on: to the next label, or to its end.
+pub record ReadsOn (s : List ℕ) (n : Next) (p : Pass) : Type 0 where
+  pub stands : (room : ℕ) (ls : List Meant) → Resumes s room ls n → Progress s room ls p
   pub sound : SoundPass s p
-  pub after : NotBefore line p
+  pub after : After n p
 
 -- The walk from the first line on.
-pub record Begins (s : List ℕ) (p : Pass) : Type 0 where
-  pub stands : (room : ℕ) → Progress s room [] p
-  pub sound : SoundPass s p
+pub record Begins (s : List ℕ) (n : Next) : Type 0 where
+  pub stands : (room : ℕ) → Resumes s room [] n
+  pub sound : ScannableNext s n
 
 -- The labels after an attempt to enter one.
 abbrev pub withEntry : Entered → List Meant → Meant → List Meant
@@ -191,18 +210,17 @@ withEntry Full ls l = ls
 abbrev pub labelAt : List ℕ → LabelLine → Meant
 labelAt s p = record { spelling = spelled s (p .label); start = p .label .start; address = p .label .address }
 
--- There is no label after a refused one.
-abbrev pub OnlyAfter : Entered → Pass → Type 0
-OnlyAfter e (AtLabel p) = e ≡ New
-OnlyAfter e (Ended o) = Unit {0}
+-- A line that is read next is after that of the label, which has been entered.
+abbrev pub Follows : LabelLine → Entered → Next → Type 0
+Follows p e (From c) = (p .line < c .line) × (e ≡ New)
+Follows p e (NextEnded o) = Unit {0}
 
--- The walk after a label, as document 01 has it entered: "4 duplicate label; 5 new label, table full".
-pub record GoesOn (s : List ℕ) (p : LabelLine) (e : Entered) (r : Pass) : Type 0 where
+-- What follows a label, as document 01 has it entered: "4 duplicate label; 5 new label, table full".
+pub record GoesOn (s : List ℕ) (p : LabelLine) (e : Entered) (n : Next) : Type 0 where
   pub stands : (room : ℕ) (ls : List Meant) → LabelNext s room ls p → enteredMeant e ≡ entryFault (isKnown ls (spelled s (p .label))) (ltb (length ls) room)
-      → Progress s room (withEntry e ls (labelAt s p)) r
-  pub sound : SoundPass s r
-  pub after : NotBefore (p .line + 1) r
-  pub entered : OnlyAfter e r
+      → Resumes s room (withEntry e ls (labelAt s p)) n
+  pub sound : ScannableNext s n
+  pub follows : Follows p e n
 
 -- ---- the second walk
 

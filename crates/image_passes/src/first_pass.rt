@@ -6,15 +6,30 @@ ghost use lib.ListN.{length, take};
 ghost use lib.Dec.{ltb};
 ghost use Rattle.text.specs.Lines.{lines};
 ghost use Rattle.image.specs.Assembling.{rustLine, most-bytes};
-ghost use Rattle.image.specs.Contracts.{settingsMeant};
 ghost use Rattle.image_line.specs.Contracts.{Tables};
-ghost use Rattle.image_passes.specs.Contracts.{refusedPass, finishedPass, oneMore, restOf, labelPass, Sound, ScanFrom, Scans, Begins, GoesOn};
+ghost use Rattle.image_passes.specs.Contracts.{refusedAt, finishedWith, oneMore, restOf, labelPass, Sound, Scannable, ScannableNext, ReadsOn, Begins, GoesOn};
+ghost use Rattle.image_passes.specs.declared.first_pass.Next.the-variants.{From};
 use image::config::Config;
 use image_labels::label::Entered;
 use image_labels::label::Label;
 use image_line::line::Effect;
 
-// Where the first walk stands: at a label that is to be entered, or at its end.
+// What the first walk does next: it reads on from a line, or it has ended.
+pub enum Next {
+    From(Cursor),
+    Ended(Outcome),
+}
+
+// A line that is to be read: where it begins, its number, and the labels, words and settings before it.
+pub struct Cursor {
+    pub at: usize,
+    pub line: usize,
+    pub labels: usize,
+    pub words: usize,
+    pub config: Config,
+}
+
+// Where the first walk comes to as it reads on: to a label that is to be entered, or to its end.
 pub enum Pass {
     AtLabel(LabelLine),
     Ended(Outcome),
@@ -87,30 +102,34 @@ fn rust_line(number: u8, line: usize) -> usize
 }
 
 // The walk ends with a refusal.
-fn stopped(number: u8, rust_line: usize, line: usize, labels: usize) -> Pass
-    ensures { λ r. ⌜ r ≡ refusedPass number «rust_line» line labels ⌝ }
+fn stopped(number: u8, rust_line: usize, line: usize, labels: usize) -> Outcome
+    ensures { λ r. ⌜ r ≡ refusedAt number «rust_line» line labels ⌝ }
 {
-    let verdict = Verdict::Refused {
-        number,
-        rust_line,
-        line,
-    };
-    Pass::Ended(Outcome { labels, verdict })
+    Outcome {
+        labels,
+        verdict: Verdict::Refused {
+            number,
+            rust_line,
+            line,
+        },
+    }
 }
 
 // The walk ends with the refusal of a line.
-fn stopped_at(number: u8, line: usize, labels: usize) -> Pass
-    ensures { λ r. ⌜ r ≡ refusedPass number (rustLine number line) line labels ⌝ }
+fn stopped_at(number: u8, line: usize, labels: usize) -> Outcome
+    ensures { λ r. ⌜ r ≡ refusedAt number (rustLine number line) line labels ⌝ }
 {
     stopped(number, rust_line(number, line), line, labels)
 }
 
 // The walk ends after the last line.
-fn finished(labels: usize, words: usize, config: Config) -> Pass
-    ensures { λ r. ⌜ r ≡ finishedPass labels words config ⌝ }
+fn finished(labels: usize, words: usize, config: Config) -> Outcome
+    ensures { λ r. ⌜ r ≡ finishedWith labels words config ⌝ }
 {
-    let verdict = Verdict::Finished { words, config };
-    Pass::Ended(Outcome { labels, verdict })
+    Outcome {
+        labels,
+        verdict: Verdict::Finished { words, config },
+    }
 }
 
 // A line with an instruction, which is refused if it is the 32,769th (22).
@@ -171,41 +190,37 @@ fn at_label(
     })
 }
 
-// The walk goes on from the line that begins at `from` to the next label or the end.
+// Reads on from a line to the next label or the end.
 fn scan(
     source: &[u8],
-    from: usize,
-    first: usize,
-    labels: usize,
-    before: usize,
-    settings: Config,
+    from: Cursor,
     mnemonics: &[u64; 50],
     forms: &[u8; 50],
     slots: &[u8; 293],
 ) -> Pass
-    requires { ⌜ ScanFrom (now source) from first labels before ⌝ ∗ ⌜ Tables (now mnemonics) (now forms) (now slots) ⌝ }
-    ensures { λ r. ⌜ Scans (now (source .entry)) from first labels before (settingsMeant settings) r ⌝ }
+    requires { ⌜ Scannable (now source) from ⌝ ∗ ⌜ Tables (now mnemonics) (now forms) (now slots) ⌝ }
+    ensures { λ r. ⌜ ReadsOn (now (source .entry)) (From from) r ⌝ }
 {
-    let mut at = from;
-    let mut line = first;
-    let mut words = before;
-    let mut config = settings;
+    let mut at = from.at;
+    let mut line = from.line;
+    let mut words = from.words;
+    let mut config = from.config;
     loop {
         let read = image_line::line::read_line(source, at, config, mnemonics, forms, slots);
         let effect = read.effect;
         let rest = rest_of(effect, words, config, read.end);
         if read.labelled {
-            return at_label(read.start, read.length, words, line, labels, rest);
+            return at_label(read.start, read.length, words, line, from.labels, rest);
         }
         match rest {
-            Rest::Refused(number) => return stopped_at(number, line, labels),
+            Rest::Refused(number) => return Pass::Ended(stopped_at(number, line, from.labels)),
             Rest::Done {
                 words: more,
                 config: changed,
                 end,
             } => {
                 if source.len() <= end {
-                    return finished(labels, more, changed);
+                    return Pass::Ended(finished(from.labels, more, changed));
                 }
                 words = more;
                 config = changed;
@@ -216,6 +231,24 @@ fn scan(
     }
 }
 
+// Reads on to the next label or the end, unless the walk has ended. `scan` is called here alone, so that it is compiled in line: a pass
+// that goes through memory costs half as much again as all that is done for a label.
+pub fn read_on(
+    source: &[u8],
+    next: Next,
+    mnemonics: &[u64; 50],
+    forms: &[u8; 50],
+    slots: &[u8; 293],
+) -> Pass
+    requires { ⌜ ScannableNext (now source) next ⌝ ∗ ⌜ Tables (now mnemonics) (now forms) (now slots) ⌝ }
+    ensures { λ r. ⌜ ReadsOn (now (source .entry)) next r ⌝ }
+{
+    match next {
+        Next::Ended(outcome) => Pass::Ended(outcome),
+        Next::From(from) => scan(source, from, mnemonics, forms, slots),
+    }
+}
+
 // Whether a source is refused for its length (1). This is asked before anything else is done for it.
 pub fn too_long(source: &[u8]) -> bool
     ensures { λ r. ⌜ r ≡ ltb most-bytes (length (now (source .entry))) ⌝ }
@@ -223,55 +256,50 @@ pub fn too_long(source: &[u8]) -> bool
     1048576 < source.len()
 }
 
-// The walk from a source's first line to the first label or the end: 2, then the lines.
-pub fn begin(source: &[u8], mnemonics: &[u64; 50], forms: &[u8; 50], slots: &[u8; 293]) -> Pass
-    requires { ⌜ Tables (now mnemonics) (now forms) (now slots) ⌝ ∗ ⌜ length (now source) ≤ most-bytes ⌝ }
+// The first line of a source, unless it is refused before any line (2).
+pub fn begin(source: &[u8]) -> Next
+    requires { ⌜ length (now source) ≤ most-bytes ⌝ }
     ensures { λ r. ⌜ Begins (now (source .entry)) r ⌝ }
 {
     let clean = text_lexical::bytes::ascii_end(source, 0);
     if clean < source.len() {
-        return stopped(2, 0, line_number(source, clean), 0);
+        return Next::Ended(stopped(2, 0, line_number(source, clean), 0));
     }
-    scan(source, 0, 1, 0, 0, Config::begin(), mnemonics, forms, slots)
+    Next::From(Cursor {
+        at: 0,
+        line: 1,
+        labels: 0,
+        words: 0,
+        config: Config::begin(),
+    })
 }
 
-// The walk after a label that has been entered, or refused: the label's refusal, that of its line, or the lines after it.
-pub fn go_on(
-    source: &[u8],
-    at: LabelLine,
-    entered: Entered,
-    mnemonics: &[u64; 50],
-    forms: &[u8; 50],
-    slots: &[u8; 293],
-) -> Pass
-    requires { ⌜ Sound (now source) at ⌝ ∗ ⌜ Tables (now mnemonics) (now forms) (now slots) ⌝ }
+// What follows a label that has been entered, or refused: the label's refusal, that of its line, the next line or the end.
+pub fn go_on(source: &[u8], at: LabelLine, entered: Entered) -> Next
+    requires { ⌜ Sound (now source) at ⌝ }
     ensures { λ r. ⌜ GoesOn (now (source .entry)) at entered r ⌝ }
 {
     let line = at.line;
     match entered {
-        Entered::Duplicate => return stopped_at(4, line, at.labels),
-        Entered::Full => return stopped_at(5, line, at.labels),
+        Entered::Duplicate => return Next::Ended(stopped_at(4, line, at.labels)),
+        Entered::Full => return Next::Ended(stopped_at(5, line, at.labels)),
         Entered::New => {}
     }
     let labels = at.labels + 1;
     let rest = at.rest;
     match rest {
-        Rest::Refused(number) => stopped_at(number, line, labels),
+        Rest::Refused(number) => Next::Ended(stopped_at(number, line, labels)),
         Rest::Done { words, config, end } => {
             if source.len() <= end {
-                return finished(labels, words, config);
+                return Next::Ended(finished(labels, words, config));
             }
-            scan(
-                source,
-                end + 1,
-                line + 1,
+            Next::From(Cursor {
+                at: end + 1,
+                line: line + 1,
                 labels,
                 words,
                 config,
-                mnemonics,
-                forms,
-                slots,
-            )
+            })
         }
     }
 }

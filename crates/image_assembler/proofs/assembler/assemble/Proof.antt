@@ -69,13 +69,8 @@ use Rattle.image_labels.specs.Tree.{Bare}
 use Rattle.image_labels.specs.declared.label.Label.{Label}
 use Rattle.image_labels.proofs.label.Label as L
 use Rattle.image_labels.proofs.label.Label.Laws as L′
-use Rattle.image_passes.specs.Contracts.{overlong}
-use Rattle.image_labels.proofs.Again.{lends, ends}
-use Rattle.image_labels.proofs.Arrays.{Front, lends-front, front-back}
-use Rattle.image_labels.proofs.Calls.{Known, calls-to, asks-nothing}
-use Rattle.image_labels.proofs.Facts.{says-both}
-use Rattle.image_labels.proofs.Locals.{Locals, frees-all}
 use Rattle.image_line.specs.Contracts.{Tables as Listed}
+use Rattle.image_passes.specs.Contracts.{overlong}
 use Rattle.image_passes.specs.declared.second_pass.Assembled.{Assembled}
 use Rattle.image_passes.proofs.second_pass.Assembled as R
 use Rattle.image_passes.proofs.second_pass.Assembled.Laws as R′

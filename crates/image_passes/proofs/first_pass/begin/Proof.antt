@@ -7,7 +7,7 @@ use borrow.Author.Needs.{needs}
 use Rattle.text_lexical.specs.Bytes.{ascii, run}
 use Rattle.text.specs.Lines.{lines}
 use Rattle.image.specs.Assembling.{most-bytes}
-use Rattle.image_passes.proofs.Answers.{begins-high, begins-scan}
+use Rattle.image_passes.proofs.Answers.{begins-high, begins-first}
 use Rattle.image_passes.proofs.first_pass.begin.Statement.{statement}
 use Rattle.image_passes.proofs.first_pass.begin.Tie as tie
 
@@ -17,7 +17,7 @@ clean c = c .ascii-end .ensures ∙ omega arith
 
 -- it is not too long
 short : (c : tie.After-ascii-end) → length (c .before .before .args .source .now) ≤ most-bytes
-short c = c .before .before .pre .1
+short c = c .before .before .pre
 
 ascii-end-requires : tie.Need-ascii-end-requires
 ascii-end-requires c κs = search needs
@@ -38,16 +38,10 @@ returns c =
 begin-requires : tie.Need-begin-requires
 begin-requires c κs = search needs
 
-scan-requires : tie.Need-scan-requires
-scan-requires c κs =
-    let r = c .before .before in
-    (record { short = short r; in-text = omega arith; few-lines = omega arith; few-labels = omega arith; few-words = omega arith }, r .before .before .pre .0)
-
 returns-2 : tie.Need-returns-2
 returns-2 c =
-    let b = c .before in
-    let r = b .before .before in
-    begins-scan (short r) (b .begin .result) (b .begin .ensures) (rw (← clean r) (b .before .if1 .left)) (c .scan .ensures)
+    let r = c .before .before in
+    begins-first (short r) (c .begin .result) (c .begin .ensures) (rw (← clean r) (c .before .if1 .left))
 
 pub begin-spec : {M : Type 1} → statement M
-begin-spec = tie.close (tie.spec ascii-end-requires line-number-requires stopped-requires returns begin-requires scan-requires returns-2)
+begin-spec = tie.close (tie.spec ascii-end-requires line-number-requires stopped-requires returns begin-requires returns-2)

@@ -2,7 +2,7 @@
 use native.Mathlib.Omega.{arith}
 use borrow.Author.Needs.{needs}
 use Rattle.image.specs.Assembling.{most-bytes}
-use Rattle.image_passes.proofs.Scanning.{goes-duplicate, goes-full, goes-refused, goes-last, goes-from, goes-scan}
+use Rattle.image_passes.proofs.Scanning.{goes-duplicate, goes-full, goes-refused, goes-last, goes-line}
 use Rattle.image_passes.proofs.first_pass.go_on.Statement.{statement}
 use Rattle.image_passes.proofs.first_pass.go_on.Tie as tie
 
@@ -30,7 +30,7 @@ enum-told-3 c = search needs
 add-labels : tie.Need-add-labels
 unfolding most-bytes
 add-labels c =
-    let d = c .before .before .before .before .pre .0 in
+    let d = c .before .before .before .before .pre in
     omega (arith, d .few-labels, d .line-fits, d .short)
 
 enum-known-rest : tie.Need-enum-known-rest
@@ -50,23 +50,17 @@ returns-3 c =
     let f = c .before .before .before in
     rw (c .finished .ensures, f .before .before .before .enum-told3 .given .1) (goes-last (f .rest2 .given .1) (c .before .if1 .taken))
 
-add-scan : tie.Need-add-scan
+add-t15 : tie.Need-add-t15
 unfolding most-bytes
-add-scan c =
-    let d = c .before .before .before .before .before .before .before .before .pre .0 in
+add-t15 c =
+    let d = c .before .before .before .before .before .before .before .before .pre in
     omega (arith, c .if1 .left, d .short)
 
-add-scan-2 : tie.Need-add-scan-2
+add-t18 : tie.Need-add-t18
 unfolding most-bytes
-add-scan-2 c =
-    let d = c .before .before .before .before .before .before .before .before .pre .0 in
+add-t18 c =
+    let d = c .before .before .before .before .before .before .before .before .pre in
     omega (arith, d .line-fits, d .short)
-
-scan-requires : tie.Need-scan-requires
-scan-requires c κs =
-    let f = c .before .before in
-    let p = f .before .before .before .before .before .before .pre in
-    (goes-from (f .rest2 .given .1) (p .0) (omega (arith, c .if1 .left)), p .1)
 
 returns-4 : tie.Need-returns-4
 returns-4 c =
@@ -75,8 +69,9 @@ returns-4 c =
 
 returns-5 : tie.Need-returns-5
 returns-5 c =
-    let f = c .before .before .before in
-    rw (f .before .before .before .enum-told3 .given .1) (goes-scan (f .rest2 .given .1) (omega (arith, c .before .if1 .left)) (c .scan .ensures))
+    let f = c .before .before in
+    let t = f .before .before .before in
+    rw (t .enum-told3 .given .1) (goes-line (f .rest2 .given .1) (t .before .before .before .pre) (omega (arith, c .if1 .left)))
 
 pub go-on-spec : {M : Type 1} → statement M
 go-on-spec =
@@ -95,8 +90,7 @@ go-on-spec =
     enum-known-rest-2
     finished-requires
     returns-3
-    add-scan
-    add-scan-2
-    scan-requires
+    add-t15
+    add-t18
     returns-4
     returns-5)

@@ -12,30 +12,30 @@ use Rattle.image_passes.proofs.first_pass.scan.Statement.{statement}
 use Rattle.image_passes.proofs.first_pass.scan.Tie as tie
 
 abbrev Inv-loop : tie.InvT-loop
-Inv-loop source from first labels before mnemonics forms slots at₀ line₀ words₀ config₀ at line words config =
-    Scanning source from first labels before (settingsMeant config₀) at line words config
+Inv-loop source from mnemonics forms slots at₀ line₀ words₀ config₀ at line words config =
+    Scanning source from at line words config
 
 abbrev μ-loop : tie.MeasureT-loop
-μ-loop source from first labels before mnemonics forms slots at₀ line₀ words₀ config₀ at line words config =
+μ-loop source from mnemonics forms slots at₀ line₀ words₀ config₀ at line words config =
     length source - at
 
 loop-holds : tie.Need-loop-holds Inv-loop μ-loop
-loop-holds c = scanning-none (c .before .pre .0)
+loop-holds c = scanning-none (c .before .before .pre .0)
 
 read-line-requires : tie.Need-read-line-requires Inv-loop μ-loop
 read-line-requires c κs =
-    (c .loop .inv .safe .in-text, c .before .before .pre .1)
+    (c .loop .inv .safe .in-text, c .before .before .before .pre .1)
 
 rest-of-requires : tie.Need-rest-of-requires Inv-loop μ-loop
 rest-of-requires c κs = search needs
 
 -- what the line comes to, its label aside
-came : (c : tie.After-rest-of Inv-loop μ-loop) → let l = c .before .before .loop in let a = c .before .before .before .before .args in
+came : (c : tie.After-rest-of Inv-loop μ-loop) → let l = c .before .before .loop in let a = c .before .before .before .before .before .args in
     RestIs (a .source .now) (l .at) (l .words) (settingsMeant (l .config)) (c .rest-of .result)
 came c =
     let r = c .before in
     let l = r .before .loop in
-    rw (c .rest-of .ensures) (rest-is (r .before .before .before .args .source .now) (l .at) (l .words) (l .config) (r .read-line .result) (r .read-line .ensures))
+    rw (c .rest-of .ensures) (rest-is (r .before .before .before .before .args .source .now) (l .at) (l .words) (l .config) (r .read-line .result) (r .read-line .ensures))
 
 -- and that it leaves room
 fits : (c : tie.After-rest-of Inv-loop μ-loop) → RestFits (c .before .before .loop .line) (c .rest-of .result)
@@ -43,7 +43,7 @@ fits c =
     let r = c .before in
     let l = r .before .loop in
     rw (c .rest-of .ensures)
-    (rest-fits (r .before .before .before .args .source .now) (l .at) (l .words) (l .config) (r .read-line .result) (r .read-line .ensures) (l .line) (l .inv .safe .few-lines) (l .inv .safe .few-words))
+    (rest-fits (r .before .before .before .before .args .source .now) (l .at) (l .words) (l .config) (r .read-line .result) (r .read-line .ensures) (l .line) (l .inv .safe .few-lines) (l .inv .safe .few-words))
 
 at-label-requires : tie.Need-at-label-requires Inv-loop μ-loop
 at-label-requires c κs = c .before .before .before .loop .inv .safe .few-words
