@@ -1,9 +1,9 @@
--- A line's mnemonic by its key, and the line that it begins.
+-- The key of a word, labels, and the line that a label, a mnemonic and its operands make.
 use Prim.Native.Nat.{ℕ, suc, _+_, _-_, _*_, _^_, _≤_, _<_}
 use mathlib.Core.Path.{_≡_, refl, sym, ap, _∙_}
 use native.Mathlib.Nat.{pow-suc, mul-add, mul-assoc, mul-comm, mul-le-mul-right}
 use native.Mathlib.Omega.{arith}
-use mathlib.Core.Bool.{Bool, true, false, not, and-eq-true-iff, true≢false}
+use mathlib.Core.Bool.{true, false, not, and-eq-true-iff, true≢false}
 use mathlib.Core.Option.{Option, none, some}
 use mathlib.Core.List.{List, [], _∷_, _++_, map, map-append}
 use lib.ListN.{length, drop, getD, length-map, length-take, length-drop, List·getD-eq-default}
@@ -34,13 +34,14 @@ use Rattle.instruction.proofs.Columns.{form-numbered}
 use Rattle.instruction_operands.proofs.Line.{six-places, below-part, named-by-key}
 use Rattle.image.specs.Assembling.{plain, identifierKind, kindOf, Context, nothing, codes, coding, afterLabel, readKind, readOn}
 use Rattle.image_line.specs.Contracts.{Reads, TailIs, wordEnd, part, WordIs, isLabel, Labels, OptionalLabel, without, with-label, WordAfter, InTable, readMeant, endOf, LineIs, ReadsAs}
+use Rattle.image_line.specs.declared.fast.LabelPart.{LabelPart}
 use Rattle.image_line.specs.declared.line.Effect.the-variants.{Nothing, Codes}
 use Rattle.image_line.specs.declared.line.Read.{Read}
 use Rattle.image_line.proofs.Places.{stepped-reads, run-to, every-more, colon-reads, blanks-after}
 
 -- ---- the key of a word, from its first byte on
 
--- A byte more behind a spelling.
+-- A byte more after a spelling.
 packed-more : (u : List ℕ) (b : ℕ) → packed (u ++ (b ∷ [])) + 256 ^ length u ≡ packed u + 256 ^ length u * (b + 256)
 unfolding packed
 packed-more [] b = omega arith
@@ -134,7 +135,7 @@ spelling-ends s at sum scale i q l g start =
     })
     (λ ge. let e : i ≡ at = omega (arith, q .on) in no-both (start-part (getD s at 0) start) (rw e at (g (omega arith))))
 
--- It goes on behind seven bytes.
+-- It goes on after seven bytes.
 pub spelling-long : (s : List ℕ) (at sum scale i end : ℕ) → Spelling s at sum scale i → i < length s → 7 ≤ i - at → namePart (getD s i 0) ≡ true → end ≡ i + run namePart (drop i s)
     → WordIs s at (record { key = 0; end = end })
 unfolding keyOf
@@ -200,7 +201,7 @@ module _ (s : List ℕ) (at end : ℕ) (l : at < length s) (start : nameStart (g
       let (in-table, n) : (i < 50) × (rowNamed (map lower u) ≡ some (rowAt i)) = rw (← named-by-key u key (below-part at (end - at) s below) k) (rw f at row) in
       (in-table, (n, name-reads (unnamed u (named present u) refl (some-row _ _ n))))
 
-  -- A colon behind a name that is no register's.
+  -- A colon after a name that is no register's.
   pub label-reads : end < length s → getD s end 0 ≡ 58 → nameNumber (named present (part s at (end - at))) ≡ none → Labels s at end (end + 1)
   label-reads h c n = record { name = name-reads n; mark = colon-reads s end h c }
 
@@ -238,28 +239,28 @@ is-label-reads s at end l start ends h =
     (inside-text, label-reads s at end l start ends inside-text (eqb-true (getD s end 0) 58 c) (no-number _ n))
 
 -- The first word of a line, its label aside, whose key is found in a row.
-pub word-row : {s : List ℕ} {start length′ key end : ℕ} {labelled : Bool} (w : WordAfter s start labelled length′ key end) → Below s → (r : Looked) (row : ℕ)
+pub word-row : {s : List ℕ} {start key end : ℕ} {p : LabelPart} (w : WordAfter s start p key end) → Below s → (r : Looked) (row : ℕ)
     → IsRow r (find (λ q. eqb (keyOf (q .mnemonic)) key) table) → r ≡ At row
     → (row < 50) × ((rowNamed (map lower (part s (w .at) (end - w .at))) ≡ some (rowAt row)) × Reads s (w .at) (identifier (part s (w .at) (end - w .at))) end)
 word-row {s} {key = key} {end = end} w below r row is f = mnemonic-reads s (w .at) end (w .in-text) (w .begins) (w .word .ends) key row r below (w .word .key-is) is f
 
-pub word-ends : {s : List ℕ} {start length′ key end : ℕ} {labelled : Bool} → WordAfter s start labelled length′ key end → end ≤ length s
+pub word-ends : {s : List ℕ} {start key end : ℕ} {p : LabelPart} → WordAfter s start p key end → end ≤ length s
 word-ends {s} {end = end} w = word-in s (w .at) end (w .in-text) (w .begins) (w .word .ends)
 
 -- ---- the turns of the loop
 
-pub before-label : {s : List ℕ} {start : ℕ} → OptionalLabel s start false 0 start
+pub before-label : {s : List ℕ} {start : ℕ} → OptionalLabel s start (record { labelled = false; length = 0 }) start
 before-label = without refl refl refl
 
 -- Nothing stands before the first word, so a label there is the line's, and blanks after it are skipped.
-pub after-label : (s : List ℕ) (start length′ at end next : ℕ) (labelled : Bool) → OptionalLabel s start labelled length′ at → labelled ≡ false → at < end → end < length s → Labels s at end (end + 1)
-    → next ≡ end + 1 + run blank (drop (end + 1) s) → OptionalLabel s start true (end - at) next
-after-label s start length′ at end next labelled (without f n a) b h l is q =
+pub after-label : (s : List ℕ) (start at end next : ℕ) (p : LabelPart) → OptionalLabel s start p at → p .labelled ≡ false → at < end → end < length s → Labels s at end (end + 1)
+    → next ≡ end + 1 + run blank (drop (end + 1) s) → OptionalLabel s start (record { labelled = true; length = end - at }) next
+after-label s start at end next p (without f n a) b h l is q =
     let e : at + (end - at) ≡ end = omega arith in
     with-label refl (rw (← a, e) (record { name = is .name; mark = blanks-after s end (end + 1) next colon (is .mark) q }))
-after-label s start length′ at end next labelled (with-label t is′) b h l is q = absurd (true≢false (sym t ∙ b))
+after-label s start at end next p (with-label t is′) b h l is q = absurd (true≢false (sym t ∙ b))
 
-pub label-in : {s : List ℕ} {start length′ at : ℕ} {labelled : Bool} → start ≤ length s → OptionalLabel s start labelled length′ at → at ≤ length s
+pub label-in : {s : List ℕ} {start at : ℕ} {p : LabelPart} → start ≤ length s → OptionalLabel s start p at → at ≤ length s
 label-in l (without f n a) = omega arith
 label-in l (with-label t is) = is .mark .in-text
 
@@ -385,42 +386,47 @@ module _ (s : List ℕ) (from start : ℕ) (l : from ≤ length s) (q : start �
   line-some c r x e reads b u n t k = record { reads = rw e reads; starts = b ∙ content-starts s from start l q .0; unlabelled = u; ends = rw (endOf, e) n; in-text = t; in-table = k }
 
   -- A label alone, or nothing.
-  pub bare-line : (labelled : Bool) (length′ at e : ℕ) → OptionalLabel s start labelled length′ at → tokens present (leftAt s at) ≡ some [] → e ≡ endAt s at
-      → ReadsAs s from (record { labelled = labelled; start = start; length = length′; effect = Nothing; end = e })
-  bare-line labelled length′ at e (without f n a) none-left ends c =
+  pub bare-line : (p : LabelPart) (at e : ℕ) → OptionalLabel s start p at → tokens present (leftAt s at) ≡ some [] → e ≡ endAt s at
+      → ReadsAs s from (record { labelled = p .labelled; start = start; length = p .length; effect = Nothing; end = e })
+  bare-line p at e (without f n a) none-left ends c =
       let t : tokens present (leftAt s start) ≡ some [] = rw a at none-left in
-      rw (f, n) (line-some c (record { labelled = false; start = start; length = 0; effect = Nothing; end = e }) _ (tokens-line s from start [] q t (omega arith)) (sym (read-none c)) refl
+      rw (f, n)
+      (line-some c (record { labelled = false; start = start; length = 0; effect = Nothing; end = e }) _ (tokens-line s from start [] q t (omega arith)) (sym (read-none c)) refl
       (λ _. refl) (ends ∙ ap (endAt s) a ∙ start-ends) (omega (arith, start-in)) tt)
-  bare-line labelled length′ at e (with-label f is) none-left ends c =
-      let v = part s start length′ in
-      let k : start + length′ - start ≡ length′ = omega arith in
+  bare-line p at e (with-label f is) none-left ends c =
+      let v = part s start (p .length) in
+      let k : start + p .length - start ≡ p .length = omega arith in
       let t : tokens present (leftAt s start) ≡ some (identifier v ∷ colon ∷ []) = label-tokens (rw k at (is .name .means)) (is .mark .means) none-left in
-      rw f (line-some c (record { labelled = true; start = start; length = length′; effect = Nothing; end = e }) _ (tokens-line s from start (identifier v ∷ colon ∷ []) q t (omega arith)) (sym (read-label c v)) refl
-      (λ g. absurd (true≢false g)) (ends ∙ is .mark .ends ∙ is .name .ends ∙ start-ends) (is .name .in-text) tt)
+      rw f
+      (line-some c (record { labelled = true; start = start; length = p .length; effect = Nothing; end = e }) _ (tokens-line s from start (identifier v ∷ colon ∷ []) q t (omega arith))
+      (sym (read-label c v)) refl (λ g. absurd (true≢false g)) (ends ∙ is .mark .ends ∙ is .name .ends ∙ start-ends) (is .name .in-text) tt)
 
   -- An instruction, after a label or not.
-  pub instruction-line : (labelled : Bool) (length′ at end form row : ℕ) (u : List ℕ) (o : Kept) (e : ℕ) → OptionalLabel s start labelled length′ at → row < 50 → rowNamed (map lower u) ≡ some (rowAt row)
+  instruction-line : (p : LabelPart) (at end form row : ℕ) (u : List ℕ) (o : Kept) (e : ℕ) → OptionalLabel s start p at → row < 50 → rowNamed (map lower u) ≡ some (rowAt row)
       → Reads s at (identifier u) end → formAt form ≡ rowAt row .form → TailIs s end form o e
-      → ReadsAs s from (record { labelled = labelled; start = start; length = length′; effect = Codes row o; end = e })
-  instruction-line labelled length′ at end form row u o e (without f n a) in-table named-is rd g tail c =
+      → ReadsAs s from (record { labelled = p .labelled; start = start; length = p .length; effect = Codes row o; end = e })
+  instruction-line p at end form row u o e (without f n a) in-table named-is rd g tail c =
       let ts = tail .operands in
       let w = written form row u ts o named-is g (tail .count) (tail .read) in
       let t : tokens present (leftAt s start) ≡ some (identifier u ∷ ts) = rw a at (one-more (rd .means) (tail .means)) in
-      rw (f, n) (line-some c (record { labelled = false; start = start; length = 0; effect = Codes row o; end = e }) _ (tokens-line s from start (identifier u ∷ ts) q t (omega (arith, w .few))) (sym (read-instruction c row o u ts w)) refl
-      (λ _. refl) (tail .ends ∙ rd .ends ∙ ap (endAt s) a ∙ start-ends) (omega (arith, start-in)) in-table)
-  instruction-line labelled length′ at end form row u o e (with-label f is) in-table named-is rd g tail c =
+      rw (f, n)
+      (line-some c (record { labelled = false; start = start; length = 0; effect = Codes row o; end = e }) _ (tokens-line s from start (identifier u ∷ ts) q t (omega (arith, w .few)))
+      (sym (read-instruction c row o u ts w)) refl (λ _. refl) (tail .ends ∙ rd .ends ∙ ap (endAt s) a ∙ start-ends) (omega (arith, start-in)) in-table)
+  instruction-line p at end form row u o e (with-label f is) in-table named-is rd g tail c =
       let ts = tail .operands in
-      let v = part s start length′ in
+      let v = part s start (p .length) in
       let w = written form row u ts o named-is g (tail .count) (tail .read) in
-      let k : start + length′ - start ≡ length′ = omega arith in
+      let k : start + p .length - start ≡ p .length = omega arith in
       let t : tokens present (leftAt s start) ≡ some (identifier v ∷ colon ∷ identifier u ∷ ts) = label-tokens (rw k at (is .name .means)) (is .mark .means) (one-more (rd .means) (tail .means)) in
-      rw f (line-some c (record { labelled = true; start = start; length = length′; effect = Codes row o; end = e }) _ (tokens-line s from start (identifier v ∷ colon ∷ identifier u ∷ ts) q t (omega (arith, w .few)))
+      rw f
+      (line-some c (record { labelled = true; start = start; length = p .length; effect = Codes row o; end = e }) _
+      (tokens-line s from start (identifier v ∷ colon ∷ identifier u ∷ ts) q t (omega (arith, w .few)))
       (sym (read-labelled c row o u ts w v)) refl (λ g. absurd (true≢false g)) (tail .ends ∙ rd .ends ∙ is .mark .ends ∙ is .name .ends ∙ start-ends) (is .name .in-text) in-table)
 
   -- The same by the line's first word and the row that its key is found in.
-  pub word-line : {labelled : Bool} {length′ key end : ℕ} → WordAfter s start labelled length′ key end → Below s → (r : Looked) (row form : ℕ) → IsRow r (find (λ q. eqb (keyOf (q .mnemonic)) key) table) → r ≡ At row
-      → form ≡ formNumber (rowAt row .form) → (o : Kept) (e : ℕ) → TailIs s end form o e
-      → ReadsAs s from (record { labelled = labelled; start = start; length = length′; effect = Codes row o; end = e })
-  word-line {labelled} {length′} {key} {end} w below r row form is f g o e tail =
+  pub word-line : {p : LabelPart} {key end : ℕ} → WordAfter s start p key end → Below s → (r : Looked) (row form : ℕ)
+      → IsRow r (find (λ q. eqb (keyOf (q .mnemonic)) key) table) → r ≡ At row → form ≡ formNumber (rowAt row .form) → (o : Kept) (e : ℕ) → TailIs s end form o e
+      → ReadsAs s from (record { labelled = p .labelled; start = start; length = p .length; effect = Codes row o; end = e })
+  word-line {p} {key} {end} w below r row form is f g o e tail =
       let (in-table, (named-is, rd)) = word-row w below r row is f in
-      instruction-line labelled length′ (w .at) end form row _ o e (w .label) in-table named-is rd (ap formAt g ∙ form-numbered (rowAt row .form)) tail
+      instruction-line p (w .at) end form row _ o e (w .label) in-table named-is rd (ap formAt g ∙ form-numbered (rowAt row .form)) tail

@@ -1,4 +1,4 @@
--- A token at a place of a line, as the straight readers find it.
+-- A token at a place of a line, as the fast path finds it.
 use Prim.Native.Nat.{ℕ, suc, _+_, _-_, _≤_, _<_}
 use mathlib.Core.Path.{_≡_, refl, sym, ap, _∙_}
 use native.Mathlib.Omega.{arith}

@@ -29,7 +29,7 @@ use Rattle.image.specs.Settings.{configured}
 use Rattle.image.specs.Assembling.{next, Kind, empty, labelled, config, ignored, plain, identifierKind, kindOf, Context, nothing, setting, coding, afterLabel, readKind, readOn}
 use Rattle.image.specs.Assembling.{Effect as MeantEffect}
 use Rattle.image.specs.Contracts.{recordMeant}
-use Rattle.image_line.specs.Contracts.{effectMeant, InTable, endOf, LineIs, Recorded, RecordIs}
+use Rattle.image_line.specs.Contracts.{effectMeant, InTable, EffectIs, endOf, LineIs, Recorded, RecordIs}
 use Rattle.image_line.specs.declared.line.Effect.{Effect}
 use Rattle.image_line.specs.declared.line.Effect.the-variants.{Nothing, Faulty}
 use Rattle.image_line.specs.declared.line.Read.{Read}
@@ -45,7 +45,7 @@ module _ (s : List ℕ) (ts : List Token) (count : ℕ) where
   firsts-length : length (firsts s ts count) ≤ count
   firsts-length = rw (length-map (take count ts) (meant s), length-take count ts) (omega arith)
 
-  -- Behind some of them, the next one and what is behind it.
+  -- After some of them, the next one and what follows it.
   pub token-at : (i : ℕ) → i < count → i < length ts → drop i (firsts s ts count) ≡ meant s (getD ts i filler) ∷ drop (suc i) (firsts s ts count)
   token-at i h l =
       let n : i < length (firsts s ts count) = rw (length-map (take count ts) (meant s), length-take count ts) (omega arith) in
@@ -68,7 +68,7 @@ module _ (s : List ℕ) (ts : List Token) (count : ℕ) where
     unfolding kindOf identifierKind
     kind-alone u e h = first-is plain (rw (e, tokens-end 1 (omega arith)))
 
-    -- One with a token behind it.
+    -- One with a token after it.
     pub kind-second : (u : List ℕ) (k : Kind) → meant s (getD ts 0 filler) ≡ identifier u → 2 ≤ count
         → k ≡ elim (eqb (markByte (meant s (getD ts 1 filler))) 58) [ true ↦ labelled u | false ↦ plain ] → k ≡ kindOf (firsts s ts count)
     unfolding kindOf identifierKind
@@ -80,7 +80,7 @@ module _ (s : List ℕ) (ts : List Token) (count : ℕ) where
     unfolding kindOf
     kind-directive d b e g = first-is (elim b [ true ↦ config | false ↦ ignored ]) (rw (e, kindOf, g))
 
-    -- One whose spelling stands in the text, by what is behind its point.
+    -- One whose spelling stands in the text, by what follows its point.
     pub kind-spelled : (t : Token) (b : Bool) → t ≡ getD ts 0 filler → t .kind ≡ Directive → 0 < t .length → t .start + t .length ≤ length s
         → b ≡ same (take (t .start + t .length - (t .start + 1)) (drop (t .start + 1) s)) (bytes "config")
         → elim b [ true ↦ config | false ↦ ignored ] ≡ kindOf (firsts s ts count)
@@ -121,7 +121,7 @@ module _ (s : List ℕ) (l : Line) where
 module _ (s : List ℕ) (l : Line) (c : Context) where
   -- A line with the label that it begins with.
   pub record-labelled : Recorded s l → 2 ≤ l .count → labelled (spelling s (getD (l .tokens) 0 filler)) ≡ kindOf (firsts s (l .tokens) (l .count))
-      → (e : Effect) → effectMeant e ≡ afterLabel (behind 2 (recordMeant s l)) → InTable e
+      → (e : Effect) → EffectIs e (afterLabel (behind 2 (recordMeant s l)))
       → RecordIs s l (getD (l .tokens) 0 filler .start) c
       (record {
         labelled = true;
@@ -131,14 +131,14 @@ module _ (s : List ℕ) (l : Line) (c : Context) where
         end = l .end;
       })
   unfolding readOn readKind
-  record-labelled t some-tokens is-label e q i =
+  record-labelled t some-tokens is-label e q =
       record {
-        reads = ap (λ (x : MeantEffect). record { label = some (spelling s (getD (l .tokens) 0 filler)); effect = x }) q ∙ ap (readKind c (recordMeant s l)) is-label;
+        reads = ap (λ (x : MeantEffect). record { label = some (spelling s (getD (l .tokens) 0 filler)); effect = x }) (q .means) ∙ ap (readKind c (recordMeant s l)) is-label;
         starts = refl;
         unlabelled = λ f. absurd (true≢false f);
         ends = refl;
         in-text = t .kept .inside-text 0;
-        in-table = i;
+        in-table = q .in-table;
       }
 
   -- A line without a label, whose content starts at a place.
@@ -162,17 +162,17 @@ module _ (s : List ℕ) (l : Line) (c : Context) where
     record-ignored e = record-bare Nothing ignored e refl tt
 
     -- A `.config` line.
-    pub record-config : (e : Effect) → config ≡ kindOf (firsts s (l .tokens) (l .count)) → effectMeant e ≡ setting (configured (c .setup) (recordMeant s l)) → InTable e
+    pub record-config : (e : Effect) → config ≡ kindOf (firsts s (l .tokens) (l .count)) → EffectIs e (setting (configured (c .setup) (recordMeant s l)))
         → RecordIs s l start c (bare e)
     unfolding readKind
-    record-config e h q t = record-bare e config h (ap (λ (x : MeantEffect). record { label = none; effect = x }) q) t
+    record-config e h q = record-bare e config h (ap (λ (x : MeantEffect). record { label = none; effect = x }) (q .means)) (q .in-table)
 
     -- An instruction.
-    pub record-plain : (e : Effect) → plain ≡ kindOf (firsts s (l .tokens) (l .count)) → effectMeant e ≡ coding (readInstruction (behind 0 (recordMeant s l))) → InTable e
+    pub record-plain : (e : Effect) → plain ≡ kindOf (firsts s (l .tokens) (l .count)) → EffectIs e (coding (readInstruction (behind 0 (recordMeant s l))))
         → RecordIs s l start c (bare e)
     unfolding readKind
-    record-plain e h q t =
-        record-bare e plain h (ap (λ (x : MeantEffect). record { label = none; effect = x }) (q ∙ ap coding (behind-none (recordMeant s l)))) t
+    record-plain e h q =
+        record-bare e plain h (ap (λ (x : MeantEffect). record { label = none; effect = x }) (q .means ∙ ap coding (behind-none (recordMeant s l)))) (q .in-table)
 
 -- 1 for a label, 0 for other kinds.
 abbrev labels : Kind → ℕ

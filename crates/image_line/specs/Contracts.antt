@@ -42,6 +42,7 @@ use Rattle.image_line.specs.declared.fast.OperandAt.the-variants.{Regist
 use Rattle.image_line.specs.declared.fast.Tail.{Tail}
 use Rattle.image_line.specs.declared.fast.Tail.the-variants.{Are, Other as NoTail}
 use Rattle.image_line.specs.declared.fast.Word.{Word}
+use Rattle.image_line.specs.declared.fast.LabelPart.{LabelPart}
 use Rattle.image_line.specs.declared.fast.FirstWord.{FirstWord}
 use Rattle.image_line.specs.declared.fast.FirstWord.the-variants.{Is as IsWord, Missing as NoWord}
 use Rattle.image_line.specs.declared.fast.Fast.{Fast}
@@ -101,7 +102,7 @@ pub data Ahead : List Place → ℕ → Type 0 where
   register-last : {bit left : ℕ} → left ≡ 4 → Ahead (reg bit ∷ []) left
   number-last : {bit width left : ℕ} {signed : Bool} → left ≡ 5 → Ahead (num bit width signed ∷ []) left
 
--- Whether such a digit is a number's, and the mark behind its operand; 0: none.
+-- Whether such a digit is a number's, and the mark after its operand; 0: none.
 unfoldable pub isNumber : ℕ → Bool
 isNumber d = eqb d 2 || eqb d 5
 
@@ -166,26 +167,26 @@ pub record Labels (s : List ℕ) (at end next : ℕ) : Type 0 where
   pub mark : Reads s end colon next
 
 -- What stands between the start of a line's content and a place: nothing, or a label.
-pub data OptionalLabel (s : List ℕ) (start : ℕ) (labelled : Bool) (length at : ℕ) : Type 0 where
-  without : labelled ≡ false → length ≡ 0 → at ≡ start → OptionalLabel s start labelled length at
-  with-label : labelled ≡ true → Labels s start (start + length) at → OptionalLabel s start labelled length at
+pub data OptionalLabel (s : List ℕ) (start : ℕ) (l : LabelPart) (at : ℕ) : Type 0 where
+  without : l .labelled ≡ false → l .length ≡ 0 → at ≡ start → OptionalLabel s start l at
+  with-label : l .labelled ≡ true → Labels s start (start + l .length) at → OptionalLabel s start l at
 
--- The first word of a line, its label aside.
-pub record WordAfter (s : List ℕ) (start : ℕ) (labelled : Bool) (length′ key end : ℕ) : Type 0 where
+-- The first word of a line, its label aside;
+pub record WordAfter (s : List ℕ) (start : ℕ) (l : LabelPart) (key end : ℕ) : Type 0 where
   pub at : ℕ
-  pub label : OptionalLabel s start labelled length′ at
+  pub label : OptionalLabel s start l at
   pub in-text : at < length s
   pub begins : nameStart (getD s at 0) ≡ true
   pub word : WordIs s at (record { key = key; end = end })
 
--- The place of that word, or one where no word begins.
-pub record NoWordAfter (s : List ℕ) (start : ℕ) (labelled : Bool) (length′ at : ℕ) : Type 0 where
-  pub label : OptionalLabel s start labelled length′ at
+-- or the place where none begins.
+pub record NoWordAfter (s : List ℕ) (start : ℕ) (l : LabelPart) (at : ℕ) : Type 0 where
+  pub label : OptionalLabel s start l at
   pub in-text : at ≤ length s
 
 abbrev pub FirstWordIs : List ℕ → ℕ → FirstWord → Type 0
-FirstWordIs s start (IsWord marked length key end) = WordAfter s start marked length key end
-FirstWordIs s start (NoWord marked length at) = NoWordAfter s start marked length at
+FirstWordIs s start (IsWord l key end) = WordAfter s start l key end
+FirstWordIs s start (NoWord l at) = NoWordAfter s start l at
 
 -- ---- what a line reads as
 
@@ -210,6 +211,11 @@ InTable (Codes row o) = row < 50
 InTable Nothing = Unit {0}
 InTable (Sets c) = Unit {0}
 InTable (Faulty n) = Unit {0}
+
+-- What an effect means, and that it is one of the table's where it is an instruction.
+pub record EffectIs (e : Effect) (m : MeantEffect) : Type 0 where
+  pub means : effectMeant e ≡ m
+  pub in-table : InTable e
 
 abbrev pub labelIf : Bool → List ℕ → Option (List ℕ)
 labelIf true u = some u
@@ -239,10 +245,10 @@ abbrev pub ReadsAs : List ℕ → ℕ → Read → Type 0
 ReadsAs s from r = (c : Context) → LineIs s from c r
 
 abbrev pub FastIs : List ℕ → ℕ → Fast → Type 0
-FastIs s from (Instruction marked start length row o end) =
-    ReadsAs s from (record { labelled = marked; start = start; length = length; effect = Codes row o; end = end })
-FastIs s from (Bare marked start length end) =
-    ReadsAs s from (record { labelled = marked; start = start; length = length; effect = Nothing; end = end })
+FastIs s from (Instruction l start row o end) =
+    ReadsAs s from (record { labelled = l .labelled; start = start; length = l .length; effect = Codes row o; end = end })
+FastIs s from (Bare l start end) =
+    ReadsAs s from (record { labelled = l .labelled; start = start; length = l .length; effect = Nothing; end = end })
 FastIs s from NotFast = Unit {0}
 
 -- ---- a line by its record

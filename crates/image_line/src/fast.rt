@@ -19,40 +19,41 @@ use text_lexical::name::RegisterName;
 use text_lexical::number::Whole;
 use text_lexical::register::Register;
 
+// Whether a line begins with a label, and the label's length: 0 without one.
+pub(crate) struct LabelPart {
+    pub(crate) labelled: bool,
+    pub(crate) length: usize,
+}
+
 // What a line reads as, if its bytes tell.
 pub(crate) enum Fast {
     // An instruction, after a label or not: its row in the table and its operands.
     Instruction {
-        labelled: bool,
+        label: LabelPart,
         start: usize,
-        length: usize,
         row: usize,
         operands: Operands,
         end: usize,
     },
     // A label alone, or an empty line.
     Bare {
-        labelled: bool,
+        label: LabelPart,
         start: usize,
-        length: usize,
         end: usize,
     },
     // The record of the line's tokens decides.
     Other,
 }
 
-// The first word of a line, its label aside: its key and its end; or the place where no word begins. Whether a label stands before it, and
-// the label's length.
+// The first word of a line, its label aside: its key and its end; or the place where no word begins.
 enum FirstWord {
     Is {
-        labelled: bool,
-        length: usize,
+        label: LabelPart,
         key: u64,
         end: usize,
     },
     Missing {
-        labelled: bool,
-        length: usize,
+        label: LabelPart,
         at: usize,
     },
 }
@@ -94,7 +95,7 @@ fn is_number(operand: u32) -> bool
     operand == 2 || operand == 5
 }
 
-// The mark behind an operand; 0 if there is none.
+// The mark after an operand; 0 if there is none.
 fn mark_of(operand: u32) -> u8
     ensures { λ r. ⌜ r ≡ markOf operand ⌝ }
 {
@@ -243,45 +244,31 @@ fn first_word(source: &[u8], start: usize) -> FirstWord
     requires { ⌜ start ≤ length (now source) ⌝ }
     ensures { λ r. ⌜ FirstWordIs (now (source .entry)) start r ⌝ }
 {
-    let mut labelled = false;
-    let mut length: usize = 0;
+    let mut label = LabelPart {
+        labelled: false,
+        length: 0,
+    };
     let mut at = start;
     loop {
         if source.len() <= at {
-            return FirstWord::Missing {
-                labelled,
-                length,
-                at,
-            };
+            return FirstWord::Missing { label, at };
         }
         if !text_lexical::bytes::is_name_start(source[at]) {
-            return FirstWord::Missing {
-                labelled,
-                length,
-                at,
-            };
+            return FirstWord::Missing { label, at };
         }
         let word = lower_word(source, at);
         let key = word.key;
         let end = word.end;
-        if labelled {
-            return FirstWord::Is {
-                labelled,
-                length,
-                key,
-                end,
-            };
+        if label.labelled {
+            return FirstWord::Is { label, key, end };
         }
         if !is_label(source, at, end) {
-            return FirstWord::Is {
-                labelled,
-                length,
-                key,
-                end,
-            };
+            return FirstWord::Is { label, key, end };
         }
-        labelled = true;
-        length = end - at;
+        label = LabelPart {
+            labelled: true,
+            length: end - at,
+        };
         at = text_lexical::bytes::run_end(source, end + 1, Class::Blank);
     }
 }
@@ -299,32 +286,21 @@ pub(crate) fn read_fast(
 {
     let start = text_lexical::bytes::run_end(source, from, Class::Margin);
     match first_word(source, start) {
-        FirstWord::Missing {
-            labelled,
-            length,
-            at,
-        } => match crate::operand::end_at(source, at) {
+        FirstWord::Missing { label, at } => match crate::operand::end_at(source, at) {
             EndAt::Other => Fast::Other,
-            EndAt::Is(end) => Fast::Bare {
-                labelled,
-                start,
-                length,
-                end,
-            },
+            EndAt::Is(end) => Fast::Bare { label, start, end },
         },
         FirstWord::Is {
-            labelled,
-            length,
+            label,
             key,
-            end: word_end,
+            end: after,
         } => match instruction::opcode::find_mnemonic(key, mnemonics, slots) {
             Row::Missing => Fast::Other,
-            Row::At(row) => match read_tail(source, word_end, forms[row]) {
+            Row::At(row) => match read_tail(source, after, forms[row]) {
                 Tail::Other => Fast::Other,
                 Tail::Are { operands, end } => Fast::Instruction {
-                    labelled,
+                    label,
                     start,
-                    length,
                     row,
                     operands,
                     end,

@@ -41,28 +41,22 @@ pub fn read_line(
 {
     match crate::fast::read_fast(source, at, mnemonics, forms, slots) {
         Fast::Instruction {
-            labelled,
+            label,
             start,
-            length,
             row,
             operands,
             end,
         } => Read {
-            labelled,
+            labelled: label.labelled,
             start,
-            length,
+            length: label.length,
             effect: Effect::Codes { row, operands },
             end,
         },
-        Fast::Bare {
-            labelled,
+        Fast::Bare { label, start, end } => Read {
+            labelled: label.labelled,
             start,
-            length,
-            end,
-        } => Read {
-            labelled,
-            start,
-            length,
+            length: label.length,
             effect: Effect::Nothing,
             end,
         },

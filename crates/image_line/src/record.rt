@@ -8,7 +8,7 @@ ghost use Rattle.instruction.specs.Operands.{readInstruction, behind};
 ghost use Rattle.image.specs.Settings.{configured};
 ghost use Rattle.image.specs.Assembling.{labelled, kindOf, Context, setting, coding, afterLabel};
 ghost use Rattle.image.specs.Contracts.{recordMeant, settingsMeant};
-ghost use Rattle.image_line.specs.Contracts.{Tables, Recorded, kindMeant, contextFor, effectMeant, InTable, RecordIs, LineIs};
+ghost use Rattle.image_line.specs.Contracts.{Tables, Recorded, kindMeant, contextFor, EffectIs, RecordIs, LineIs};
 use crate::line::Effect;
 use crate::line::Read;
 use image::config::Config;
@@ -50,7 +50,7 @@ fn line_kind(source: &[u8], line: Line) -> LineKind
             }
         }
         Kind::Directive => {
-            // behind the point
+            // after the point
             let start = first.start + 1;
             let end = first.start + first.length;
             if text_lexical::bytes::same(&source[start..end], b"config") {
@@ -85,7 +85,7 @@ fn read_instruction(
     slots: &[u8; 293],
 ) -> Effect
     requires { ⌜ Recorded (now source) line ⌝ ∗ ⌜ at ≤ 2 ⌝ ∗ ⌜ Tables (now mnemonics) (now forms) (now slots) ⌝ }
-    ensures { λ r. ⌜ effectMeant r ≡ coding (readInstruction (behind at (recordMeant (now (source .entry)) line))) ⌝ ∗ ⌜ InTable r ⌝ }
+    ensures { λ r. ⌜ EffectIs r (coding (readInstruction (behind at (recordMeant (now (source .entry)) line)))) ⌝ }
 {
     match instruction_operands::assembler::parse_instruction(
         source,
@@ -103,7 +103,7 @@ fn read_instruction(
 // A `.config` line.
 fn read_config(source: &[u8], line: Line, config: Config) -> Effect
     requires { ⌜ Recorded (now source) line ⌝ }
-    ensures { λ r. ⌜ effectMeant r ≡ setting (configured (settingsMeant config) (recordMeant (now (source .entry)) line)) ⌝ ∗ ⌜ InTable r ⌝ }
+    ensures { λ r. ⌜ EffectIs r (setting (configured (settingsMeant config) (recordMeant (now (source .entry)) line))) ⌝ }
 {
     match image::config::parse_config(source, line, config) {
         Configured::Refused(n) => Effect::Faulty(n),
@@ -120,7 +120,7 @@ fn after_label(
     slots: &[u8; 293],
 ) -> Effect
     requires { ⌜ Recorded (now source) line ⌝ ∗ ⌜ 2 ≤ line .count ⌝ ∗ ⌜ Tables (now mnemonics) (now forms) (now slots) ⌝ }
-    ensures { λ r. ⌜ effectMeant r ≡ afterLabel (behind 2 (recordMeant (now (source .entry)) line)) ⌝ ∗ ⌜ InTable r ⌝ }
+    ensures { λ r. ⌜ EffectIs r (afterLabel (behind 2 (recordMeant (now (source .entry)) line))) ⌝ }
 {
     if line.count == 2 {
         return Effect::Nothing;

@@ -13,16 +13,16 @@ use Rattle.image_line.proofs.fast.first_word.Statement.{statement}
 use Rattle.image_line.proofs.fast.first_word.Tie as tie
 
 abbrev Inv-loop : tie.InvT-loop
-Inv-loop source start labelled₀ length₀ at₀ labelled n at = OptionalLabel source start labelled n at
+Inv-loop source start label₀ at₀ label at = OptionalLabel source start label at
 
 abbrev μ-loop : tie.MeasureT-loop
-μ-loop source start labelled₀ length₀ at₀ labelled n at = length source - at
+μ-loop source start label₀ at₀ label at = length source - at
 
 loop-holds : tie.Need-loop-holds Inv-loop μ-loop
 loop-holds c = before-label
 
 -- no word begins
-missing : (k : tie.At-loop Inv-loop μ-loop) → let a = k .before .before .args in NoWordAfter (a .source .now) (a .start) (k .loop .labelled) (k .loop .length) (k .loop .at)
+missing : (k : tie.At-loop Inv-loop μ-loop) → let a = k .before .before .args in NoWordAfter (a .source .now) (a .start) (k .loop .label) (k .loop .at)
 missing k = record { label = k .loop .inv; in-text = label-in (k .before .before .pre) (k .loop .inv) }
 
 returns : tie.Need-returns Inv-loop μ-loop
@@ -46,7 +46,7 @@ lower-word-requires : tie.Need-lower-word-requires Inv-loop μ-loop
 lower-word-requires c κs = begins c
 
 word : (c : tie.After-lower-word Inv-loop μ-loop) → let k = c .before .before .before .before .before in let a = k .before .before .args in let w = c .lower-word .result in
-    WordAfter (a .source .now) (a .start) (k .loop .labelled) (k .loop .length) (w .key) (w .end)
+    WordAfter (a .source .now) (a .start) (k .loop .label) (w .key) (w .end)
 word c =
     let k = c .before .before .before .before .before in
     let (inside-text, start) = begins (c .before) in
@@ -79,8 +79,8 @@ label c =
     let (inside-text, start) = begins (w .before) in
     is-label-reads (k .before .before .args .source .now) (k .loop .at) (w .lower-word .result .end) inside-text start (w .lower-word .ensures .ends) (sym (c .before .is-label .ensures) ∙ not-false _ (c .if4 .left))
 
-sub-length : tie.Need-sub-length Inv-loop μ-loop
-sub-length c = let (h, l) = bounds (c .before .before .before) in omega (arith, h)
+sub-run-end : tie.Need-sub-run-end Inv-loop μ-loop
+sub-run-end c = let (h, l) = bounds (c .before .before .before) in omega (arith, h)
 
 add-run-end : tie.Need-add-run-end Inv-loop μ-loop
 add-run-end c = omega (arith, label c .0)
@@ -102,7 +102,7 @@ loop-again c =
     let k = w .before .before .before .before .before in
     let a = k .before .before .args in
     let (inside-text, is) = label e in
-    after-label (a .source .now) (a .start) (k .loop .length) (k .loop .at) (w .lower-word .result .end) (c .run-end .result) (k .loop .labelled) (k .loop .inv) (f .if3 .left) (bounds w .0) inside-text is (c .run-end .ensures)
+    after-label (a .source .now) (a .start) (k .loop .at) (w .lower-word .result .end) (c .run-end .result) (k .loop .label) (k .loop .inv) (f .if3 .left) (bounds w .0) inside-text is (c .run-end .ensures)
 
 pub first-word-spec : {M : Type 1} → statement M
 first-word-spec =
@@ -119,7 +119,7 @@ first-word-spec =
     returns-3
     is-label-requires
     returns-4
-    sub-length
+    sub-run-end
     add-run-end
     run-end-requires
     loop-less

@@ -1,5 +1,5 @@
 -- `image_line::fast::is_number` meets its contract.
-use borrow.Author.Tests.{eq-eqb, ne-eqb}
+use borrow.Author.Tests.{ne-eqb}
 use Rattle.image_line.specs.Contracts.{isNumber}
 use Rattle.image_line.proofs.fast.is_number.Statement.{statement}
 use Rattle.image_line.proofs.fast.is_number.Tie as tie

@@ -35,8 +35,7 @@ returns-3 c =
     let n = c .before in
     let x = n .before .before in
     let k = x .before .before in
-    let (u, rd) = rw (k .kind .given .1) at (k .before .before .number-at .ensures) in
-    (
+    let (u, rd) = rw (k .kind .given .1) at (k .before .before .number-at .ensures) in (
       k .before .before .before .if1 .taken,
       (_, (sym (ap extractMeant (sym (n .number .given .1) ∙ x .extract-number .ensures) ∙ extracted-number (k .kind .given .0 .0) u), rd)),
     )

@@ -15,11 +15,11 @@ run-end-requires c κs = search needs
 first-word-requires : tie.Need-first-word-requires
 first-word-requires c κs = let b = c .before .before in content-starts (b .args .source .now) (b .args .from) (c .run-end .result) (b .pre .0) (c .run-end .ensures) .1
 
-enum-known-labelled : tie.Need-enum-known-labelled
-enum-known-labelled c = search needs
+enum-known-label : tie.Need-enum-known-label
+enum-known-label c = search needs
 
 end-at-requires : tie.Need-end-at-requires
-end-at-requires c κs = let m = c .before in (rw (m .labelled .given .1) at (m .before .before .first-word .ensures)) .in-text
+end-at-requires c κs = let m = c .before in (rw (m .label .given .1) at (m .before .before .first-word .ensures)) .in-text
 
 enum-told : tie.Need-enum-told
 enum-told c = search needs
@@ -27,8 +27,8 @@ enum-told c = search needs
 enum-known-end : tie.Need-enum-known-end
 enum-known-end c = search needs
 
-enum-known-labelled-2 : tie.Need-enum-known-labelled-2
-enum-known-labelled-2 c = search needs
+enum-known-label-2 : tie.Need-enum-known-label-2
+enum-known-label-2 c = search needs
 
 find-mnemonic-requires : tie.Need-find-mnemonic-requires
 find-mnemonic-requires c κs = search needs
@@ -47,13 +47,13 @@ looked c =
     let f = c .before .before .before in
     let m = f .before .before in
     let w = m .before .before in
-    word-row (rw (m .labelled2 .given .1) at (w .first-word .ensures)) (below (w .before)) (f .find-mnemonic .result) _ (f .find-mnemonic .ensures) (c .before .row .given .1) .0
+    word-row (rw (m .label2 .given .1) at (w .first-word .ensures)) (below (w .before)) (f .find-mnemonic .result) _ (f .find-mnemonic .ensures) (c .before .row .given .1) .0
 
 element-copy-out-read-tail : tie.Need-element-copy-out-read-tail
 element-copy-out-read-tail c = looked c
 
 read-tail-requires : tie.Need-read-tail-requires
-read-tail-requires c κs = let m = c .before .before .before .before .before .before in word-ends (rw (m .labelled2 .given .1) at (m .before .before .first-word .ensures))
+read-tail-requires c κs = let m = c .before .before .before .before .before .before in word-ends (rw (m .label2 .given .1) at (m .before .before .first-word .ensures))
 
 enum-told-3 : tie.Need-enum-told-3
 enum-told-3 c = search needs
@@ -71,7 +71,7 @@ returns-2 c =
     let g = m .before .before .before in
     let b = g .before .before in
     let (n, k) = rw (e .end .given .1) at (e .before .before .end-at .ensures) in
-    bare-line (b .args .source .now) (b .args .from) (g .run-end .result) (b .pre .0) (g .run-end .ensures) _ _ _ _ ((rw (m .labelled .given .1) at (m .before .before .first-word .ensures)) .label) n k
+    bare-line (b .args .source .now) (b .args .from) (g .run-end .result) (b .pre .0) (g .run-end .ensures) _ _ _ ((rw (m .label .given .1) at (m .before .before .first-word .ensures)) .label) n k
 
 returns-3 : tie.Need-returns-3
 returns-3 c = search needs
@@ -90,7 +90,7 @@ returns-5 c =
     let w = m .before .before in
     let g = w .before in
     let b = g .before .before in
-    word-line (b .args .source .now) (b .args .from) (g .run-end .result) (b .pre .0) (g .run-end .ensures) (rw (m .labelled2 .given .1) at (w .first-word .ensures)) (below g) (f .find-mnemonic .result) _ _
+    word-line (b .args .source .now) (b .args .from) (g .run-end .result) (b .pre .0) (g .run-end .ensures) (rw (m .label2 .given .1) at (w .first-word .ensures)) (below g) (f .find-mnemonic .result) _ _
     (f .find-mnemonic .ensures) (k .before .row .given .1) (rw (b .pre .1 .form-column) (form-column (k .before .row .given .0 .0) (looked k))) _ _ (rw (o .operands .given .1) at (t .read-tail .ensures))
 
 pub read-fast-spec : {M : Type 1} → statement M
@@ -99,11 +99,11 @@ read-fast-spec =
     (tie.spec
     run-end-requires
     first-word-requires
-    enum-known-labelled
+    enum-known-label
     end-at-requires
     enum-told
     enum-known-end
-    enum-known-labelled-2
+    enum-known-label-2
     find-mnemonic-requires
     enum-told-2
     enum-known-row

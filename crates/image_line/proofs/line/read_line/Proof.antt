@@ -7,11 +7,11 @@ use Rattle.image_line.proofs.line.read_line.Tie as tie
 read-fast-requires : tie.Need-read-fast-requires
 read-fast-requires c κs = search needs
 
-enum-known-labelled : tie.Need-enum-known-labelled
-enum-known-labelled c = search needs
+enum-known-label : tie.Need-enum-known-label
+enum-known-label c = search needs
 
-enum-known-labelled-2 : tie.Need-enum-known-labelled-2
-enum-known-labelled-2 c = search needs
+enum-known-label-2 : tie.Need-enum-known-label-2
+enum-known-label-2 c = search needs
 
 enum-told : tie.Need-enum-told
 enum-told c = search needs
@@ -23,13 +23,13 @@ returns : tie.Need-returns
 returns c =
     let e = c .before in
     let r = e .before .before in
-    (rw (e .labelled .given .1) at (r .read-fast .ensures)) (contextFor (r .before .before .args .config))
+    (rw (e .label .given .1) at (r .read-fast .ensures)) (contextFor (r .before .before .args .config))
 
 returns-2 : tie.Need-returns-2
 returns-2 c =
     let e = c .before in
     let r = e .before .before in
-    (rw (e .labelled2 .given .1) at (r .read-fast .ensures)) (contextFor (r .before .before .args .config))
+    (rw (e .label2 .given .1) at (r .read-fast .ensures)) (contextFor (r .before .before .args .config))
 
 returns-3 : tie.Need-returns-3
 returns-3 c = search needs
@@ -39,8 +39,8 @@ read-line-spec =
     tie.close
     (tie.spec
     read-fast-requires
-    enum-known-labelled
-    enum-known-labelled-2
+    enum-known-label
+    enum-known-label-2
     enum-told
     read-record-requires
     returns

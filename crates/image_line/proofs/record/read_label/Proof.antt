@@ -31,7 +31,7 @@ returns c x =
     let a = b .args in
     let k = sym (b .pre .1 .0) in
     rw (first (a .line .tokens) (b .pre .0 .kept .nine))
-    (record-labelled (a .source .now) (a .line) x (b .pre .0) (two-tokens (a .source .now) (a .line .tokens) (a .line .count) _ k) k (c .after-label .result) (c .after-label .ensures .0) (c .after-label .ensures .1))
+    (record-labelled (a .source .now) (a .line) x (b .pre .0) (two-tokens (a .source .now) (a .line .tokens) (a .line .count) _ k) k (c .after-label .result) (c .after-label .ensures))
 
 pub read-label-spec : {M : Type 1} → statement M
 read-label-spec = tie.close (tie.spec array-copy-out-label after-label-requires returns)

@@ -112,7 +112,7 @@ returns-3 c =
     let x = contextFor (a .config) in
     rw (c .unlabelled3 .ensures)
     (line-record (a .source .now) (a .at) (t .tokenize .result) (t .tokenize .ensures) x (g .run-end .result) _ (k .before .if1 .left) (begins g .0)
-    (record-config (a .source .now) (t .tokenize .result) x (g .run-end .result) (begins g .1) (f .read-config .result) (rw (e .enum-told .given .1) at (k .line-kind .ensures)) (f .read-config .ensures .0) (f .read-config .ensures .1)))
+    (record-config (a .source .now) (t .tokenize .result) x (g .run-end .result) (begins g .1) (f .read-config .result) (rw (e .enum-told .given .1) at (k .line-kind .ensures)) (f .read-config .ensures)))
 
 returns-4 : tie.Need-returns-4
 returns-4 c =
@@ -136,7 +136,7 @@ returns-5 c =
     let x = contextFor (a .config) in
     rw (c .unlabelled4 .ensures)
     (line-record (a .source .now) (a .at) (t .tokenize .result) (t .tokenize .ensures) x (g .run-end .result) _ (k .before .if1 .left) (begins g .0)
-    (record-plain (a .source .now) (t .tokenize .result) x (g .run-end .result) (begins g .1) (f .read-instruction .result) (rw (e .enum-told3 .given .1) at (k .line-kind .ensures)) (f .read-instruction .ensures .0) (f .read-instruction .ensures .1)))
+    (record-plain (a .source .now) (t .tokenize .result) x (g .run-end .result) (begins g .1) (f .read-instruction .result) (rw (e .enum-told3 .given .1) at (k .line-kind .ensures)) (f .read-instruction .ensures)))
 
 pub read-record-spec : {M : Type 1} → statement M
 read-record-spec =
