@@ -49,7 +49,7 @@ use Rattle.image_passes.specs.declared.second_pass.Coded.the-variants.{W
 pub told : (s : List ℕ) (from : ℕ) (l : Line) → l ≡ recordAt s from → Told s l
 told s from l e =
     let r = line-read s from l e in
-    record { kept = record { nine = r .nine; inside-text = r .inside-text }; solid = r .solid }
+    record { kept = record { places = r .places; inside-text = r .inside-text }; solid = r .solid }
 
 module _ (s : List ℕ) (ts : List Token) (count : ℕ) where
   firsts-length : length (firsts s ts count) ≤ count
@@ -183,7 +183,7 @@ module _ (s : List ℕ) (l : Line) (c : Context) where
     pub record-labelled : (e : Effect) → 2 < l .count → effectMeant e ≡ coding (readInstruction (behind 2 (recordMeant s l))) → InTable e → RecordIs s l c (marked e)
     unfolding behind
     record-labelled e m q i =
-        record-marked e (q ∙ sym (after-some (behind 2 (recordMeant s l)) _ _ (token-at s (l .tokens) (l .count) 2 m (omega (arith, t .kept .nine))))) i
+        record-marked e (q ∙ sym (after-some (behind 2 (recordMeant s l)) _ _ (token-at s (l .tokens) (l .count) 2 m (omega (arith, t .kept .places))))) i
 
 -- 1 for a label, 0 for other kinds.
 abbrev labels : Kind → ℕ

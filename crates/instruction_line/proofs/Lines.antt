@@ -18,7 +18,7 @@ use Rattle.text_lexical.proofs.Keys.{Below}
 use Rattle.text_lexical.proofs.Tests.{split, by-test, no-both, or-left, between-true, Each, in-run}
 use Rattle.text_lexical.proofs.Strings.{every-tail, run-past, run-yes, same-eq, found}
 use Rattle.text.specs.Tokens.{Token, identifier, register, number, hex, binary, directive, comma, colon, opening, closing, infront, tokens}
-use Rattle.text.specs.Lines.{kept, lineOf, recordOf, readLine}
+use Rattle.text.specs.Lines.{lineOf, recordOf, readLine}
 use Rattle.text.specs.Places.{restAt, leftAt, endAt}
 use Rattle.text.specs.declared.lexer.Kind.the-variants.{Identifier}
 use Rattle.text.proofs.Left.{start-solid, content-at, indent-at}
@@ -261,7 +261,7 @@ unfolding readMnemonic readIdentifier readRow made
 row-read i u ts o n l h = rw (readMnemonic, n, readRow, eq-eqb (length ts) (length (places (rowAt i .form))) l, h)
 
 short-line : (u : List ℕ) (ts : List Token) → length ts ≤ 6 → lineOf (identifier u ∷ ts) ≡ record { count = suc (length ts); first = identifier u ∷ ts }
-unfolding lineOf kept
+unfolding lineOf
 short-line u ts h = rw (take-all 8 ts (omega arith))
 
 no-tokens : (ts : List Token) → length ts ≡ 0 → ts ≡ []
@@ -287,13 +287,13 @@ module _ (s : List ℕ) (from start : ℕ) (l : from ≤ length s) (q : start �
   start-ends = let (x, y, c) = margin-on s from start l q in c
 
   empty-line : (form : ℕ) → form ≡ 7 → at ≡ start → TailIs s at form o e → IsEmpty s from e
-  unfolding recordOf lineOf kept
+  unfolding recordOf lineOf
   empty-line form f a t =
       let n : tokens present (leftAt s start) ≡ some [] = rw a at (none-left form f t) in
       record { reads = line-reads s from start q ∙ rw n; ends = t .ends ∙ ap (endAt s) a ∙ start-ends }
 
   label-line : (form length′ : ℕ) → form ≡ 7 → Labels s start (start + length′) at → TailIs s at form o e → IsLabel s from start length′ e
-  unfolding recordOf lineOf kept infront
+  unfolding recordOf lineOf infront
   label-line form length′ f is t =
       let k : start + length′ - start ≡ length′ = omega arith in
       let n : tokens present (leftAt s start) ≡ some (identifier (part s start length′) ∷ colon ∷ []) =

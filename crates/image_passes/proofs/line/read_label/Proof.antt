@@ -28,7 +28,7 @@ returns c x =
     let b = c .before .before .before .before .before .before in
     let a = b .args in
     let k = sym (b .pre .1 .0) in
-    rw (c .label-alone .ensures, first (a .line .tokens) (b .pre .0 .kept .nine))
+    rw (c .label-alone .ensures, first (a .line .tokens) (b .pre .0 .kept .places))
     (record-alone (a .source .now) (a .line) x (b .pre .0) (two-tokens (a .source .now) (a .line .tokens) (a .line .count) _ k) k (c .before .if1 .taken))
 
 read-instruction-requires : tie.Need-read-instruction-requires
@@ -42,7 +42,7 @@ returns-2 c x =
     let k = sym (b .pre .1 .0) in
     let m = two-tokens (a .source .now) (a .line .tokens) (a .line .count) _ k in
     let h : 2 < a .line .count = omega (arith, m, e .if1 .left) in
-    rw (first (a .line .tokens) (b .pre .0 .kept .nine))
+    rw (first (a .line .tokens) (b .pre .0 .kept .places))
     (record-labelled (a .source .now) (a .line) x (b .pre .0) m k (c .read-instruction .result) h (c .read-instruction .ensures .0) (c .read-instruction .ensures .1))
 
 pub read-label-spec : {M : Type 1} → statement M
