@@ -12,7 +12,7 @@ use types.Run.{OneOf, miss}
 use borrow.Author.Tests.{eq-eqb, ne-eqb}
 use Rattle.text_lexical.specs.Bytes.{Result, value, refused, between, same}
 use Rattle.text_lexical.specs.Numbers.{residue}
-use Rattle.text.specs.Lines.{Line as Record}
+use Rattle.text.specs.Lines.{Line as Record, kept}
 use Rattle.text.specs.Contracts.{extracted, extractMeant, kindMeant, spelling, meant}
 use Rattle.text.specs.declared.lexer.Kind.{Kind}
 use Rattle.text.specs.declared.lexer.Kind.the-variants.{Identifier, Register, NoRegister, Number, Negative, Hex, Binary, Directive, Comma, Colon, LParen, RParen}
@@ -114,7 +114,7 @@ pub config-count : (setup : Settings) (l : Record) → (l .count ≡ 3 → ⊥) 
 unfolding configured
 config-count setup l h = rw (configured, ne-eqb (l .count) 3 h)
 
-module _ (setup : Settings) (s : List ℕ) (l : Line) (d : Token) (nine : length (l .tokens) ≡ 9) (three : l .count ≡ 3) where
+module _ (setup : Settings) (s : List ℕ) (l : Line) (d : Token) (full : length (l .tokens) ≡ kept) (three : l .count ≡ 3) where
   -- one of three is read by its second token and its third
   config-by : configured setup (recordMeant s l) ≡ configuredBy setup (meant s (getD (l .tokens) 1 d)) (meant s (getD (l .tokens) 2 d))
   unfolding configured configuredWith

@@ -15,7 +15,7 @@ use Rattle.text_lexical.proofs.Strings.{every-append, ends}
 use Rattle.text_lexical.proofs.Numbers.{residue-small}
 use Rattle.text.specs.Tokens.{Token, identifier, number, directive, isIdentifier, isRegister, infront, tokens}
 use Rattle.text.specs.Values.{readNumber}
-use Rattle.text.specs.Lines.{Line, lines, kept, lineOf, readLine}
+use Rattle.text.specs.Lines.{Line, lines, lineOf, readLine}
 use Rattle.text.proofs.Tokens.{tokens-nil, Within64, reads-directive, reads-space, reads-identifier, reads-decimal}
 use Rattle.text.proofs.Lines.{visible, closed-append, Trimmed, decimal-visible, decimal-closed, high-plain, read-visible}
 use Rattle.instruction.specs.Operands.{Instruction, readIdentifier, readInstruction, behind}
@@ -167,6 +167,6 @@ module _ (names : List Name) (ok : each (λ n. isIdentifier (n .spelling)) names
   -- It sets the field of its key.
   pub config-read : (c : Context) (s : Settings) → setField (c .setup) key v ≡ value s → settingsFault s ≡ none
       → readOn c (readLine names (configText key v)) ≡ record { label = none; effect = sets s }
-  unfolding readOn readKind setting kindOf same bytes lineOf kept configured configuredWith configuredBy readIdentifier readNumber checked
+  unfolding readOn readKind setting kindOf same bytes lineOf configured configuredWith configuredBy readIdentifier readNumber checked
   config-read c s e g =
       rw (read-visible names (configText key v) _ config-trimmed config-visible config-tokens, residue-small 8 v (omega arith), e, checked, g)

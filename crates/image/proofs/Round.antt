@@ -11,7 +11,7 @@ use Rattle.text_lexical.specs.Bytes.{value, bytes, ascii, between, every, same,
 use Rattle.text_lexical.specs.Names.{Name}
 use Rattle.text_lexical.proofs.Strings.{every-append, every-mono}
 use Rattle.text.specs.Tokens.{isIdentifier, tokens, tokensPast}
-use Rattle.text.specs.Lines.{Line, lines, indent, content, trim, trimEnd, cut, kept, lineOf, recordOf, readLine}
+use Rattle.text.specs.Lines.{Line, lines, indent, content, trim, trimEnd, cut, lineOf, recordOf, readLine}
 use Rattle.text.proofs.Lines.{lines-cons, visible, visible-inside, visible-ascii}
 use Rattle.instruction.specs.Operands.{Instruction, readInstruction}
 use Rattle.instruction.specs.Words.{instructionOf}
@@ -37,7 +37,7 @@ walk-line names room line at st st′ t rest h e =
 
 -- Behind the last line nothing is left.
 walk-end : (names : List Name) (room line at : ℕ) (st : State) → walk names room line at st (lines []) ≡ finished st
-unfolding walk lines step entering doing readOn readKind readLine recordOf lineOf kindOf tokens tokensPast content trim trimEnd cut before after kept
+unfolding walk lines step entering doing readOn readKind readLine recordOf lineOf kindOf tokens tokensPast content trim trimEnd cut before after
 walk-end names room line at st = refl
 
 -- ---- the words' lines

@@ -18,7 +18,7 @@ use Rattle.text_lexical.proofs.Keys.{Below}
 use Rattle.text_lexical.proofs.Tests.{split, by-test, no-both, or-left, between-true, Each, in-run}
 use Rattle.text_lexical.proofs.Strings.{every-tail, run-past, run-yes, same-eq, found}
 use Rattle.text.specs.Tokens.{Token, identifier, register, number, hex, binary, directive, comma, colon, opening, closing, infront, tokens}
-use Rattle.text.specs.Lines.{Line, indent, kept, lineOf, recordOf, readLine}
+use Rattle.text.specs.Lines.{Line, indent, lineOf, recordOf, readLine}
 use Rattle.text.specs.Places.{restAt, leftAt, endAt}
 use Rattle.text.specs.declared.lexer.Kind.the-variants.{Identifier}
 use Rattle.text.proofs.Left.{start-solid, content-at, indent-at}
@@ -308,7 +308,7 @@ unfolding readMnemonic readIdentifier readRow made
 row-read i u ts o n l h = rw (readMnemonic, n, readRow, eq-eqb (length ts) (length (places (rowAt i .form))) l, h)
 
 kept-all : (ts : List Token) → length ts ≤ 9 → lineOf ts ≡ record { count = length ts; first = ts }
-unfolding lineOf kept
+unfolding lineOf
 kept-all ts h = rw (take-all 9 ts h)
 
 -- A line by its tokens.

@@ -39,7 +39,7 @@ use Rattle.image_line.specs.declared.line.Read.{Read}
 pub recorded : (s : List ℕ) (from : ℕ) (l : Line) → l ≡ recordAt s from → Recorded s l
 recorded s from l e =
     let r = line-read s from l e in
-    record { kept = record { nine = r .nine; inside-text = r .inside-text }; solid = r .solid }
+    record { kept = record { places = r .places; inside-text = r .inside-text }; solid = r .solid }
 
 module _ (s : List ℕ) (ts : List Token) (count : ℕ) where
   firsts-length : length (firsts s ts count) ≤ count
@@ -116,7 +116,7 @@ module _ (s : List ℕ) (l : Line) where
   -- or an instruction.
   pub after-instruction : Recorded s l → 2 < l .count → coding (readInstruction (behind 2 (recordMeant s l))) ≡ afterLabel (behind 2 (recordMeant s l))
   unfolding behind
-  after-instruction t m = sym (after-some (behind 2 (recordMeant s l)) _ _ (token-at s (l .tokens) (l .count) 2 m (omega (arith, t .kept .nine))))
+  after-instruction t m = sym (after-some (behind 2 (recordMeant s l)) _ _ (token-at s (l .tokens) (l .count) 2 m (omega (arith, t .kept .places))))
 
 module _ (s : List ℕ) (l : Line) (c : Context) where
   -- A line with the label that it begins with.

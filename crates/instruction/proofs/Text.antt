@@ -349,9 +349,9 @@ trimmed-word (b ∷ m) s i h c =
     record { head = b; tail = m ++ s; front = refl; plain = lower-plain b (every-head lowerCase b m h); closed = c (closed-every lowerCase lower-plain b m h) }
 
 -- A line with no more tokens than it keeps.
-line-whole : (ts : List Token) → length ts ≤ 9 → lineOf ts ≡ record { count = length ts; first = ts }
-unfolding lineOf kept
-line-whole ts l = rw (take-all 9 ts l)
+line-whole : (ts : List Token) → length ts ≤ kept → lineOf ts ≡ record { count = length ts; first = ts }
+unfolding lineOf
+line-whole ts l = rw (take-all kept ts l)
 
 module _ (i : Instruction) (f : Fits i) where
   -- It has a number where it has a place for one.
@@ -363,8 +363,8 @@ module _ (i : Instruction) (f : Fits i) where
   unfolding operandTokens
   count = places-count (placesOf (i .row)) (i .registers) (i .number) (f .registers) given
 
-  -- It has nine tokens at most.
-  pub few-tokens : length (identifier (i .row .mnemonic) ∷ operandTokens i) ≤ 9
+  -- It has no more tokens than a line keeps.
+  pub few-tokens : length (identifier (i .row .mnemonic) ∷ operandTokens i) ≤ kept
   few-tokens = let l = short (i .row) (f .in-table) .few in let c = count in omega arith
 
   -- So a line keeps them all.

@@ -13,7 +13,7 @@ use Rattle.text_lexical.specs.Bytes.{Result, value, refused, lower, find}
 use Rattle.text_lexical.specs.Contracts.{keyOf}
 use Rattle.text_lexical.proofs.Keys.{Below, lowered-below}
 use Rattle.text.specs.Tokens.{Token}
-use Rattle.text.specs.Lines.{Line}
+use Rattle.text.specs.Lines.{Line, kept}
 use Rattle.text.specs.Contracts.{kindMeant, filler, firsts, meant, spelling}
 use Rattle.text.specs.declared.lexer.Kind.{Kind}
 use Rattle.text.specs.declared.lexer.Kind.the-variants.{Identifier}
@@ -54,7 +54,7 @@ pub getD-any : {A : Type 0} (l : List A) (i : ℕ) (d e : A) → i < length l �
 getD-any l i d e h = let p = drop-cons l i d h in let q = drop-cons l i e h in cc
 
 -- The kinds of the six behind a place, whatever stands past the tokens.
-pub six-any : (ts : List KeptToken) (at : ℕ) → length ts ≡ 9 → at ≤ 2 → (d : KeptToken) → _≡_ {A = Six}
+pub six-any : (ts : List KeptToken) (at : ℕ) → length ts ≡ kept → at ≤ 2 → (d : KeptToken) → _≡_ {A = Six}
     (record {
       a = getD ts (at + 1) d .kind;
       b = getD ts (at + 2) d .kind;
@@ -64,7 +64,7 @@ pub six-any : (ts : List KeptToken) (at : ℕ) → length ts ≡ 9 → at ≤ 2 
       f = getD ts (at + 6) d .kind;
     })
     (sixBehind ts at)
-six-any ts at nine few d =
+six-any ts at full few d =
     rw (
       getD-any ts (at + 1) d filler (omega arith),
       getD-any ts (at + 2) d filler (omega arith),
@@ -99,7 +99,7 @@ drop-take f (suc k) n (suc m) (a ∷ l) e = drop-take f k n m l (omega arith)
 drop-next : {A : Type 0} (l : List A) (i j : ℕ) (d : A) → j ≡ suc i → i < length l → drop i l ≡ getD l i d ∷ drop j l
 drop-next l i j d e h = rw e (drop-cons l i d h)
 
-module _ (s : List ℕ) (ts : List KeptToken) (at count : ℕ) (nine : length ts ≡ 9) (few : at ≤ 2) where
+module _ (s : List ℕ) (ts : List KeptToken) (at count : ℕ) (full : length ts ≡ kept) (few : at ≤ 2) where
   -- The tokens behind a place begin with the six.
   six-first : map (meant s) (drop (at + 1) ts) ≡ sixMeant (λ i. spelling s (getD ts (at + i) filler)) (sixBehind ts at) ++ map (meant s) (drop (at + 7) ts)
   six-first =

@@ -6,6 +6,7 @@ use lib.ListN.{length, getD}
 use Rattle.text_lexical.specs.Bytes.{Result, value, refused}
 use Rattle.text_lexical.specs.Contracts.{indexOf}
 use Rattle.text.specs.Tokens.{Token}
+use Rattle.text.specs.Lines.{kept}
 use Rattle.text.specs.Contracts.{kindMeant, filler}
 use Rattle.text.specs.declared.lexer.Token.{Token as KeptToken}
 use Rattle.text.specs.declared.parser.Line.{Line}
@@ -68,7 +69,7 @@ abbrev pub InTable : Parsed → Type 0
 InTable (IsInstruction row o) = row < 50
 InTable (NoInstruction n) = Unit {0}
 
--- What a line's record promises of its tokens: there are nine, and each is a part of the text.
+-- What a line's record promises of its tokens: there are as many as a line keeps, and each is a part of the text.
 pub record Kept (s : List ℕ) (l : Line) : Type 0 where
-  pub nine : length (l .tokens) ≡ 9
+  pub places : length (l .tokens) ≡ kept
   pub inside-text : (i : ℕ) → getD (l .tokens) i filler .start + getD (l .tokens) i filler .length ≤ length s

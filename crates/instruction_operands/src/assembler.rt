@@ -5,6 +5,7 @@ ghost use mathlib.Core.List.{List, [], _∷_};
 ghost use Prim.Native.Nat.{ℕ, _+_, _-_, _≤_, _<_};
 ghost use lib.ListN.{length, drop};
 ghost use Rattle.text_lexical.specs.Bytes.{Result};
+ghost use Rattle.text.specs.Lines.{kept};
 ghost use Rattle.text.specs.Contracts.{kindMeant, firsts};
 ghost use Rattle.instruction.specs.Table.{reg, num, comma-place, opening-place, closing-place, R, Jump, places};
 ghost use Rattle.instruction.specs.Operands.{readRegister, markByte, readPlace, readRow, readInstruction, behind};
@@ -16,6 +17,7 @@ use instruction::opcode::Row;
 use text::lexer::Kind;
 use text::lexer::Token;
 use text::parser::Extracted;
+use text::parser::KEPT;
 use text::parser::Line;
 use text_lexical::number::Whole;
 use text_lexical::register::Register;
@@ -230,8 +232,8 @@ fn parse_operands(form: u8, k: Six) -> Operand
 }
 
 // The kinds of the six tokens behind the one at `at`.
-fn six_behind(tokens: [Token; 9], at: usize) -> Six
-    requires { ⌜ length tokens ≡ 9 ⌝ ∗ ⌜ at ≤ 2 ⌝ }
+fn six_behind(tokens: [Token; KEPT], at: usize) -> Six
+    requires { ⌜ length tokens ≡ kept ⌝ ∗ ⌜ at ≤ 2 ⌝ }
     ensures { λ r. ⌜ r ≡ sixBehind tokens at ⌝ }
 {
     let first = tokens[at + 1];
@@ -251,7 +253,7 @@ fn six_behind(tokens: [Token; 9], at: usize) -> Six
 
 // The instruction of a row, by the operand tokens behind the mnemonic at `at`: 16, then the operands.
 fn parse_row(row: usize, form: u8, line: Line, at: usize) -> Parsed
-    requires { ⌜ row < 50 ⌝ ∗ ⌜ form ≡ formNumber (rowAt row .form) ⌝ ∗ ⌜ at < line .count ⌝ ∗ ⌜ at ≤ 2 ⌝ ∗ ⌜ length (line .tokens) ≡ 9 ⌝ }
+    requires { ⌜ row < 50 ⌝ ∗ ⌜ form ≡ formNumber (rowAt row .form) ⌝ ∗ ⌜ at < line .count ⌝ ∗ ⌜ at ≤ 2 ⌝ ∗ ⌜ length (line .tokens) ≡ kept ⌝ }
     ensures { λ r. ⌜ ((s : List ℕ) → parsedMeant r ≡ readRow (rowAt row) (line .count - at - 1) (drop (at + 1) (firsts s (line .tokens) (line .count)))) ⌝ ∗ ⌜ InTable r ⌝ }
 {
     let count = line.count;

@@ -1,4 +1,4 @@
--- The record of a line: what the tokens mean that are found one after the other, and the loop that keeps the first nine and counts all.
+-- The record of a line: what the tokens mean that are found one after the other, and the loop that keeps the first and counts all.
 use mathlib.Core.Path.{_≡_, refl, sym, ap, _∙_}
 use Prim.Native.Nat.{ℕ, zero, suc, _+_, _-_, _≤_, _<_}
 use native.Mathlib.Omega.{arith}
@@ -16,7 +16,7 @@ use Rattle.text.specs.Tokens.{Token as Meant}
 use Rattle.text.specs.Lines.{indent, kept, lineOf, recordOf, readLine}
 use Rattle.text.specs.Lines.{Line as Record}
 use Rattle.text.specs.Places.{restAt, leftAt, endAt}
-use Rattle.text.specs.Contracts.{meant, past, scanAt, infrontOf, followed, tokensFrom, allFrom, filler, firstNine, spoiled, lineWith, recordAt, firsts}
+use Rattle.text.specs.Contracts.{meant, past, scanAt, infrontOf, followed, tokensFrom, allFrom, filler, firstKept, spoiled, lineWith, recordAt, firsts}
 use Rattle.text.specs.declared.lexer.Token.{Token}
 use Rattle.text.specs.declared.lexer.Scan.{Scan}
 use Rattle.text.specs.declared.lexer.Scan.the-variants.{Found, Bad, End}
@@ -105,44 +105,44 @@ first-at (suc n) s at = go (scanAt s at) (stepped s at (scanAt s at) refl .leads
     go Bad l = tt
     go (End stop) l = tt
 
--- ---- the nine places
+-- ---- the places of a record
 
-length-nine : (ts : List Token) → length (firstNine ts) ≡ 9
-unfolding firstNine
-length-nine ts = omega (arith, length-append (take 9 ts) (replicate (9 - length ts) filler), length-take 9 ts, length-replicate (9 - length ts) filler)
+length-kept : (ts : List Token) → length (firstKept ts) ≡ kept
+unfolding firstKept
+length-kept ts = omega (arith, length-append (take kept ts) (replicate (kept - length ts) filler), length-take kept ts, length-replicate (kept - length ts) filler)
 
 fillers : (n i : ℕ) → getD (replicate n filler) i filler ≡ filler
 fillers zero i = refl
 fillers (suc n) zero = refl
 fillers (suc n) (suc i) = fillers n i
 
-nine-kept : (ts : List Token) (i : ℕ) → i < 9 → i < length ts → getD (firstNine ts) i filler ≡ getD ts i filler
-unfolding firstNine
-nine-kept ts i h l = List·getD-append (take 9 ts) (replicate (9 - length ts) filler) filler i (omega (arith, length-take 9 ts)) ∙ getD-take 9 ts i filler h
+kept-at : (ts : List Token) (i : ℕ) → i < kept → i < length ts → getD (firstKept ts) i filler ≡ getD ts i filler
+unfolding firstKept
+kept-at ts i h l = List·getD-append (take kept ts) (replicate (kept - length ts) filler) filler i (omega (arith, length-take kept ts)) ∙ getD-take kept ts i filler h
 
-nine-filled : (ts : List Token) (i : ℕ) → length (take 9 ts) ≤ i → getD (firstNine ts) i filler ≡ filler
-unfolding firstNine
-nine-filled ts i h =
-    let e : i ≡ length (take 9 ts) + (i - length (take 9 ts)) = omega arith in
-    ap (λ (x : ℕ). getD (take 9 ts ++ replicate (9 - length ts) filler) x filler) e
-    ∙ getD-append-add (take 9 ts) (replicate (9 - length ts) filler) (i - length (take 9 ts)) filler ∙ fillers (9 - length ts) (i - length (take 9 ts))
+kept-filled : (ts : List Token) (i : ℕ) → length (take kept ts) ≤ i → getD (firstKept ts) i filler ≡ filler
+unfolding firstKept
+kept-filled ts i h =
+    let e : i ≡ length (take kept ts) + (i - length (take kept ts)) = omega arith in
+    ap (λ (x : ℕ). getD (take kept ts ++ replicate (kept - length ts) filler) x filler) e
+    ∙ getD-append-add (take kept ts) (replicate (kept - length ts) filler) (i - length (take kept ts)) filler ∙ fillers (kept - length ts) (i - length (take kept ts))
 
 -- A token more, where there is a place for it, and where there is none.
-nine-stored : (ts : List Token) (n : ℕ) (t : Token) → n ≡ length ts → n < 9 → set (firstNine ts) n t ≡ firstNine (ts ++ (t ∷ []))
-unfolding firstNine
-nine-stored ts n t e h =
-    let m : 9 - length ts ≡ suc (8 - length ts) = omega arith in
+kept-stored : (ts : List Token) (n : ℕ) (t : Token) → n ≡ length ts → n < kept → set (firstKept ts) n t ≡ firstKept (ts ++ (t ∷ []))
+unfolding firstKept
+kept-stored ts n t e h =
+    let m : kept - length ts ≡ suc (kept - 1 - length ts) = omega arith in
     let k : length (ts ++ (t ∷ [])) ≡ suc (length ts) = omega (arith, length-append ts (t ∷ [])) in
-    let j : 9 - suc (length ts) ≡ 8 - length ts = omega arith in
-    rw (m, k, j, take-all 9 ts (omega arith), take-all 9 (ts ++ (t ∷ [])) (omega arith), append-assoc ts (t ∷ []) (replicate (8 - length ts) filler))
-    (set-at ts filler (replicate (8 - length ts) filler) t n (sym e))
+    let j : kept - suc (length ts) ≡ kept - 1 - length ts = omega arith in
+    rw (m, k, j, take-all kept ts (omega arith), take-all kept (ts ++ (t ∷ [])) (omega arith), append-assoc ts (t ∷ []) (replicate (kept - 1 - length ts) filler))
+    (set-at ts filler (replicate (kept - 1 - length ts) filler) t n (sym e))
 
-nine-full : (ts : List Token) (t : Token) → 9 ≤ length ts → firstNine ts ≡ firstNine (ts ++ (t ∷ []))
-unfolding firstNine
-nine-full ts t h =
-    let m : 9 - length ts ≡ 0 = omega arith in
-    let k : 9 - length (ts ++ (t ∷ [])) ≡ 0 = omega (arith, length-append ts (t ∷ [])) in
-    rw (m, k, take-append-le 9 ts (t ∷ []) h)
+kept-full : (ts : List Token) (t : Token) → kept ≤ length ts → firstKept ts ≡ firstKept (ts ++ (t ∷ []))
+unfolding firstKept
+kept-full ts t h =
+    let m : kept - length ts ≡ 0 = omega arith in
+    let k : kept - length (ts ++ (t ∷ [])) ≡ 0 = omega (arith, length-append ts (t ∷ [])) in
+    rw (m, k, take-append-le kept ts (t ∷ []) h)
 
 -- ---- what a record says of its line
 
@@ -159,19 +159,19 @@ map-take s zero ts = refl
 map-take s (suc n) [] = refl
 map-take s (suc n) (t ∷ ts) = ap (λ (x : List Meant). meant s t ∷ x) (map-take s n ts)
 
-firsts-nine : (s : List ℕ) (ts : List Token) → firsts s (firstNine ts) (length ts) ≡ take 9 (map (meant s) ts)
-unfolding firstNine
-firsts-nine s ts =
-    split (length ts) 9
-    (λ h. let a = take-all 9 ts (omega arith) in
-    rw (a, take-append-seam ts (replicate (9 - length ts) filler), take-all 9 (map (meant s) ts) (rw (length-map ts (meant s)) (omega arith))))
-    (λ h. let m : 9 - length ts ≡ 0 = omega arith in
-    rw (m, append-nil (take 9 ts), take-all (length ts) (take 9 ts) (omega (arith, length-take 9 ts))) (map-take s 9 ts))
+firsts-kept : (s : List ℕ) (ts : List Token) → firsts s (firstKept ts) (length ts) ≡ take kept (map (meant s) ts)
+unfolding firstKept
+firsts-kept s ts =
+    split (length ts) kept
+    (λ h. let a = take-all kept ts (omega arith) in
+    rw (a, take-append-seam ts (replicate (kept - length ts) filler), take-all kept (map (meant s) ts) (rw (length-map ts (meant s)) (omega arith))))
+    (λ h. let m : kept - length ts ≡ 0 = omega arith in
+    rw (m, append-nil (take kept ts), take-all (length ts) (take kept ts) (omega (arith, length-take kept ts))) (map-take s kept ts))
 
 record-means : (s : List ℕ) (from : ℕ) (o : Option (List Token)) → recordOf (meantAll s o) ≡ lineMeant s (lineWith s from o)
-unfolding recordOf meantAll lineOf kept
+unfolding recordOf meantAll lineOf
 record-means s from none = refl
-record-means s from (some ts) = rw (length-map ts (meant s), firsts-nine s ts)
+record-means s from (some ts) = rw (length-map ts (meant s), firsts-kept s ts)
 
 -- After the margin no blank stands.
 no-blank : (s : List ℕ) (from at : ℕ) → at ≡ from + run margin (drop from s) → run blank (drop at s) ≡ 0
@@ -190,10 +190,10 @@ pub record LineRead (s : List ℕ) (from : ℕ) (r : Line) : Type 0 where
   pub bad-ends : r .bad ≡ true → r .end ≡ from
   -- the first token begins where the line's content does
   pub begins : 0 < r .count → getD (r .tokens) 0 filler .start ≡ from + indent (restAt s from)
-  pub nine : length (r .tokens) ≡ 9
+  pub places : length (r .tokens) ≡ kept
   -- each token is a part of the text, and each that is kept takes a byte at least
   pub inside-text : (i : ℕ) → getD (r .tokens) i filler .start + getD (r .tokens) i filler .length ≤ length s
-  pub solid : (i : ℕ) → i < 9 → i < r .count → 0 < getD (r .tokens) i filler .length
+  pub solid : (i : ℕ) → i < kept → i < r .count → 0 < getD (r .tokens) i filler .length
 
 -- Where the tokens begin: after the line's margin.
 abbrev begin : List ℕ → ℕ → ℕ
@@ -208,8 +208,8 @@ line-with s from none p f e =
       ends = λ h. absurd (true≢false h);
       bad-ends = λ h. refl;
       begins = λ h. absurd (omega arith);
-      nine = refl;
-      inside-text = λ i. rw (fillers 9 i) (omega arith);
+      places = refl;
+      inside-text = λ i. rw (fillers kept i) (omega arith);
       solid = λ i h k. absurd (omega arith);
     }
 line-with s from (some ts) p f e =
@@ -217,12 +217,12 @@ line-with s from (some ts) p f e =
       means = e ∙ record-means s from (some ts);
       ends = λ h. refl;
       bad-ends = λ h. absurd (true≢false (sym h));
-      begins = λ h. ap (λ (t : Token). t .start) (nine-kept ts 0 (omega arith) h) ∙ first ts f h ∙ ap (λ (x : ℕ). from + x) (sym (indent-at s from));
-      nine = length-nine ts;
-      inside-text = λ i. split i (length (take 9 ts))
-          (λ l. let n = length-take 9 ts in rw (nine-kept ts i (omega arith) (omega arith)) (part-at s ts i p (omega arith) .1))
-          (λ l. rw (nine-filled ts i l) (omega arith));
-      solid = λ i h k. rw (nine-kept ts i h k) (part-at s ts i p k .0);
+      begins = λ h. ap (λ (t : Token). t .start) (kept-at ts 0 (omega arith) h) ∙ first ts f h ∙ ap (λ (x : ℕ). from + x) (sym (indent-at s from));
+      places = length-kept ts;
+      inside-text = λ i. split i (length (take kept ts))
+          (λ l. let n = length-take kept ts in rw (kept-at ts i (omega arith) (omega arith)) (part-at s ts i p (omega arith) .1))
+          (λ l. rw (kept-filled ts i l) (omega arith));
+      solid = λ i h k. rw (kept-at ts i h k) (part-at s ts i p k .0);
     }
   where
     first : (us : List Token) → FirstAt (begin s from) (some us) → 0 < length us → getD us 0 filler .start ≡ begin s from
@@ -260,13 +260,13 @@ pub record Reading (s : List ℕ) (from : ℕ) (ts : List Token) (count at : ℕ
   pub place : at ≤ length s
   pub few : count ≤ at
   read : List Token
-  keeps : ts ≡ firstNine read
+  keeps : ts ≡ firstKept read
   counts : count ≡ length read
   all : allFrom s (begin s from) ≡ joined read (tokensFrom (suc (length s) - count) s at)
   ends : endAt s at ≡ endAt s from
 
-pub reading-begin : (s : List ℕ) (from at : ℕ) → from ≤ length s → at ≡ from + run margin (drop from s) → Reading s from (replicate 9 filler) 0 at
-unfolding firstNine
+pub reading-begin : (s : List ℕ) (from at : ℕ) → from ≤ length s → at ≡ from + run margin (drop from s) → Reading s from (replicate kept filler) 0 at
+unfolding firstKept
 reading-begin s from at h q =
     let (a, b, c) = margin-on s from at h q in
     let n : suc (length s) - 0 ≡ suc (length s) = omega arith in
@@ -288,7 +288,7 @@ module _ (s : List ℕ) (from : ℕ) (ts : List Token) (n at : ℕ) (r : Reading
       let m : suc (length s) - n ≡ suc (suc (length s) - (n + 1)) = omega (arith, r .few, r .place) in
       rw e (rw m at (r .all))
 
-  more : (us : List Token) (t : Token) (next : ℕ) → us ≡ firstNine (r .read ++ (t ∷ [])) → Found t next ≡ scanAt s at → Reading s from us (n + 1) next
+  more : (us : List Token) (t : Token) (next : ℕ) → us ≡ firstKept (r .read ++ (t ∷ [])) → Found t next ≡ scanAt s at → Reading s from us (n + 1) next
   more us t next k e =
       let (st, sz, p, f, l, end) = stepped s at _ e .leads in
       record {
@@ -301,11 +301,11 @@ module _ (s : List ℕ) (from : ℕ) (ts : List Token) (n at : ℕ) (r : Reading
         ends = end ∙ r .ends;
       }
 
-  pub reading-store : (t : Token) (next : ℕ) → n < 9 → Found t next ≡ scanAt s at → Reading s from (set ts n t) (n + 1) next
-  reading-store t next h e = more (set ts n t) t next (ap (λ (x : List Token). set x n t) (r .keeps) ∙ nine-stored (r .read) n t (r .counts) h) e
+  pub reading-store : (t : Token) (next : ℕ) → n < kept → Found t next ≡ scanAt s at → Reading s from (set ts n t) (n + 1) next
+  reading-store t next h e = more (set ts n t) t next (ap (λ (x : List Token). set x n t) (r .keeps) ∙ kept-stored (r .read) n t (r .counts) h) e
 
-  pub reading-full : (t : Token) (next : ℕ) → 9 ≤ n → Found t next ≡ scanAt s at → Reading s from ts (n + 1) next
-  reading-full t next h e = more ts t next (r .keeps ∙ nine-full (r .read) t (omega (arith, r .counts))) e
+  pub reading-full : (t : Token) (next : ℕ) → kept ≤ n → Found t next ≡ scanAt s at → Reading s from ts (n + 1) next
+  reading-full t next h e = more ts t next (r .keeps ∙ kept-full (r .read) t (omega (arith, r .counts))) e
 
   pub reading-end : (stop end : ℕ) → End stop ≡ scanAt s at → end ≡ stop + run inside (drop stop s)
       → record { tokens = ts; count = n; bad = false; end = end } ≡ recordAt s from

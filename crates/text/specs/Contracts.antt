@@ -15,6 +15,7 @@ use Rattle.text_lexical.specs.declared.number.Radix.{Radix}
 use Rattle.text_lexical.specs.declared.number.Radix.the-variants.{Binary as BinaryRadix, Decimal as DecimalRadix, Hex as HexRadix}
 use Rattle.text.specs.Tokens.{identifier, register, number, hex, binary, directive, comma, colon, opening, closing, Number as NumberClass, longest, Sized, front}
 use Rattle.text.specs.Tokens.{Token as Meant}
+use Rattle.text.specs.Lines.{kept}
 use Rattle.text.specs.Places.{leftAt, endAt}
 use Rattle.text.specs.declared.lexer.Kind.{Kind}
 use Rattle.text.specs.declared.lexer.Kind.the-variants.{Identifier, Register as RegisterKind, NoRegister, Number, Negative, Hex, Binary, Directive, Comma, Colon, LParen, RParen}
@@ -186,23 +187,23 @@ allFrom s at = tokensFrom (suc (length s)) s at
 abbrev pub filler : Token
 filler = record { kind = Comma; start = 0; length = 0 }
 
--- The nine places of a record: the line's first nine tokens, and what fills the places after them.
-unfoldable pub firstNine : List Token → List Token
-firstNine ts = take 9 ts ++ replicate (9 - length ts) filler
+-- The places of a record: the line's first tokens, and what fills the places after them.
+unfoldable pub firstKept : List Token → List Token
+firstKept ts = take kept ts ++ replicate (kept - length ts) filler
 
 -- The record of a line with a bad token.
 abbrev pub spoiled : ℕ → Line
-spoiled from = record { tokens = replicate 9 filler; count = 0; bad = true; end = from }
+spoiled from = record { tokens = replicate kept filler; count = 0; bad = true; end = from }
 
 -- The record of the line from a place on that has these tokens.
 abbrev pub lineWith : List ℕ → ℕ → Option (List Token) → Line
 lineWith s from none = spoiled from
-lineWith s from (some ts) = record { tokens = firstNine ts; count = length ts; bad = false; end = endAt s from }
+lineWith s from (some ts) = record { tokens = firstKept ts; count = length ts; bad = false; end = endAt s from }
 
 -- The record of the line from a place on, whose tokens begin after its margin.
 unfoldable pub recordAt : List ℕ → ℕ → Line
 recordAt s from = lineWith s from (allFrom s (from + run margin (drop from s)))
 
--- The tokens that a record keeps: of nine places the first `count`, so all nine where there are more.
+-- The tokens that a record keeps: of its places the first `count`, so all of them where there are more.
 abbrev pub firsts : List ℕ → List Token → ℕ → List Meant
 firsts s ts count = map (meant s) (take count ts)

@@ -49,7 +49,7 @@ indent s = run edge s
 -- ---- the record of a line
 
 -- "at most its first nine tokens"
-unfoldable pub kept : ℕ
+abbrev pub kept : ℕ
 kept = 9
 
 -- "A line keeps at most its first nine tokens, and the count of all."

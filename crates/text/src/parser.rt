@@ -34,20 +34,23 @@ pub fn extract_number(kind: Kind) -> Extracted
     }
 }
 
-// The record of a line: its first nine tokens, the count of all, and where the line ends; of a line with a bad token, only that.
+// How many tokens of a line its record keeps.
+pub const KEPT: usize = 9;
+
+// The record of a line: its first tokens, the count of all, and where the line ends; of a line with a bad token, only that.
 pub struct Line {
-    pub tokens: [Token; 9],
+    pub tokens: [Token; KEPT],
     pub count: usize,
     pub bad: bool,
     pub end: usize,
 }
 
 // What fills the places that no token takes.
-const FILLER: [Token; 9] = [Token {
+const FILLER: [Token; KEPT] = [Token {
     kind: Kind::Comma,
     start: 0,
     length: 0,
-}; 9];
+}; KEPT];
 
 // The record of a line with a bad token.
 fn spoiled(from: usize) -> Line
@@ -82,7 +85,7 @@ pub fn tokenize(text: &[u8], from: usize) -> Line
             }
             Scan::Bad => return spoiled(from),
             Scan::Found { token, next } => {
-                if count < 9 {
+                if count < KEPT {
                     tokens[count] = token;
                 }
                 count += 1;

@@ -36,7 +36,7 @@ returns-2 : tie.Need-returns-2
 returns-2 c =
     let e = c .before .before in
     let s = e .before .before .before .before in
-    sym (config-key (settingsMeant (s .args .config)) (s .args .source .now) (s .args .line) past (s .pre .nine) (e .if1 .left) (c .match .keys2))
+    sym (config-key (settingsMeant (s .args .config)) (s .args .source .now) (s .args .line) past (s .pre .places) (e .if1 .left) (c .match .keys2))
 
 array-copy-out-value : tie.Need-array-copy-out-value
 array-copy-out-value c = search needs
@@ -55,7 +55,7 @@ inside : (c : tie.After-struct-known2) → let a = c .before .before .before .be
     let t = getD (a .line .tokens) 1 past in t .start + t .length ≤ length (a .source .now)
 inside c =
     let b = c .before .before .before .before .before .before .before .before .before .before .before .before .before in
-    let e = getD-any (b .args .line .tokens) 1 past filler (omega (arith, b .pre .nine)) in
+    let e = getD-any (b .args .line .tokens) 1 past filler (omega (arith, b .pre .places)) in
     rw e (b .pre .inside-text 1)
 
 add-end : tie.Need-add-end
@@ -90,7 +90,7 @@ returns-3 c =
     let k = x .before .before in
     let e = k .before .before .before in
     let s = e .before .before .before .before in
-    sym (config-number (settingsMeant (s .args .config)) (s .args .source .now) (s .args .line) past (s .pre .nine) (e .if1 .left) (k .enum-told .given .1) _
+    sym (config-number (settingsMeant (s .args .config)) (s .args .source .now) (s .args .line) past (s .pre .places) (e .if1 .left) (k .enum-told .given .1) _
     (sym (ap extractMeant (rw (w .n .given .1) at (x .extract-number .ensures)))))
 
 returns-4 : tie.Need-returns-4
@@ -106,7 +106,7 @@ returns-4 c =
     let n : t .start + t .length - t .start ≡ t .length = omega arith in
     c .set-field .ensures
     ∙ ap₂ (λ (n v : ℕ). checked (setField (settingsMeant (a .config)) (take n (drop (t .start) (a .source .now))) v)) n (left r)
-    ∙ sym (config-sets (settingsMeant (a .config)) (a .source .now) (a .line) past (s .pre .nine) (e .if1 .left) (k .enum-told .given .1)
+    ∙ sym (config-sets (settingsMeant (a .config)) (a .source .now) (a .line) past (s .pre .places) (e .if1 .left) (k .enum-told .given .1)
     (wholeMeant (w .whole .given .0 .0)) (sym (ap extractMeant (rw (w .whole .given .1) at (x .extract-number .ensures)))))
 
 pub parse-config-spec : {M : Type 1} → statement M

@@ -55,7 +55,7 @@ returns-2 c =
     let i = c .before in
     let b = i .before .before .before in
     let a = b .before .before .before .args in
-    let n = b .before .before .before .pre .kept .nine in
+    let n = b .before .before .before .pre .kept .places in
     kind-alone (a .source .now) (a .line .tokens) (a .line .count) n (omega (arith, b .if1 .left)) _ (named (a .source .now) (a .line .tokens) n (i .enum-told .given .1)) (c .if2 .taken)
 
 array-copy-out-second : tie.Need-array-copy-out-second
@@ -74,7 +74,7 @@ inside c =
     let b = c .before .before .before in
     let p = b .before .before .before .pre in
     let a = b .before .before .before .args in
-    rw (kept (a .line .tokens) 0 (omega arith) (p .kept .nine)) (p .solid 0 (omega arith) (omega (arith, b .if1 .left)), p .kept .inside-text 0)
+    rw (kept (a .line .tokens) 0 (omega arith) (p .kept .places)) (p .solid 0 (omega arith) (omega (arith, b .if1 .left)), p .kept .inside-text 0)
 
 add-start : tie.Need-add-start
 add-start c = let (h, i) = inside (c .before) in omega (arith, h, i)
@@ -107,8 +107,8 @@ spelled c =
     let p = b .before .before .before .pre in
     let a = b .before .before .before .args in
     let (h, i) = inside d in
-    kind-spelled (a .source .now) (a .line .tokens) (a .line .count) (p .kept .nine) (omega (arith, b .if1 .left)) (getD (a .line .tokens) 0 past) (c .same .result)
-    (kept (a .line .tokens) 0 (omega arith) (p .kept .nine)) (d .enum-told3 .given .1) h i (c .same .ensures)
+    kind-spelled (a .source .now) (a .line .tokens) (a .line .count) (p .kept .places) (omega (arith, b .if1 .left)) (getD (a .line .tokens) 0 past) (c .same .result)
+    (kept (a .line .tokens) 0 (omega arith) (p .kept .places)) (d .enum-told3 .given .1) h i (c .same .ensures)
 
 returns-3 : tie.Need-returns-3
 returns-3 c = rw (c .if3 .taken) at (spelled (c .before))
@@ -120,7 +120,7 @@ returns-4 c =
     let i = s .before in
     let b = i .before .before .before in
     let a = b .before .before .before .args in
-    let n = b .before .before .before .pre .kept .nine in
+    let n = b .before .before .before .pre .kept .places in
     let k : getD (a .line .tokens) 1 filler .kind ≡ Colon = sym (ap (λ (t : Token). t .kind) (kept (a .line .tokens) 1 (omega arith) n)) ∙ c .enum-told2 .given .1 in
     kind-second (a .source .now) (a .line .tokens) (a .line .count) n (omega (arith, b .if1 .left)) _ _ (named (a .source .now) (a .line .tokens) n (i .enum-told .given .1))
     (s .if2 .left) (rw k)
@@ -150,7 +150,7 @@ returns-5 c =
     let i = s .before in
     let b = i .before .before .before in
     let a = b .before .before .before .args in
-    let n = b .before .before .before .pre .kept .nine in
+    let n = b .before .before .before .pre .kept .places in
     let e = kept (a .line .tokens) 1 (omega arith) n in
     let o = other-mark (getD (a .line .tokens) 1 past .kind) (spelling (a .source .now) (getD (a .line .tokens) 1 filler)) (c .match2 .keys2) in
     let m : eqb (markByte (meant (a .source .now) (getD (a .line .tokens) 1 filler))) 58 ≡ false = rw (e) at o in
@@ -183,7 +183,7 @@ returns-7 : tie.Need-returns-7
 returns-7 c =
     let b = c .before .before in
     let a = b .before .before .before .args in
-    let n = b .before .before .before .pre .kept .nine in
+    let n = b .before .before .before .pre .kept .places in
     let k : getD (a .line .tokens) 0 past .kind ≡ getD (a .line .tokens) 0 filler .kind = ap (λ (t : Token). t .kind) (kept (a .line .tokens) 0 (omega arith) n) in
     kind-plain (a .source .now) (a .line .tokens) (a .line .count) n (omega (arith, b .if1 .left))
     (λ us. rw (← k) (other-plain (getD (a .line .tokens) 0 past .kind) (spelling (a .source .now) (getD (a .line .tokens) 0 filler)) us (c .match .keys3)))

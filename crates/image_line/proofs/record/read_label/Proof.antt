@@ -30,7 +30,7 @@ returns c x =
     let b = c .before .before .before .before in
     let a = b .args in
     let k = sym (b .pre .1 .0) in
-    rw (first (a .line .tokens) (b .pre .0 .kept .nine))
+    rw (first (a .line .tokens) (b .pre .0 .kept .places))
     (record-labelled (a .source .now) (a .line) x (b .pre .0) (two-tokens (a .source .now) (a .line .tokens) (a .line .count) _ k) k (c .after-label .result) (c .after-label .ensures))
 
 pub read-label-spec : {M : Type 1} → statement M

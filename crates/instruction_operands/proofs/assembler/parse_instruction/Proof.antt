@@ -67,7 +67,7 @@ returns-2 c =
     let b = e .before .before .before in
     let a = b .args in (
       others-refused (getD (a .line .tokens) (a .at) past .kind) (spelling (a .source .now) (getD (a .line .tokens) (a .at) past)) _ _ (c .match .keys2)
-          ∙ first-some (a .source .now) (a .line .tokens) (a .at) (a .line .count) past (e .if1 .left) (omega (arith, b .pre .0 .nine)),
+          ∙ first-some (a .source .now) (a .line .tokens) (a .at) (a .line .count) past (e .if1 .left) (omega (arith, b .pre .0 .places)),
       tt,
     )
 
@@ -76,7 +76,7 @@ inside : (c : tie.After-struct-known) → let a = c .before .before .before .bef
     let t = getD (a .line .tokens) (a .at) past in t .start + t .length ≤ length (a .source .now)
 inside c =
     let b = c .before .before .before .before .before .before .before in
-    let e = getD-any (b .args .line .tokens) (b .args .at) past filler (omega (arith, b .pre .0 .nine)) in
+    let e = getD-any (b .args .line .tokens) (b .args .at) past filler (omega (arith, b .pre .0 .places)) in
     rw e (b .pre .0 .inside-text (b .args .at))
 
 add-end : tie.Need-add-end
@@ -131,7 +131,7 @@ parse-row-requires c κs =
     let e = r .before .before .before .before .before .before .before .before .before in
     let b = e .before .before .before in
     let f = found-row r .0 in
-    (f, (rw (b .pre .1 .1 .1 .0) (form-column (r .row .given .0 .0) f), (e .if1 .left, (b .pre .1 .0, b .pre .0 .nine))))
+    (f, (rw (b .pre .1 .1 .1 .0) (form-column (r .row .given .0 .0) f), (e .if1 .left, (b .pre .1 .0, b .pre .0 .places))))
 
 -- the mnemonic's token is the first of the line behind `at`
 first : (c : tie.After-enum-told) → let a = c .before .before .before .before .before .before .args in
@@ -140,7 +140,7 @@ first : (c : tie.After-enum-told) → let a = c .before .before .before .before 
 first c =
     let e = c .before .before .before in
     let b = e .before .before .before in
-    first-some (b .args .source .now) (b .args .line .tokens) (b .args .at) (b .args .line .count) past (e .if1 .left) (omega (arith, b .pre .0 .nine))
+    first-some (b .args .source .now) (b .args .line .tokens) (b .args .at) (b .args .line .count) past (e .if1 .left) (omega (arith, b .pre .0 .places))
 
 returns-3 : tie.Need-returns-3
 returns-3 c =

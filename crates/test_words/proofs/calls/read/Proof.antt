@@ -13,7 +13,7 @@ kept : (c : tie.After-tokenize) → Kept (c .before .before .args .text .now) (c
 kept c =
     let a = c .before .before .args in
     let r = line-read (a .text .now) (a .from) (c .tokenize .result) (c .tokenize .ensures) in
-    record { nine = r .nine; inside-text = r .inside-text }
+    record { places = r .places; inside-text = r .inside-text }
 
 returns : tie.Need-returns
 returns c = search needs
