@@ -18,7 +18,7 @@ use Rattle.instruction_operands.specs.Contracts.{Kept}
 use Rattle.image.specs.Settings.{Settings}
 use Rattle.image.specs.Program.{entry, imageLength}
 use Rattle.image.specs.Assembling.{Label as Meant, State, start, next, stop, Kind, empty, labelled, config, ignored, plain, isKnown, Context, Effect as MeantEffect, nothing, sets, codes, faulty, Read as MeantRead, readOn, changedBy, most-words, Walk, walk, refusing, readTo, most-bytes, reading, accepted, doing}
-use Rattle.image.specs.Lent.{over, Answer, assembled, refusal as refusalAnswer}
+use Rattle.image.specs.Lent.{over}
 use Rattle.image.specs.Meaning.{codedBy, instructionsOf, settingsOf, imageOf}
 use Rattle.image.specs.Contracts.{settingsMeant, recordMeant}
 use Rattle.image.specs.declared.config.Config.{Config}
@@ -36,8 +36,8 @@ use Rattle.image_passes.specs.declared.first_pass.Rest.the-variants.{Ref
 use Rattle.image_passes.specs.declared.first_pass.Outcome.{Outcome}
 use Rattle.image_passes.specs.declared.first_pass.Verdict.{Verdict}
 use Rattle.image_passes.specs.declared.first_pass.Verdict.the-variants.{Refused as Rejected, Finished}
-use Rattle.image_passes.specs.declared.second_pass.Assembled.{Assembled}
-use Rattle.image_passes.specs.declared.second_pass.Assembled.the-variants.{Is as IsAssembled, Refused, TooShort}
+use Rattle.image_passes.specs.declared.second_pass.Fill.{Fill}
+use Rattle.image_passes.specs.declared.second_pass.Fill.the-variants.{Filled, TooShort}
 use Rattle.image_passes.specs.declared.line.LineKind.{LineKind}
 use Rattle.image_passes.specs.declared.line.LineKind.the-variants.{Empty, Label as LabelKind, Config as ConfigKind, Ignored, Plain}
 use Rattle.image_passes.specs.declared.line.Effect.{Effect}
@@ -326,28 +326,7 @@ pub record Ready (s : List ℕ) (words : ℕ) (setup : Settings) : Type 0 where
   pub most : words ≤ 32768
   pub setup-is : settingsOf present s ≡ setup
 
--- ---- the answer
-
-abbrev pub answerMeant : Assembled → Answer
-answerMeant (IsAssembled words labels c) = assembled words labels (settingsMeant c)
-answerMeant (Refused n rust line labels) = refusalAnswer n rust line labels none
-answerMeant (TooShort labels needed) = refusalAnswer 23 0 0 labels (some needed)
-
--- "1 source over 1,048,576 bytes": "1 and 23 give both as 0".
-abbrev pub overlong : Assembled
-overlong = Refused 1 0 0 0
-
--- The answer for such a source, with an image buffer, and what the buffer holds afterwards.
-pub record Fills (s : List ℕ) (words labels : ℕ) (setup : Settings) (old new : List ℕ) (r : Assembled) : Type 0 where
-  pub answer : answerMeant r ≡ elim (leb (imageLength words) (length old)) [ true ↦ assembled words labels setup | false ↦ refusalAnswer 23 0 0 labels (some (imageLength words)) ]
+-- Whether the image of such a source fits an image buffer ("23 image buffer too short"), and what the buffer holds afterwards.
+pub record Fills (s : List ℕ) (words : ℕ) (old new : List ℕ) (r : Fill) : Type 0 where
+  pub answer : r ≡ elim (leb (imageLength words) (length old)) [ true ↦ Filled | false ↦ TooShort (imageLength words) ]
   pub holds : new ≡ elim (leb (imageLength words) (length old)) [ true ↦ over (imageOf present s) old | false ↦ old ]
-
--- What `finish` asks of a verdict.
-abbrev pub Finishable : List ℕ → Verdict → Type 0
-Finishable s (Rejected n rust line) = Unit {0}
-Finishable s (Finished words c) = Ready s words (settingsMeant c)
-
--- What a first walk that has ended comes to, with so many labels, an image buffer before and after.
-abbrev pub Finishes : List ℕ → ℕ → List ℕ → List ℕ → Assembled → Verdict → Type 0
-Finishes s labels old new r (Rejected n rust line) = (r ≡ Refused n rust line labels) × (new ≡ old)
-Finishes s labels old new r (Finished words c) = Fills s words labels (settingsMeant c) old new r

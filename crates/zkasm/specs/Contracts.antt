@@ -10,8 +10,8 @@ use Rattle.instruction_codec.specs.Contracts.{put}
 use Rattle.image.specs.Assembling.{assembling}
 use Rattle.image.specs.Lent.{over, answerOf, imageAfter}
 use Rattle.image.specs.Zkasm.{table-room}
-use Rattle.image_passes.specs.Contracts.{answerMeant}
-use Rattle.image_passes.specs.declared.second_pass.Assembled.{Assembled}
+use Rattle.image_assembler.specs.Contracts.{answerMeant}
+use Rattle.image_assembler.specs.declared.assembler.Assembled.{Assembled}
 use Rattle.zkasm.specs.Stdin.{deliveryOf, countOf, Transcript, Writing, printed, told, writingOf}
 use Rattle.zkasm.specs.declared.stdin.Delivery.{Delivery}
 use Rattle.zkasm.specs.declared.stdin.Input.{Input}
