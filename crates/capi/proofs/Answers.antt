@@ -6,9 +6,8 @@ use Rattle.image.specs.Opening.{opening}
 use Rattle.image.specs.Contracts.{openedMeant}
 use Rattle.image.specs.declared.program.Opened.{Opened}
 use Rattle.image_labels.specs.declared.label.Label.{Label}
-use Rattle.image_passes.specs.Contracts.{answerMeant}
-use Rattle.image_passes.specs.declared.second_pass.Assembled.{Assembled}
-use Rattle.image_assembler.specs.Contracts.{Assembles}
+use Rattle.image_assembler.specs.declared.assembler.Assembled.{Assembled}
+use Rattle.image_assembler.specs.Contracts.{answerMeant, Assembles}
 use Rattle.image_listing.specs.Contracts.{listingMeant, Lists}
 use Rattle.image_listing.specs.declared.disassembler.Listing.{Listing}
 use Rattle.capi.specs.Contracts.{assembleNumber, assembleValues, Handed, AssembleCall, openNumber, openValues, OpenCall, listNumber, listValues, ListCall}

@@ -38,11 +38,10 @@ use Rattle.walking.proofs.Calls.{Known, calls-to}
 use Rattle.walking.proofs.Numbers.{Numbers}
 use Rattle.image_labels.specs.declared.label.Label.{Label}
 use Rattle.image_labels.proofs.label.Label as L
-use Rattle.image_passes.specs.Contracts.{answerMeant}
-use Rattle.image_passes.specs.declared.second_pass.Assembled.{Assembled}
-use Rattle.image_passes.proofs.second_pass.Assembled as R
-use Rattle.image_passes.proofs.second_pass.Assembled.Laws as R′
-use Rattle.image_assembler.specs.Contracts.{Assembles}
+use Rattle.image_assembler.specs.declared.assembler.Assembled.{Assembled}
+use Rattle.image_assembler.proofs.assembler.Assembled as R
+use Rattle.image_assembler.proofs.assembler.Assembled.Laws as R′
+use Rattle.image_assembler.specs.Contracts.{answerMeant, Assembles}
 use Rattle.image_assembler.proofs.Shared.{rval}
 use Rattle.image_assembler.proofs.assembler.assemble as assemble
 use Rattle.capi.specs.Contracts.{Handed, AssembleCall}

@@ -1,11 +1,11 @@
 // The three operations for programs in C or Rust, which link this crate as a static library. Each returns the number of its refusal,
 // 0 where there is none, and writes the other values of its answer over a lent array.
-ghost use Rattle.image_passes.specs.Contracts.{answerMeant};
+ghost use Rattle.image_assembler.specs.Contracts.{answerMeant};
 ghost use Rattle.capi.specs.Contracts.{Handed, AssembleCall, OpenCall, ListCall};
 use image::program::Opened;
+use image_assembler::assembler::Assembled;
 use image_labels::label::Label;
 use image_listing::disassembler::Listing;
-use image_passes::second_pass::Assembled;
 
 // An answer of assembling, handed on.
 fn write_assembled(assembled: Assembled, answer: &mut [u64; 8]) -> u32

@@ -16,10 +16,9 @@ use Rattle.image.specs.Lent.{over, Answer, assembled, answerOf, entered, imageA
 use Rattle.image.specs.declared.config.Config.{Config}
 use Rattle.image_labels.specs.Contracts.{entryOf}
 use Rattle.image_labels.specs.declared.label.Label.{Label as Entry}
-use Rattle.image_passes.specs.Contracts.{answerMeant}
-use Rattle.image_passes.specs.declared.second_pass.Assembled.{Assembled}
-use Rattle.image_passes.specs.declared.second_pass.Assembled.the-variants.{Is as IsAssembled}
-use Rattle.image_assembler.specs.Contracts.{Assembles}
+use Rattle.image_assembler.specs.declared.assembler.Assembled.{Assembled}
+use Rattle.image_assembler.specs.declared.assembler.Assembled.the-variants.{Is as IsAssembled}
+use Rattle.image_assembler.specs.Contracts.{answerMeant, Assembles}
 use Rattle.image_listing.specs.Contracts.{listingMeant, Lists}
 use Rattle.image_listing.specs.declared.disassembler.Listing.{Listing}
 use Rattle.image.proofs.Lengths.{source-image-length}

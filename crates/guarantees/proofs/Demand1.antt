@@ -12,7 +12,7 @@ use Rattle.image.specs.Assembling.{Assembled as Reading, accepted, rejected, as
 use Rattle.image.specs.Listing.{Listing as Written, written, rejected as unwritten, listing}
 use Rattle.image.specs.Lent.{Answer, answerOf, entered, imageAfter, ListAnswer, listAnswerOf, textAfter}
 use Rattle.image.specs.Contracts.{openedMeant}
-use Rattle.image_passes.specs.Contracts.{answerMeant}
+use Rattle.image_assembler.specs.Contracts.{answerMeant}
 use Rattle.image_listing.specs.Contracts.{listingMeant}
 use Rattle.guarantees.specs.Calls.{assemblingNumbers, openingNumbers, OneOf, IsNumbered, IsOpening, IsListing, IsRefusal, IsUnlisted, labelCount, Demand1}
 use Rattle.guarantees.proofs.Numbered.{OfFault, OfAnswer, OfListing, assembling-numbered, opening-numbered, listing-numbered}

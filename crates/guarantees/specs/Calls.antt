@@ -17,11 +17,10 @@ use Rattle.image.specs.Meaning.{instructionsOf, settingsOf, imageOf, Accepted, 
 use Rattle.image.specs.Lent.{over, Answer, assembled, refusal, entered, ListAnswer, listed, unlisted}
 use Rattle.image.specs.Contracts.{openedMeant}
 use Rattle.image_labels.specs.Contracts.{entryOf}
-use Rattle.image_passes.specs.Contracts.{answerMeant}
-use Rattle.image_assembler.specs.Contracts.{Assembles}
+use Rattle.image_assembler.specs.Contracts.{answerMeant, Assembles}
 use Rattle.image_listing.specs.Contracts.{listingMeant, Lists}
 use Rattle.image_labels.specs.declared.label.Label.{Label as Entry}
-use Rattle.image_passes.specs.declared.second_pass.Assembled.{Assembled}
+use Rattle.image_assembler.specs.declared.assembler.Assembled.{Assembled}
 use Rattle.image.specs.declared.program.Opened.{Opened}
 use Rattle.image_listing.specs.declared.disassembler.Listing.{Listing}
 use Rattle.guarantees.specs.NameSets.{NameSet}

@@ -33,9 +33,9 @@ use Rattle.walking.proofs.Calls.{Known, calls-to}
 use Rattle.image_labels.specs.declared.label.Label.{Label}
 use Rattle.image_labels.proofs.label.Label as L
 use Rattle.image_labels.proofs.Owned.{TableIs, In, Away, lends-front, front-back}
-use Rattle.image_passes.specs.declared.second_pass.Assembled.{Assembled}
-use Rattle.image_passes.proofs.second_pass.Assembled as R
-use Rattle.image_passes.proofs.second_pass.Assembled.Laws as R′
+use Rattle.image_assembler.specs.declared.assembler.Assembled.{Assembled}
+use Rattle.image_assembler.proofs.assembler.Assembled as R
+use Rattle.image_assembler.proofs.assembler.Assembled.Laws as R′
 use Rattle.image_assembler.specs.Contracts.{Assembles}
 use Rattle.image_assembler.proofs.Shared.{Source, rval}
 use Rattle.image_assembler.proofs.assembler.assemble as assemble

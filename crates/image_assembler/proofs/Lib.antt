@@ -1,3 +1,4 @@
+pub mod Answers
 pub mod Bare
 pub mod Called
 pub mod Shared

@@ -31,7 +31,7 @@ use Rattle.image_passes.specs.declared.first_pass.Pass.{Pass}
 use Rattle.image_passes.specs.declared.first_pass.Pass.the-variants.{AtLabel, Ended}
 use Rattle.image_passes.specs.declared.first_pass.LabelLine.{LabelLine}
 use Rattle.image_passes.specs.declared.first_pass.Outcome.{Outcome}
-use Rattle.image_passes.specs.declared.second_pass.Assembled.{Assembled}
+use Rattle.image_assembler.specs.declared.assembler.Assembled.{Assembled}
 use Rattle.image_passes.proofs.first_pass.Next as N
 use Rattle.image_passes.proofs.first_pass.Next.Laws as N′
 use Rattle.image_passes.proofs.first_pass.Pass as P
@@ -40,8 +40,8 @@ use Rattle.image_passes.proofs.first_pass.LabelLine as Q
 use Rattle.image_passes.proofs.first_pass.LabelLine.Laws as Q′
 use Rattle.image_passes.proofs.first_pass.Outcome as O
 use Rattle.image_passes.proofs.first_pass.Outcome.Laws as O′
-use Rattle.image_passes.proofs.second_pass.Assembled as R
-use Rattle.image_passes.proofs.second_pass.Assembled.Laws as R′
+use Rattle.image_assembler.proofs.assembler.Assembled as R
+use Rattle.image_assembler.proofs.assembler.Assembled.Laws as R′
 
 -- ---- what the walk does next, a pass, a line with a label, an outcome and an answer
 

@@ -21,17 +21,17 @@ use Rattle.image_labels.proofs.Finding.{unlinked-long}
 use Rattle.image_labels.specs.declared.label.Label.{Label}
 use Rattle.image_labels.specs.declared.label.Entered.{Entered}
 use Rattle.image_labels.specs.declared.label.Entered.the-variants.{New, Duplicate, Full}
-use Rattle.image_passes.specs.Contracts.{LabelNext, Progress, SoundPass, Resumes, ScannableNext, After, ReadsOn, Begins, Follows, withEntry, labelAt, GoesOn, overlong, Finishable, Finishes}
+use Rattle.image_passes.specs.Contracts.{LabelNext, Progress, SoundPass, Resumes, ScannableNext, After, ReadsOn, Begins, Follows, withEntry, labelAt, GoesOn}
 use Rattle.image_passes.specs.declared.first_pass.Pass.{Pass}
 use Rattle.image_passes.specs.declared.first_pass.Pass.the-variants.{AtLabel, Ended as PassEnded}
 use Rattle.image_passes.specs.declared.first_pass.Next.{Next}
 use Rattle.image_passes.specs.declared.first_pass.Next.the-variants.{From, Ended as NextEnded}
 use Rattle.image_passes.specs.declared.first_pass.LabelLine.{LabelLine}
 use Rattle.image_passes.specs.declared.first_pass.Outcome.{Outcome}
-use Rattle.image_passes.specs.declared.second_pass.Assembled.{Assembled}
-use Rattle.image_passes.proofs.Answers.{ends-ready, ends-answers, overlong-answers}
 use Rattle.image.proofs.Over.{take-over, length-over, over-more}
-use Rattle.image_assembler.specs.Contracts.{Holds, Walks, Assembles}
+use Rattle.image_assembler.specs.Contracts.{overlong, Finishable, Finishes, Holds, Walks, Assembles}
+use Rattle.image_assembler.specs.declared.assembler.Assembled.{Assembled}
+use Rattle.image_assembler.proofs.Answers.{ends-ready, ends-answers, overlong-answers}
 
 -- ---- labels and their entries
 

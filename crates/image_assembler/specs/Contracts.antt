@@ -2,17 +2,59 @@
 use Prim.Native.Nat.{ℕ, _≤_}
 use mathlib.Core.Path.{_≡_}
 use mathlib.Core.List.{List, map}
+use mathlib.Core.Option.{none, some}
 use lib.ListN.{length}
 use Rattle.text_lexical.specs.Names.{present}
 use Rattle.image.specs.Assembling.{most-bytes, assembling}
 use Rattle.image.specs.Assembling.{Label as Meant}
-use Rattle.image.specs.Lent.{over, answerOf, entered, imageAfter}
+use Rattle.image.specs.Lent.{over, Answer, assembled, refusal as refusalAnswer, answerOf, entered, imageAfter}
+use Rattle.image.specs.Contracts.{settingsMeant}
+use Rattle.image.specs.declared.config.Config.{Config}
 use Rattle.image_labels.specs.Contracts.{entryOf, Spelled}
 use Rattle.image_labels.specs.Tree.{unlinked, Bare, Tree}
 use Rattle.image_labels.specs.declared.label.Label.{Label}
-use Rattle.image_passes.specs.Contracts.{WalkEnds, answerMeant}
+use Rattle.image_passes.specs.Contracts.{WalkEnds, Ready, Fills}
 use Rattle.image_passes.specs.declared.first_pass.Outcome.{Outcome}
-use Rattle.image_passes.specs.declared.second_pass.Assembled.{Assembled}
+use Rattle.image_passes.specs.declared.first_pass.Verdict.{Verdict}
+use Rattle.image_passes.specs.declared.first_pass.Verdict.the-variants.{Refused as Rejected, Finished}
+use Rattle.image_passes.specs.declared.second_pass.Fill.{Fill}
+use Rattle.image_passes.specs.declared.second_pass.Fill.the-variants.{Filled, TooShort as NotFilled}
+use Rattle.image_assembler.specs.declared.assembler.Assembled.{Assembled}
+use Rattle.image_assembler.specs.declared.assembler.Assembled.the-variants.{Is, Refused, TooShort}
+
+-- ---- the answer
+
+abbrev pub answerMeant : Assembled → Answer
+answerMeant (Is words labels c) = assembled words labels (settingsMeant c)
+answerMeant (Refused n rust line labels) = refusalAnswer n rust line labels none
+answerMeant (TooShort labels needed) = refusalAnswer 23 0 0 labels (some needed)
+
+-- "1 source over 1,048,576 bytes": "1 and 23 give both as 0".
+abbrev pub overlong : Assembled
+overlong = Refused 1 0 0 0
+
+-- The answer for a source that the first walk has finished, by whether its image fits.
+abbrev pub answerFor : Fill → ℕ → ℕ → Config → Assembled
+answerFor Filled words labels c = Is words labels c
+answerFor (NotFilled needed) words labels c = TooShort labels needed
+
+-- What `finish` asks of a verdict.
+abbrev pub Finishable : List ℕ → Verdict → Type 0
+Finishable s (Rejected n rust line) = Unit {0}
+Finishable s (Finished words c) = Ready s words (settingsMeant c)
+
+-- What a walk that has been finished comes to, with an image buffer before and after.
+pub record Completes (s : List ℕ) (words labels : ℕ) (c : Config) (old new : List ℕ) (r : Assembled) : Type 0 where
+  pub fill : Fill
+  pub fills : Fills s words old new fill
+  pub answer : r ≡ answerFor fill words labels c
+
+-- What a first walk that has ended comes to, with so many labels, and an image buffer before and after.
+abbrev pub Finishes : List ℕ → ℕ → List ℕ → List ℕ → Assembled → Verdict → Type 0
+Finishes s labels old new r (Rejected n rust line) = (r ≡ Refused n rust line labels) × (new ≡ old)
+Finishes s labels old new r (Finished words c) = Completes s words labels c old new r
+
+-- ---- assembling
 
 -- What the first walk starts from: a source that is not too long, and empty buckets.
 pub record Starts (s roots : List ℕ) : Type 0 where

@@ -18,7 +18,7 @@ use Rattle.text_lexical.proofs.Keys.{Below}
 use Rattle.text_lexical.proofs.Tests.{split, by-test, no-both, or-left, between-true, Each, in-run}
 use Rattle.text_lexical.proofs.Strings.{every-tail, run-past, run-yes, same-eq, found}
 use Rattle.text.specs.Tokens.{Token, identifier, register, number, hex, binary, directive, comma, colon, opening, closing, infront, tokens}
-use Rattle.text.specs.Lines.{Line, indent, lineOf, recordOf, readLine}
+use Rattle.text.specs.Lines.{Line, indent, kept, lineOf, recordOf, readLine}
 use Rattle.text.specs.Places.{restAt, leftAt, endAt}
 use Rattle.text.specs.declared.lexer.Kind.the-variants.{Identifier}
 use Rattle.text.proofs.Left.{start-solid, content-at, indent-at}
@@ -307,9 +307,9 @@ row-read : (i : ℕ) (u : List ℕ) (ts : List Token) (o : Kept) → rowNamed (m
 unfolding readMnemonic readIdentifier readRow made
 row-read i u ts o n l h = rw (readMnemonic, n, readRow, eq-eqb (length ts) (length (places (rowAt i .form))) l, h)
 
-kept-all : (ts : List Token) → length ts ≤ 9 → lineOf ts ≡ record { count = length ts; first = ts }
+kept-all : (ts : List Token) → length ts ≤ kept → lineOf ts ≡ record { count = length ts; first = ts }
 unfolding lineOf
-kept-all ts h = rw (take-all 9 ts h)
+kept-all ts h = rw (take-all kept ts h)
 
 -- A line by its tokens.
 tokens-line : (s : List ℕ) (from start : ℕ) (ts : List Token) → start ≡ from + run margin (drop from s) → tokens present (leftAt s start) ≡ some ts → length ts ≤ 9

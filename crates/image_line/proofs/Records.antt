@@ -13,7 +13,7 @@ use Rattle.text_lexical.specs.Names.{present}
 use Rattle.text_lexical.proofs.Tests.{split}
 use Rattle.text.specs.Tokens.{identifier, register, number, hex, binary, directive, comma, colon, opening, closing}
 use Rattle.text.specs.Tokens.{Token as Meant}
-use Rattle.text.specs.Lines.{indent, readLine}
+use Rattle.text.specs.Lines.{indent, kept, readLine}
 use Rattle.text.specs.Lines.{Line as Record}
 use Rattle.text.specs.Places.{restAt}
 use Rattle.text.specs.Contracts.{kindMeant, filler, firsts, meant, spelling, recordAt}
@@ -59,7 +59,7 @@ module _ (s : List ℕ) (ts : List Token) (count : ℕ) where
   unfolding kindOf
   kind-none e = rw (tokens-end 0 (omega arith))
 
-  module _ (nine : length ts ≡ 9) (some-tokens : 0 < count) where
+  module _ (full : length ts ≡ kept) (some-tokens : 0 < count) where
     first-is : (k : Kind) → kindOf (meant s (getD ts 0 filler) ∷ drop 1 (firsts s ts count)) ≡ k → k ≡ kindOf (firsts s ts count)
     first-is k e = sym (ap kindOf (token-at 0 some-tokens (omega arith)) ∙ e)
 

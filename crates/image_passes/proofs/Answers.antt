@@ -1,4 +1,4 @@
--- What the first walk begins with, and what assembling answers by what the walks come to.
+-- What the first walk begins with, and what its end says of the source and of the image.
 use Prim.Native.Nat.{ℕ, suc, _+_, _*_, _≤_, _<_}
 use mathlib.Core.Path.{_≡_, refl, sym, ap, _∙_, subst}
 use native.Mathlib.Omega.{arith}
@@ -20,18 +20,13 @@ use Rattle.text.specs.Lines.{Line as Record}
 use Rattle.instruction.specs.Words.{wordOf}
 use Rattle.image.specs.Settings.{Settings, begin}
 use Rattle.image.specs.Program.{headerBytes, headerFor, header-size, image, imageLength}
-use Rattle.image.specs.Assembling.{Label, State, start, Step, next, stop, readOn, entering, doing, step, contextOf, Walk, finished, stopped, walk, Refusal, Assembled, accepted, rejected, refusing, readTo, most-bytes, reading, fitted, assembling}
+use Rattle.image.specs.Assembling.{Label, State, start, Step, next, stop, readOn, entering, doing, step, contextOf, Walk, finished, stopped, walk, Refusal, Assembled, accepted, rejected, refusing, readTo, most-bytes, reading}
 use Rattle.image.specs.Meaning.{instructionsOf, settingsOf, imageOf}
-use Rattle.image.specs.Lent.{answerOf, entered, imageAfter}
 use Rattle.image.specs.Contracts.{settingsMeant}
-use Rattle.image_passes.specs.Contracts.{allRead, codeBytes, whole, Reached, Judges, WalkEnds, refusedAt, Begins, Ready, answerMeant, Fills, Finishable, Finishes}
+use Rattle.image_passes.specs.Contracts.{allRead, codeBytes, whole, Reached, Accepts, WalkEnds, refusedAt, Begins, Ready, Fills}
 use Rattle.image.specs.declared.config.Config.{Config}
 use Rattle.image_passes.specs.declared.first_pass.Next.the-variants.{From, Ended as NextEnded}
-use Rattle.image_passes.specs.declared.first_pass.Outcome.{Outcome}
-use Rattle.image_passes.specs.declared.first_pass.Verdict.{Verdict}
-use Rattle.image_passes.specs.declared.first_pass.Verdict.the-variants.{Refused as Rejected, Finished}
-use Rattle.image_passes.specs.declared.second_pass.Assembled.{Assembled as Answered}
-use Rattle.image_passes.specs.declared.second_pass.Assembled.the-variants.{Is, Refused, TooShort}
+use Rattle.image_passes.specs.declared.second_pass.Fill.the-variants.{Filled, TooShort}
 use Rattle.image.proofs.Images.{code-length, header-length}
 use Rattle.image.proofs.Walking.{MeansIf, reading-means}
 use Rattle.image.proofs.Over.{written-over}
@@ -71,21 +66,21 @@ module _ {s : List ℕ} {words : ℕ} {setup : Settings} (r : Ready s words setu
       (ap (λ (x : List ℕ). headerBytes (headerFor (settingsOf present s) (4 * length (map wordOf (instructionsOf present s))) 0) ++ x) (sym (append-nil (flatMap (little 4) (map wordOf (instructionsOf present s))))))
 
   -- The header, and the words behind it, are the image.
-  pub fills-image : (labels : ℕ) {old m new : List ℕ} {p q : ℕ} (c : Config) → settingsMeant c ≡ setup → 32 + 4 * words ≤ length old
-      → Written old 0 (headerBytes (headerFor setup (4 * words) 0)) p m → Written m 32 (codeBytes s) q new → Fills s words labels setup old new (Is words labels c)
+  pub fills-image : {old m new : List ℕ} {p q : ℕ} → 32 + 4 * words ≤ length old → Written old 0 (headerBytes (headerFor setup (4 * words) 0)) p m → Written m 32 (codeBytes s) q new
+      → Fills s words old new Filled
   unfolding imageLength header-size
-  fills-image labels {old} {m} {new} {p} {q} c e h a b =
+  fills-image {old} {m} {new} {p} {q} h a b =
       let l : leb (32 + 4 * words) (length old) ≡ true = le-leb (32 + 4 * words) (length old) h in
       let behind : 32 ≡ p = omega (arith, a .ends, header-length (headerFor setup (4 * words) 0)) in
       record {
-        answer = rw (imageLength, l, e);
+        answer = rw (imageLength, l);
         holds = rw (imageLength, l, ← image-is) (written-over (written-append a (omega arith) (subst (λ (n : ℕ). Written m n (codeBytes s) q new) behind b)));
       }
 
   -- The buffer is too short.
-  pub fills-not : (labels : ℕ) (old : List ℕ) → length old < 32 + 4 * words → Fills s words labels setup old old (TooShort labels (32 + 4 * words))
+  pub fills-not : (old : List ℕ) → length old < 32 + 4 * words → Fills s words old old (TooShort (32 + 4 * words))
   unfolding imageLength header-size
-  fills-not labels old h =
+  fills-not old h =
       let l : leb (32 + 4 * words) (length old) ≡ false = lt-leb (32 + 4 * words) (length old) h in
       record { answer = rw (imageLength, l); holds = rw (imageLength, l) }
 
@@ -147,10 +142,9 @@ accepted-done s room {st} e = go (leb (length s) most-bytes) (every ascii s) e
     go true false z = not-accepted z
     go true true z = by (whole s room) z
 
--- What a source means whose walk has finished.
-pub ends-ready : (s : List ℕ) (room : ℕ) (ls : List Label) (v : Verdict) → Judges s room ls v → Finishable s v
-ends-ready s room ls (Rejected n rust line) j = tt
-ends-ready s room ls (Finished words c) j =
+-- What a source means that is accepted.
+pub accepts-ready : {s : List ℕ} {room : ℕ} {ls : List Label} {words : ℕ} {setup : Settings} → Accepts s room ls words setup → Ready s words setup
+accepts-ready {s} {room} j =
     let u : MeansIf present s (accepted (j .state)) = rw (j .accepts) at (reading-means present s room) in
     record {
       readable = walk-reads room 1 0 start (lines s) (accepted-done s room (j .accepts));
@@ -158,45 +152,3 @@ ends-ready s room ls (Finished words c) j =
       most = rw (← j .words-are) (u .few);
       setup-is = sym (u .setup) ∙ j .setup-is;
     }
-
--- What assembling answers, what its image buffer holds, and which labels it has entered.
-pub record Answers (s : List ℕ) (room : ℕ) (ls : List Label) (old new : List ℕ) (r : Answered) : Type 0 where
-  pub answer : answerMeant r ≡ answerOf (assembling present s room (length old))
-  pub image-holds : new ≡ imageAfter present s (assembling present s room (length old)) old
-  pub labels-are : ls ≡ entered (assembling present s room (length old))
-
-pub ends-answers : {s : List ℕ} {room : ℕ} {ls : List Label} {o : Outcome} {old new : List ℕ} {r : Answered} → WalkEnds s room ls o → Finishes s (o .labels) old new r (o .verdict)
-    → Answers s room ls old new r
-unfolding readTo assembling fitted refusing answerOf entered imageAfter
-ends-answers {s} {room} {ls} {o} {old} {new} {r} t h = go (o .verdict) (t .judges) h
-  where
-    go : (v : Verdict) → Judges s room ls v → Finishes s (o .labels) old new r v → Answers s room ls old new r
-    go (Rejected n rust line) e (x, y) =
-        let a : assembling present s room (length old) ≡ refusing n rust line ls none = ap (fitted (length old)) e in
-        record {
-          answer = ap answerMeant x ∙ rw (t .count) (ap answerOf (sym a));
-          image-holds = y ∙ ap (λ (z : Assembled). imageAfter present s z old) (sym a);
-          labels-are = ap entered (sym a);
-        }
-    go (Finished words c) j fills = on (leb (imageLength (length (j .state .instructions))) (length old)) refl
-      where
-        on : (b : Bool) → leb (imageLength (length (j .state .instructions))) (length old) ≡ b → Answers s room ls old new r
-        on true q =
-            let a : assembling present s room (length old) ≡ accepted (j .state) = ap (fitted (length old)) (j .accepts) ∙ rw (fitted, q) in
-            let x = rw (← j .words-are, q, ← j .words-are, ← j .setup-is, t .count, ← j .labels-are) at (fills .answer) in
-            let y = rw (← j .words-are, q) at (fills .holds) in
-            record { answer = x ∙ ap answerOf (sym a); image-holds = y ∙ ap (λ (z : Assembled). imageAfter present s z old) (sym a); labels-are = sym (j .labels-are) ∙ ap entered (sym a) }
-        on false q =
-            let n = imageLength (length (j .state .instructions)) in
-            let a : assembling present s room (length old) ≡ refusing 23 0 0 (j .state .labels) (some n) = ap (fitted (length old)) (j .accepts) ∙ rw (fitted, q) in
-            let x = rw (← j .words-are, q, ← j .words-are, t .count, ← j .labels-are) at (fills .answer) in
-            let y = rw (← j .words-are, q) at (fills .holds) in
-            record { answer = x ∙ ap answerOf (sym a); image-holds = y ∙ ap (λ (z : Assembled). imageAfter present s z old) (sym a); labels-are = sym (j .labels-are) ∙ ap entered (sym a) }
-
--- A source that is too long.
-pub overlong-answers : (s : List ℕ) (room : ℕ) (old : List ℕ) → most-bytes < length s → Answers s room [] old old (Refused 1 0 0 0)
-unfolding reading assembling fitted refusing answerOf entered imageAfter
-overlong-answers s room old h =
-    let e : reading present s room ≡ refusing 1 0 0 [] none = rw (reading, lt-leb (length s) most-bytes h) in
-    let a : assembling present s room (length old) ≡ refusing 1 0 0 [] none = ap (fitted (length old)) e in
-    record { answer = ap answerOf (sym a); image-holds = ap (λ (z : Assembled). imageAfter present s z old) (sym a); labels-are = ap entered (sym a) }

@@ -15,7 +15,7 @@ use Rattle.instruction.specs.Words.{wordOf}
 use Rattle.image.specs.Settings.{Settings}
 use Rattle.image.specs.Program.{entry, imageLength}
 use Rattle.image.specs.Assembling.{Label as Meant, State, start, next, stop, config, isKnown, Effect as MeantEffect, nothing, readOn, changedBy, most-words, Walk, walk, refusing, readTo, most-bytes, reading, accepted, doing}
-use Rattle.image.specs.Lent.{over, Answer, assembled, refusal as refusalAnswer}
+use Rattle.image.specs.Lent.{over}
 use Rattle.image.specs.Meaning.{codedBy, instructionsOf, settingsOf, imageOf}
 use Rattle.image.specs.Contracts.{settingsMeant}
 use Rattle.image.specs.declared.config.Config.{Config}
@@ -34,8 +34,8 @@ use Rattle.image_passes.specs.declared.first_pass.Rest.the-variants.{Ref
 use Rattle.image_passes.specs.declared.first_pass.Outcome.{Outcome}
 use Rattle.image_passes.specs.declared.first_pass.Verdict.{Verdict}
 use Rattle.image_passes.specs.declared.first_pass.Verdict.the-variants.{Refused as Rejected, Finished}
-use Rattle.image_passes.specs.declared.second_pass.Assembled.{Assembled}
-use Rattle.image_passes.specs.declared.second_pass.Assembled.the-variants.{Is as IsAssembled, Refused, TooShort}
+use Rattle.image_passes.specs.declared.second_pass.Fill.{Fill}
+use Rattle.image_passes.specs.declared.second_pass.Fill.the-variants.{Filled, TooShort}
 use Rattle.image_line.specs.declared.line.Effect.{Effect}
 use Rattle.image_line.specs.declared.line.Effect.the-variants.{Nothing, Sets, Codes, Faulty}
 use Rattle.image_passes.specs.declared.second_pass.Coded.{Coded as Coding}
@@ -254,28 +254,7 @@ pub record Ready (s : List ℕ) (words : ℕ) (setup : Settings) : Type 0 where
   pub most : words ≤ 32768
   pub setup-is : settingsOf present s ≡ setup
 
--- ---- the answer
-
-abbrev pub answerMeant : Assembled → Answer
-answerMeant (IsAssembled words labels c) = assembled words labels (settingsMeant c)
-answerMeant (Refused n rust line labels) = refusalAnswer n rust line labels none
-answerMeant (TooShort labels needed) = refusalAnswer 23 0 0 labels (some needed)
-
--- "1 source over 1,048,576 bytes": "1 and 23 give both as 0".
-abbrev pub overlong : Assembled
-overlong = Refused 1 0 0 0
-
--- The answer for such a source, with an image buffer, and what the buffer holds afterwards.
-pub record Fills (s : List ℕ) (words labels : ℕ) (setup : Settings) (old new : List ℕ) (r : Assembled) : Type 0 where
-  pub answer : answerMeant r ≡ elim (leb (imageLength words) (length old)) [ true ↦ assembled words labels setup | false ↦ refusalAnswer 23 0 0 labels (some (imageLength words)) ]
+-- Whether the image of such a source fits an image buffer ("23 image buffer too short"), and what the buffer holds afterwards.
+pub record Fills (s : List ℕ) (words : ℕ) (old new : List ℕ) (r : Fill) : Type 0 where
+  pub answer : r ≡ elim (leb (imageLength words) (length old)) [ true ↦ Filled | false ↦ TooShort (imageLength words) ]
   pub holds : new ≡ elim (leb (imageLength words) (length old)) [ true ↦ over (imageOf present s) old | false ↦ old ]
-
--- What `finish` asks of a verdict.
-abbrev pub Finishable : List ℕ → Verdict → Type 0
-Finishable s (Rejected n rust line) = Unit {0}
-Finishable s (Finished words c) = Ready s words (settingsMeant c)
-
--- What a first walk that has ended comes to, with so many labels, an image buffer before and after.
-abbrev pub Finishes : List ℕ → ℕ → List ℕ → List ℕ → Assembled → Verdict → Type 0
-Finishes s labels old new r (Rejected n rust line) = (r ≡ Refused n rust line labels) × (new ≡ old)
-Finishes s labels old new r (Finished words c) = Fills s words labels (settingsMeant c) old new r

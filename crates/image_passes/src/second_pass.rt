@@ -1,4 +1,4 @@
-// The second walk writes the words; and what assembling answers.
+// The second walk writes the words.
 ghost use mathlib.Core.Path.{_≡_};
 ghost use mathlib.Core.List.{flatMap};
 ghost use Prim.Native.Nat.{_+_, _≤_, _<_};
@@ -9,31 +9,16 @@ ghost use Rattle.instruction.specs.Words.{wordOf};
 ghost use Rattle.instruction.specs.Contracts.{opcodeNumbers, partsMeant};
 ghost use Rattle.image.specs.Contracts.{settingsMeant};
 ghost use Rattle.image_line.specs.Contracts.{Tables};
-ghost use Rattle.image_passes.specs.Contracts.{codedMeant, CodesLine, Readable, codeBytes, Ready, overlong as overlongAnswer, Fills, Finishable, Finishes};
-use crate::first_pass::Outcome;
-use crate::first_pass::Verdict;
+ghost use Rattle.image_passes.specs.Contracts.{codedMeant, CodesLine, Readable, codeBytes, Ready, Fills};
 use image::config::Config;
 use image_line::line::Effect;
 use instruction::instruction::Instruction;
 use instruction::instruction::Operands;
 
-pub enum Assembled {
-    Is {
-        words: usize,
-        labels: usize,
-        config: Config,
-    },
-    Refused {
-        number: u8,
-        rust_line: usize,
-        line: usize,
-        labels: usize,
-    },
-    // 23: the length that is needed
-    TooShort {
-        labels: usize,
-        needed: usize,
-    },
+// Whether an image buffer is filled, or the length that is needed.
+pub enum Fill {
+    Filled,
+    TooShort(usize),
 }
 
 // The word of a line, if it has one.
@@ -132,80 +117,25 @@ fn second_pass(
     }
 }
 
-// The image of a source that the first walk has finished: 23, or the header and the words.
-fn write_image(
+// The image of a source that the first walk has finished: the header and the words, if the buffer is long enough for all of it.
+pub fn write_image(
     source: &[u8],
     image: &mut [u8],
     words: usize,
-    labels: usize,
     config: Config,
     mnemonics: &[u64; 50],
     forms: &[u8; 50],
     slots: &[u8; 293],
-) -> Assembled
+) -> Fill
     requires { ⌜ Ready (now source) words (settingsMeant config) ⌝ ∗ ⌜ Tables (now mnemonics) (now forms) (now slots) ⌝ }
-    ensures { λ r. ⌜ Fills (now (source .entry)) words labels (settingsMeant config) (now (image .entry)) (now (image .exit)) r ⌝ }
+    ensures { λ r. ⌜ Fills (now (source .entry)) words (now (image .entry)) (now (image .exit)) r ⌝ }
 {
     let needed = 32 + 4 * words;
     if image.len() < needed {
-        return Assembled::TooShort { labels, needed };
+        return Fill::TooShort(needed);
     }
     let opcodes = instruction::opcode::opcodes();
     image::program::write_header(image, config, 4 * (words as u32));
     second_pass(source, image, mnemonics, &opcodes, forms, slots);
-    Assembled::Is {
-        words,
-        labels,
-        config,
-    }
-}
-
-// The answer for a source that is too long.
-pub fn overlong() -> Assembled
-    ensures { λ r. ⌜ r ≡ overlongAnswer ⌝ }
-{
-    Assembled::Refused {
-        number: 1,
-        rust_line: 0,
-        line: 0,
-        labels: 0,
-    }
-}
-
-// What a first walk that has ended comes to: its refusal, or the image.
-pub fn finish(
-    source: &[u8],
-    image: &mut [u8],
-    outcome: Outcome,
-    mnemonics: &[u64; 50],
-    forms: &[u8; 50],
-    slots: &[u8; 293],
-) -> Assembled
-    requires { ⌜ Finishable (now source) (outcome .verdict) ⌝ ∗ ⌜ Tables (now mnemonics) (now forms) (now slots) ⌝ }
-    ensures { λ r. ⌜ Finishes (now (source .entry)) (outcome .labels) (now (image .entry)) (now (image .exit)) r (outcome .verdict) ⌝ }
-{
-    let labels = outcome.labels;
-    let verdict = outcome.verdict;
-    match verdict {
-        Verdict::Refused {
-            number,
-            rust_line,
-            line,
-        } => Assembled::Refused {
-            number,
-            rust_line,
-            line,
-            labels,
-        },
-        Verdict::Finished { words, config } => write_image(
-            source,
-            image,
-            words,
-            labels,
-            config,
-            mnemonics,
-            forms,
-            slots,
-        ),
-    }
+    Fill::Filled
 }

@@ -1,7 +1,6 @@
 -- The library's answers, as the list has them.
-use Prim.Native.Nat.{ℕ}
-use Rattle.image_passes.specs.declared.second_pass.Assembled.{Assembled}
-use Rattle.image_passes.specs.declared.second_pass.Assembled.the-variants.{Is as IsAssembled, Refused as RefusedAssembling, TooShort as ImageTooShort}
+use Rattle.image_assembler.specs.declared.assembler.Assembled.{Assembled}
+use Rattle.image_assembler.specs.declared.assembler.Assembled.the-variants.{Is as IsAssembled, Refused as RefusedAssembling, TooShort as ImageTooShort}
 use Rattle.image.specs.declared.program.Opened.{Opened}
 use Rattle.image.specs.declared.program.Opened.the-variants.{Is as IsOpened, Refused as RefusedOpening}
 use Rattle.image_listing.specs.declared.disassembler.Listing.{Listing}

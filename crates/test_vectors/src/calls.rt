@@ -12,9 +12,9 @@ use crate::table::has_labels;
 use image::config::Config;
 use image::program::Opened;
 use image::program::ProgramHeader;
+use image_assembler::assembler::Assembled;
 use image_labels::label::Label as Entry;
 use image_listing::disassembler::Listing;
-use image_passes::second_pass::Assembled;
 
 // Which function assembles: the library's, or the exported one.
 pub enum Assembler {

@@ -9,9 +9,9 @@ use Rattle.text_lexical.specs.Names.{present}
 use Rattle.text_writer.specs.Contracts.{put}
 use Rattle.image.specs.Assembling.{assembling}
 use Rattle.image.specs.Lent.{over, answerOf, imageAfter}
+use Rattle.image_assembler.specs.Contracts.{answerMeant}
+use Rattle.image_assembler.specs.declared.assembler.Assembled.{Assembled}
 use Rattle.zkasm.specs.Zkasm.{table-room}
-use Rattle.image_passes.specs.Contracts.{answerMeant}
-use Rattle.image_passes.specs.declared.second_pass.Assembled.{Assembled}
 use Rattle.zkasm.specs.Stdin.{deliveryOf, countOf, Transcript, Writing, printed, told, writingOf}
 use Rattle.zkasm.specs.declared.stdin.Delivery.{Delivery}
 use Rattle.zkasm.specs.declared.stdin.Input.{Input}

@@ -5,9 +5,9 @@ ghost use lib.ListN.{length};
 ghost use Rattle.image.specs.Listing.{textOf, written, listing};
 ghost use Rattle.zkasm.specs.Zkasm.{most-input, image-room, text-room, refusalText, programOutput};
 ghost use Rattle.zkasm.specs.Contracts.{AssemblesInput, Prints};
+use image_assembler::assembler::Assembled;
 use image_labels::label::Label;
 use image_listing::disassembler::Listing;
-use image_passes::second_pass::Assembled;
 
 // `refused N line L`
 fn write_refusal(out: &mut [u8], number: u8, line: usize) -> usize

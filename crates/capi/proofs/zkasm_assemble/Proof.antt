@@ -30,8 +30,8 @@ use Rattle.walking.proofs.Locals.{Locals, frees-all}
 use Rattle.walking.proofs.Numbers.{cells}
 use Rattle.image_labels.specs.declared.label.Label.{Label}
 use Rattle.image_labels.proofs.label.Label as L
-use Rattle.image_passes.proofs.second_pass.Assembled as R
-use Rattle.image_passes.proofs.second_pass.Assembled.Laws as R′
+use Rattle.image_assembler.proofs.assembler.Assembled as R
+use Rattle.image_assembler.proofs.assembler.Assembled.Laws as R′
 use Rattle.image_assembler.proofs.Shared.{rval}
 use Rattle.image_assembler.proofs.assembler.assemble.Symbol as assemble-def
 use Rattle.image_assembler.proofs.assembler.assemble.Symbol.{name as #assemble}

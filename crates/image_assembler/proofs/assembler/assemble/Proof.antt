@@ -70,20 +70,19 @@ use Rattle.image_labels.specs.declared.label.Label.{Label}
 use Rattle.image_labels.proofs.label.Label as L
 use Rattle.image_labels.proofs.label.Label.Laws as L′
 use Rattle.image_line.specs.Contracts.{Tables as Listed}
-use Rattle.image_passes.specs.Contracts.{overlong}
-use Rattle.image_passes.specs.declared.second_pass.Assembled.{Assembled}
-use Rattle.image_passes.proofs.second_pass.Assembled as R
-use Rattle.image_passes.proofs.second_pass.Assembled.Laws as R′
+use Rattle.image_assembler.specs.declared.assembler.Assembled.{Assembled}
+use Rattle.image_assembler.proofs.assembler.Assembled as R
+use Rattle.image_assembler.proofs.assembler.Assembled.Laws as R′
 use Rattle.image_passes.proofs.first_pass.too_long as too-long
 use Rattle.image_passes.proofs.first_pass.too_long.Symbol as too-long-def
 use Rattle.image_passes.proofs.first_pass.too_long.Symbol.{name as #too-long}
 use Rattle.image_passes.proofs.first_pass.too_long.Met as too-long-thm
-use Rattle.image_passes.proofs.second_pass.overlong as over-long
-use Rattle.image_passes.proofs.second_pass.overlong.Symbol as over-long-def
-use Rattle.image_passes.proofs.second_pass.overlong.Symbol.{name as #over-long}
-use Rattle.image_passes.proofs.second_pass.overlong.Met as over-long-thm
-use Rattle.image_assembler.specs.Contracts.{Assembles}
-use Rattle.image_assembler.proofs.Shared.{rval, Constants, constantVals, Source, Shared, shared-twice, Alive, Others, lives, wholes, refs, lends-tables, tables-back}
+use Rattle.image_assembler.proofs.assembler.overlong as over-long
+use Rattle.image_assembler.proofs.assembler.overlong.Symbol as over-long-def
+use Rattle.image_assembler.proofs.assembler.overlong.Symbol.{name as #over-long}
+use Rattle.image_assembler.proofs.assembler.overlong.Met as over-long-thm
+use Rattle.image_assembler.specs.Contracts.{overlong, Assembles}
+use Rattle.image_assembler.proofs.Shared.{rval, Constants, constantVals, Source, Shared, Alive, Others, lives, wholes, refs, lends-tables, tables-back}
 use Rattle.image_assembler.proofs.Walks.{overlong-assembles}
 use Rattle.image_assembler.proofs.assembler.empty_roots as empty
 use Rattle.image_assembler.proofs.assembler.empty_roots.Symbol as empty-def
@@ -377,7 +376,7 @@ assemble-spec 𝓤 H 𝓜 𝓖 𝓡 =
     (tables 𝓤 H 𝓜 𝓡 code.env .C) (tables 𝓤 H 𝓜 𝓡 code.env .Λ) #assemble code.function (code.unfolded 𝓤 H 𝓜 𝓡)
     (meets 𝓤 H (𝓖 .A) (𝓜 .mem) (𝓡 .run) (givenOf 𝓤 H 𝓜 𝓖) (tablesOf 𝓤 H 𝓜 (tables 𝓤 H 𝓜 𝓡 code.env))
     (cited 𝓤 H (Test 𝓤 H (𝓖 .A) (𝓜 .mem) (𝓡 .run)) 𝓜 𝓡 code.env #too-long too-long-def.routine code.calls-image-passes·first-pass·too-long (too-long-thm.met 𝓤 H 𝓜 𝓖 𝓡))
-    (cited 𝓤 H (Overlong 𝓤 H (𝓖 .A) (𝓜 .mem) (𝓡 .run)) 𝓜 𝓡 code.env #over-long over-long-def.routine code.calls-image-passes·second-pass·overlong (over-long-thm.met 𝓤 H 𝓜 𝓖 𝓡))
+    (cited 𝓤 H (Overlong 𝓤 H (𝓖 .A) (𝓜 .mem) (𝓡 .run)) 𝓜 𝓡 code.env #over-long over-long-def.routine code.calls-image-assembler·assembler·overlong (over-long-thm.met 𝓤 H 𝓜 𝓖 𝓡))
     (cited 𝓤 H (Mnemonics 𝓤 H (𝓖 .A) (𝓜 .mem) (𝓡 .run)) 𝓜 𝓡 code.env #mnemonics mnemonics-def.routine code.calls-instruction·opcode·mnemonics (mnemonics-thm.met 𝓤 H 𝓜 𝓖 𝓡))
     (cited 𝓤 H (Forms 𝓤 H (𝓖 .A) (𝓜 .mem) (𝓡 .run)) 𝓜 𝓡 code.env #forms forms-def.routine code.calls-instruction·opcode·forms (forms-thm.met 𝓤 H 𝓜 𝓖 𝓡))
     (cited 𝓤 H (Slots 𝓤 H (𝓖 .A) (𝓜 .mem) (𝓡 .run)) 𝓜 𝓡 code.env #slots slots-def.routine code.calls-instruction·opcode·slots (slots-thm.met 𝓤 H 𝓜 𝓖 𝓡))

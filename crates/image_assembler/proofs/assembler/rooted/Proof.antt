@@ -53,19 +53,18 @@ use Rattle.image_labels.proofs.label.unlink as unlink
 use Rattle.image_labels.proofs.label.unlink.Symbol as unlink-def
 use Rattle.image_labels.proofs.label.unlink.Symbol.{name as #unlink}
 use Rattle.image_labels.proofs.label.unlink.Met as unlink-thm
-use Rattle.image_passes.specs.Contracts.{Finishes}
-use Rattle.image_passes.specs.declared.first_pass.Outcome.{Outcome}
 use Rattle.image_line.specs.Contracts.{Tables as Listed}
-use Rattle.image_passes.specs.declared.second_pass.Assembled.{Assembled}
+use Rattle.image_passes.specs.declared.first_pass.Outcome.{Outcome}
+use Rattle.image_assembler.specs.declared.assembler.Assembled.{Assembled}
 use Rattle.image_passes.proofs.first_pass.Outcome as O
 use Rattle.image_passes.proofs.first_pass.Outcome.Laws as O′
-use Rattle.image_passes.proofs.second_pass.Assembled as R
-use Rattle.image_passes.proofs.second_pass.Assembled.Laws as R′
-use Rattle.image_passes.proofs.second_pass.finish as finish
-use Rattle.image_passes.proofs.second_pass.finish.Symbol as finish-def
-use Rattle.image_passes.proofs.second_pass.finish.Symbol.{name as #finish}
-use Rattle.image_passes.proofs.second_pass.finish.Met as finish-thm
-use Rattle.image_assembler.specs.Contracts.{Starts, Walks, Assembles}
+use Rattle.image_assembler.proofs.assembler.Assembled as R
+use Rattle.image_assembler.proofs.assembler.Assembled.Laws as R′
+use Rattle.image_assembler.proofs.assembler.finish as finish
+use Rattle.image_assembler.proofs.assembler.finish.Symbol as finish-def
+use Rattle.image_assembler.proofs.assembler.finish.Symbol.{name as #finish}
+use Rattle.image_assembler.proofs.assembler.finish.Met as finish-thm
+use Rattle.image_assembler.specs.Contracts.{Finishes, Starts, Walks, Assembles}
 use Rattle.image_assembler.proofs.Shared.{oval, OutcomeIs, labels-entered-is, rval, Constants, constantVals, constants, Shared, shared-twice, Alive, Others}
 use Rattle.image_assembler.proofs.Walks.{walks-fits, walks-ready, walks-end}
 use Rattle.image_assembler.proofs.assembler.walk as walk
@@ -398,5 +397,5 @@ rooted-spec 𝓤 H 𝓜 𝓖 𝓡 =
     (tables 𝓤 H 𝓜 𝓡 code.env .C) (tables 𝓤 H 𝓜 𝓡 code.env .Λ) #rooted code.function (code.unfolded 𝓤 H 𝓜 𝓡)
     (meets 𝓤 H (𝓖 .A) (𝓜 .mem) (𝓡 .run) (givenOf 𝓤 H 𝓜 𝓖) (tablesOf 𝓤 H 𝓜 (tables 𝓤 H 𝓜 𝓡 code.env))
     (cited 𝓤 H (Walk 𝓤 H (𝓖 .A) (𝓜 .mem) (𝓡 .run)) 𝓜 𝓡 code.env #walk walk-def.routine code.calls-image-assembler·assembler·walk (walk-thm.met 𝓤 H 𝓜 𝓖 𝓡))
-    (cited 𝓤 H (Finish 𝓤 H (𝓖 .A) (𝓜 .mem) (𝓡 .run)) 𝓜 𝓡 code.env #finish finish-def.routine code.calls-image-passes·second-pass·finish (finish-thm.met 𝓤 H 𝓜 𝓖 𝓡))
+    (cited 𝓤 H (Finish 𝓤 H (𝓖 .A) (𝓜 .mem) (𝓡 .run)) 𝓜 𝓡 code.env #finish finish-def.routine code.calls-image-assembler·assembler·finish (finish-thm.met 𝓤 H 𝓜 𝓖 𝓡))
     (cited 𝓤 H (Unlink 𝓤 H (𝓖 .A) (𝓜 .mem) (𝓡 .run)) 𝓜 𝓡 code.env #unlink unlink-def.routine code.calls-image-labels·label·unlink (unlink-thm.met 𝓤 H 𝓜 𝓖 𝓡)))

@@ -12,6 +12,7 @@ use borrow.Author.Needs.{needs}
 use Rattle.text_lexical.specs.Bytes.{bytes}
 use Rattle.text.specs.Tokens.{identifier}
 use Rattle.text.specs.Tokens.{Token as MeantToken}
+use Rattle.text.specs.Lines.{kept}
 use Rattle.text.specs.Contracts.{kindMeant, meant, spelling, firsts, filler}
 use Rattle.text.specs.declared.lexer.Kind.{Kind}
 use Rattle.text.specs.declared.lexer.Kind.the-variants.{Identifier, Register, NoRegister, Number, Negative, Hex, Binary, Directive, Comma, Colon, LParen, RParen}
@@ -29,8 +30,8 @@ abbrev past : Token
 past = record { kind = Identifier; start = 0; length = 0 }
 
 -- the token that the code reads
-kept : (ts : List Token) (i : ℕ) → i < 9 → length ts ≡ 9 → getD ts i past ≡ getD ts i filler
-kept ts i h n = getD-any ts i past filler (omega arith)
+at-place : (ts : List Token) (i : ℕ) → i < kept → length ts ≡ kept → getD ts i past ≡ getD ts i filler
+at-place ts i h n = getD-any ts i past filler (omega arith)
 
 returns : tie.Need-returns
 returns c =
@@ -44,10 +45,10 @@ enum-told : tie.Need-enum-told
 enum-told c = search needs
 
 -- an Identifier is the first token
-named : (s : List ℕ) (ts : List Token) → length ts ≡ 9 → getD ts 0 past .kind ≡ Identifier
+named : (s : List ℕ) (ts : List Token) → length ts ≡ kept → getD ts 0 past .kind ≡ Identifier
     → meant s (getD ts 0 filler) ≡ identifier (spelling s (getD ts 0 filler))
 named s ts n e =
-    let k = kept ts 0 (omega arith) n in
+    let k = at-place ts 0 (omega arith) n in
     ap (λ (x : Kind). kindMeant x (spelling s (getD ts 0 filler))) (sym (ap (λ (t : Token). t .kind) k) ∙ e)
 
 returns-2 : tie.Need-returns-2
@@ -74,7 +75,7 @@ inside c =
     let b = c .before .before .before in
     let p = b .before .before .before .pre in
     let a = b .before .before .before .args in
-    rw (kept (a .line .tokens) 0 (omega arith) (p .kept .places)) (p .solid 0 (omega arith) (omega (arith, b .if1 .left)), p .kept .inside-text 0)
+    rw (at-place (a .line .tokens) 0 (omega arith) (p .kept .places)) (p .solid 0 (omega arith) (omega (arith, b .if1 .left)), p .kept .inside-text 0)
 
 add-start : tie.Need-add-start
 add-start c = let (h, i) = inside (c .before) in omega (arith, h, i)
@@ -108,7 +109,7 @@ spelled c =
     let a = b .before .before .before .args in
     let (h, i) = inside d in
     kind-spelled (a .source .now) (a .line .tokens) (a .line .count) (p .kept .places) (omega (arith, b .if1 .left)) (getD (a .line .tokens) 0 past) (c .same .result)
-    (kept (a .line .tokens) 0 (omega arith) (p .kept .places)) (d .enum-told3 .given .1) h i (c .same .ensures)
+    (at-place (a .line .tokens) 0 (omega arith) (p .kept .places)) (d .enum-told3 .given .1) h i (c .same .ensures)
 
 returns-3 : tie.Need-returns-3
 returns-3 c = rw (c .if3 .taken) at (spelled (c .before))
@@ -121,7 +122,7 @@ returns-4 c =
     let b = i .before .before .before in
     let a = b .before .before .before .args in
     let n = b .before .before .before .pre .kept .places in
-    let k : getD (a .line .tokens) 1 filler .kind ≡ Colon = sym (ap (λ (t : Token). t .kind) (kept (a .line .tokens) 1 (omega arith) n)) ∙ c .enum-told2 .given .1 in
+    let k : getD (a .line .tokens) 1 filler .kind ≡ Colon = sym (ap (λ (t : Token). t .kind) (at-place (a .line .tokens) 1 (omega arith) n)) ∙ c .enum-told2 .given .1 in
     kind-second (a .source .now) (a .line .tokens) (a .line .count) n (omega (arith, b .if1 .left)) _ _ (named (a .source .now) (a .line .tokens) n (i .enum-told .given .1))
     (s .if2 .left) (rw k)
 
@@ -151,7 +152,7 @@ returns-5 c =
     let b = i .before .before .before in
     let a = b .before .before .before .args in
     let n = b .before .before .before .pre .kept .places in
-    let e = kept (a .line .tokens) 1 (omega arith) n in
+    let e = at-place (a .line .tokens) 1 (omega arith) n in
     let o = other-mark (getD (a .line .tokens) 1 past .kind) (spelling (a .source .now) (getD (a .line .tokens) 1 filler)) (c .match2 .keys2) in
     let m : eqb (markByte (meant (a .source .now) (getD (a .line .tokens) 1 filler))) 58 ≡ false = rw (e) at o in
     kind-second (a .source .now) (a .line .tokens) (a .line .count) n (omega (arith, b .if1 .left)) _ _ (named (a .source .now) (a .line .tokens) n (i .enum-told .given .1))
@@ -184,7 +185,7 @@ returns-7 c =
     let b = c .before .before in
     let a = b .before .before .before .args in
     let n = b .before .before .before .pre .kept .places in
-    let k : getD (a .line .tokens) 0 past .kind ≡ getD (a .line .tokens) 0 filler .kind = ap (λ (t : Token). t .kind) (kept (a .line .tokens) 0 (omega arith) n) in
+    let k : getD (a .line .tokens) 0 past .kind ≡ getD (a .line .tokens) 0 filler .kind = ap (λ (t : Token). t .kind) (at-place (a .line .tokens) 0 (omega arith) n) in
     kind-plain (a .source .now) (a .line .tokens) (a .line .count) n (omega (arith, b .if1 .left))
     (λ us. rw (← k) (other-plain (getD (a .line .tokens) 0 past .kind) (spelling (a .source .now) (getD (a .line .tokens) 0 filler)) us (c .match .keys3)))
 

@@ -3,6 +3,7 @@ use mathlib.Core.Path.{_≡_, sym}
 use native.Mathlib.Omega.{arith}
 use mathlib.Core.List.{List}
 use lib.ListN.{length, getD}
+use Rattle.text.specs.Lines.{kept}
 use Rattle.text.specs.Contracts.{filler}
 use Rattle.text.specs.declared.lexer.Kind.the-variants.{Identifier}
 use Rattle.text.specs.declared.lexer.Token.{Token}
@@ -13,7 +14,7 @@ use Rattle.image_line.proofs.record.read_label.Statement.{statement}
 use Rattle.image_line.proofs.record.read_label.Tie as tie
 
 -- the token that the code reads
-first : (ts : List Token) → length ts ≡ 9 → getD ts 0 (record { kind = Identifier; start = 0; length = 0 }) ≡ getD ts 0 filler
+first : (ts : List Token) → length ts ≡ kept → getD ts 0 (record { kind = Identifier; start = 0; length = 0 }) ≡ getD ts 0 filler
 first ts n = getD-any ts 0 (record { kind = Identifier; start = 0; length = 0 }) filler (omega arith)
 
 array-copy-out-label : tie.Need-array-copy-out-label

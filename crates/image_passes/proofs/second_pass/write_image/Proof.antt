@@ -1,6 +1,6 @@
 -- `image_passes::second_pass::write_image` meets its contract.
 use Prim.Native.Nat.{_+_, _*_, _≤_}
-use mathlib.Core.Path.{_≡_, refl, _∙_}
+use mathlib.Core.Path.{_≡_, _∙_}
 use native.Mathlib.Omega.{arith}
 use lib.ListN.{length}
 use borrow.Author.Needs.{needs}
@@ -22,7 +22,7 @@ add-needed c = let p = c .before .before .pre .0 in omega (arith, p .most)
 returns : tie.Need-returns
 returns c =
     let b = c .before .before .before in
-    fills-not (b .pre .0) (b .args .labels) (b .args .image .now) (c .if1 .taken)
+    fills-not (b .pre .0) (b .args .image .now) (c .if1 .taken)
 
 opcodes-requires : tie.Need-opcodes-requires
 opcodes-requires c κs = search needs
@@ -63,7 +63,7 @@ returns-2 c =
     let h = p .before .before .before .before .before in
     let i = h .before .before .before in
     let b = i .before .before .before in
-    fills-image (b .pre .0) (b .args .labels) (b .args .config) refl (i .if1 .left) (h .write-header .ensures) (p .second-pass .ensures)
+    fills-image (b .pre .0) (i .if1 .left) (h .write-header .ensures) (p .second-pass .ensures)
 
 pub write-image-spec : {M : Type 1} → statement M
 write-image-spec =

@@ -46,9 +46,9 @@ use Rattle.walking.proofs.Locals.{Locals, frees-all}
 use Rattle.image_labels.specs.declared.label.Label.{Label}
 use Rattle.image_labels.proofs.label.Label as L
 use Rattle.image_labels.proofs.Owned.{Table, row-of, tval, table-tells, table-stored, TableIs}
-use Rattle.image_passes.specs.declared.second_pass.Assembled.{Assembled}
-use Rattle.image_passes.proofs.second_pass.Assembled as R
-use Rattle.image_passes.proofs.second_pass.Assembled.Laws as R′
+use Rattle.image_assembler.specs.declared.assembler.Assembled.{Assembled}
+use Rattle.image_assembler.proofs.assembler.Assembled as R
+use Rattle.image_assembler.proofs.assembler.Assembled.Laws as R′
 use Rattle.image_assembler.proofs.Shared.{Source, rval}
 use Rattle.image_assembler.proofs.Called.{Assemble, calls-assemble}
 use Rattle.image_assembler.proofs.assembler.assemble.Symbol as assembling-def

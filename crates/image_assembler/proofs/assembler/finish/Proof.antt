@@ -1,8 +1,8 @@
--- `image_passes::second_pass::finish` meets its contract.
+-- `image_assembler::assembler::finish` meets its contract.
 use mathlib.Core.Path.{refl}
 use borrow.Author.Needs.{needs}
-use Rattle.image_passes.proofs.second_pass.finish.Statement.{statement}
-use Rattle.image_passes.proofs.second_pass.finish.Tie as tie
+use Rattle.image_assembler.proofs.assembler.finish.Statement.{statement}
+use Rattle.image_assembler.proofs.assembler.finish.Tie as tie
 
 enum-known-verdict : tie.Need-enum-known-verdict
 enum-known-verdict c = search needs
@@ -16,6 +16,9 @@ write-image-requires c κs =
     let p = v .before .before .before .before .pre in
     (rw (v .verdict2 .given .1) at (p .0), p .1)
 
+answered-requires : tie.Need-answered-requires
+answered-requires c κs = search needs
+
 returns : tie.Need-returns
 returns c = rw (c .before .verdict .given .1) (refl, refl)
 
@@ -24,8 +27,8 @@ same-length c = search needs
 
 returns-2 : tie.Need-returns-2
 returns-2 c =
-    let w = c .before .before in
-    rw (w .before .before .before .verdict2 .given .1) (w .write-image .ensures)
+    let w = c .before .before .before in
+    rw (w .before .before .before .verdict2 .given .1) (record { fill = w .write-image .result; fills = w .write-image .ensures; answer = c .answered .ensures })
 
 pub finish-spec : {M : Type 1} → statement M
 finish-spec =
@@ -34,6 +37,7 @@ finish-spec =
     enum-known-verdict
     enum-known-verdict-2
     write-image-requires
+    answered-requires
     returns
     same-length
     returns-2)
