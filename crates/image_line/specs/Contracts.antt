@@ -18,7 +18,7 @@ use Rattle.text_lexical.specs.declared.number.Whole.{Whole}
 use Rattle.text_lexical.specs.declared.register.Register.{Register}
 use Rattle.text_lexical.specs.declared.register.Register.the-variants.{R0}
 use Rattle.text.specs.Tokens.{Token, identifier, register, colon, infront, tokens}
-use Rattle.text.specs.Lines.{indent, kept, readLine}
+use Rattle.text.specs.Lines.{indent, kept as most-kept, readLine}
 use Rattle.text.specs.Places.{restAt, leftAt, endAt}
 use Rattle.text.specs.Values.{readNumber}
 use Rattle.text.specs.Contracts.{kindMeant as tokenMeant, filler, spelling}
@@ -256,7 +256,7 @@ FastIs s from NotFast = Unit {0}
 -- What a line's record promises of its tokens: it has as many places as it keeps, each token is a part of the text, and takes a byte at least.
 pub record Recorded (s : List ℕ) (l : Record) : Type 0 where
   pub kept : Kept s l
-  pub solid : (i : ℕ) → i < kept → i < l .count → 0 < getD (l .tokens) i filler .length
+  pub solid : (i : ℕ) → i < most-kept → i < l .count → 0 < getD (l .tokens) i filler .length
 
 abbrev pub kindMeant : List ℕ → Record → LineKind → Kind
 kindMeant s l EmptyKind = empty
