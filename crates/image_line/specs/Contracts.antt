@@ -13,6 +13,7 @@ use Rattle.text_lexical.specs.Bytes.{value, digit, nameStart, namePart, lower, 
 use Rattle.text_lexical.specs.Numbers.{valueOf}
 use Rattle.text_lexical.specs.Names.{named, present}
 use Rattle.text_lexical.specs.Contracts.{indexOf, nameNumber, keyOf, signedMeant}
+use Rattle.text_lexical.specs.Words.{part, WordIs}
 use Rattle.text_lexical.specs.declared.number.Whole.{Whole}
 use Rattle.text_lexical.specs.declared.register.Register.{Register}
 use Rattle.text_lexical.specs.declared.register.Register.the-variants.{R0}
@@ -26,7 +27,8 @@ use Rattle.instruction.specs.Operands.{readNumber, markByte, readOperands}
 use Rattle.instruction.specs.Contracts.{mnemonicKeys, formNumbers, slotRows, formAt, operandsMeant, partsMeant}
 use Rattle.instruction.specs.declared.instruction.Operands.{Operands}
 use Rattle.instruction_operands.specs.Contracts.{Kept}
-use Rattle.image.specs.Assembling.{Kind, empty, labelled, config, ignored, plain, Context, Effect as MeantEffect, nothing, sets, codes, faulty, Read as MeantRead, readOn}
+use Rattle.instruction.specs.Kinds.{Kind, empty, labelled, config, ignored, plain}
+use Rattle.image.specs.Assembling.{Context, Effect as MeantEffect, nothing, sets, codes, faulty, Read as MeantRead, readOn}
 use Rattle.image.specs.Contracts.{settingsMeant, recordMeant}
 use Rattle.image.specs.declared.config.Config.{Config}
 use Rattle.image_line.specs.declared.operand.RegisterAt.{RegisterAt}
@@ -40,7 +42,6 @@ use Rattle.image_line.specs.declared.fast.OperandAt.{OperandAt}
 use Rattle.image_line.specs.declared.fast.OperandAt.the-variants.{Register as RegisterOperand, Number as NumberOperand, Other as NoOperand}
 use Rattle.image_line.specs.declared.fast.Tail.{Tail}
 use Rattle.image_line.specs.declared.fast.Tail.the-variants.{Are, Other as NoTail}
-use Rattle.image_line.specs.declared.fast.Word.{Word}
 use Rattle.image_line.specs.declared.fast.LabelPart.{LabelPart}
 use Rattle.image_line.specs.declared.fast.FirstWord.{FirstWord}
 use Rattle.image_line.specs.declared.fast.FirstWord.the-variants.{Is as IsWord, Missing as NoWord}
@@ -158,18 +159,6 @@ Tails s from form (Are o e) = TailIs s from form o e
 Tails s from form NoTail = Unit {0}
 
 -- ---- a word
-
--- Where the word that begins at a place ends.
-abbrev pub wordEnd : List ℕ → ℕ → ℕ
-wordEnd s at = at + 1 + run namePart (drop (at + 1) s)
-
-abbrev pub part : List ℕ → ℕ → ℕ → List ℕ
-part s at n = take n (drop at s)
-
--- The key of a word in lower case, and its end.
-pub record WordIs (s : List ℕ) (at : ℕ) (w : Word) : Type 0 where
-  pub ends : w .end ≡ wordEnd s at
-  pub key-is : w .key ≡ keyOf (map lower (part s at (w .end - at)))
 
 -- Whether a word is a label: a colon follows it at once, and it is no register's name.
 unfoldable pub isLabel : List ℕ → ℕ → ℕ → Bool

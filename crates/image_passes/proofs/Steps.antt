@@ -15,7 +15,7 @@ use Rattle.text.specs.Lines.{Line as Record}
 use Rattle.text.specs.Places.{restAt, endAt}
 use Rattle.instruction.specs.Operands.{Instruction}
 use Rattle.image.specs.Settings.{Settings}
-use Rattle.image.specs.Assembling.{State, next, stop, labelled, config, isKnown, withLabel, enter, codes, sets, faulty, readOn, changedBy, entering, withSettings, most-words, withInstruction, doing, step, contextOf}
+use Rattle.image.specs.Assembling.{State, next, stop, isKnown, withLabel, enter, codes, sets, faulty, readOn, changedBy, entering, withSettings, most-words, withInstruction, doing, step, contextOf}
 use Rattle.image.specs.Assembling.{Effect as MeantEffect, Read as MeantRead}
 use Rattle.image.specs.Meaning.{codedBy}
 use Rattle.image.specs.Contracts.{settingsMeant, faultMeant}

@@ -15,7 +15,7 @@ use Rattle.instruction.specs.Operands.{Instruction}
 use Rattle.instruction.specs.Words.{wordOf}
 use Rattle.image.specs.Settings.{Settings}
 use Rattle.image.specs.Program.{entry, imageLength}
-use Rattle.image.specs.Assembling.{Label as Meant, State, start, Step as Stepped, next, stop, labelled, config, isKnown, enter, Effect as MeantEffect, nothing, readOn, changedBy, contextOf, most-words, step, Walk, finished, stopped, walk, refusing, readTo, most-bytes, reading}
+use Rattle.image.specs.Assembling.{Label as Meant, State, start, Step as Stepped, next, stop, isKnown, enter, Effect as MeantEffect, nothing, readOn, changedBy, contextOf, most-words, step, Walk, finished, stopped, walk, refusing, readTo, most-bytes, reading}
 use Rattle.image.specs.Lent.{over, Answer, assembled, refusal as refusalAnswer}
 use Rattle.image.specs.Meaning.{codedBy, instructionsOf, settingsOf, imageOf}
 use Rattle.image.specs.Contracts.{settingsMeant, faultMeant}

@@ -4,3 +4,4 @@ pub mod Numbers
 pub mod Keys
 pub mod Values
 pub mod Registers
+pub mod Words

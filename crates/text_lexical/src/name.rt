@@ -1,8 +1,18 @@
 // Register names, and the keys by which they are told.
 ghost use mathlib.Core.Path.{_≡_};
+ghost use Prim.Native.Nat.{_≤_};
+ghost use lib.ListN.{length};
 ghost use Rattle.text_lexical.specs.Names.{named, present};
 ghost use Rattle.text_lexical.specs.Contracts.{keyOf, nameMeant, nameNumber};
+ghost use Rattle.text_lexical.specs.Words.{WordIs};
+use crate::bytes::Class;
 use crate::register::Register;
+
+// The key of a word, and its end.
+pub struct Word {
+    pub key: u64,
+    pub end: usize,
+}
 
 pub enum RegisterName {
     Is(Register),
@@ -69,5 +79,38 @@ pub fn parse_register(name: &[u8]) -> RegisterName
         // a5
         0x13561 => RegisterName::NoSuch,
         _ => RegisterName::Other,
+    }
+}
+
+// The word at `at`: its key in lower case, and its end. It has no byte where no part of a name stands.
+pub fn lower_word(text: &[u8], at: usize) -> Word
+    requires { ⌜ at ≤ length (now text) ⌝ }
+    ensures { λ r. ⌜ WordIs (now (text .entry)) at r ⌝ }
+{
+    let mut sum: u64 = 0;
+    let mut scale: u64 = 1;
+    let mut i = at;
+    while i < text.len() {
+        let b = text[i];
+        if !crate::bytes::is_name_part(b) {
+            return Word {
+                key: sum + scale,
+                end: i,
+            };
+        }
+        if 7 <= i - at {
+            // the key of a longer word is 0
+            return Word {
+                key: 0,
+                end: crate::bytes::run_end(text, i, Class::NamePart),
+            };
+        }
+        sum = sum + crate::number::wide(crate::bytes::to_lower(b)) * scale;
+        scale = scale * 256;
+        i += 1;
+    }
+    Word {
+        key: sum + scale,
+        end: i,
     }
 }

@@ -11,7 +11,8 @@ use Rattle.text.specs.Lines.{indent}
 use Rattle.text.specs.Places.{restAt}
 use Rattle.text.specs.Contracts.{firsts}
 use Rattle.text.specs.declared.parser.Line.{Line}
-use Rattle.image.specs.Assembling.{kindOf, Context}
+use Rattle.instruction.specs.Kinds.{kindOf}
+use Rattle.image.specs.Assembling.{Context}
 use Rattle.image_line.specs.Contracts.{kindMeant, contextFor, RecordIs}
 use Rattle.image_line.specs.declared.line.Effect.the-variants.{Nothing}
 use Rattle.image_line.specs.declared.record.LineKind.{LineKind}
