@@ -20,14 +20,14 @@ use Rattle.text_lexical.specs.declared.register.Register.the-variants.{R0}
 use Rattle.text.specs.Tokens.{Token, identifier, register, colon, infront, tokens}
 use Rattle.text.specs.Lines.{indent, readLine}
 use Rattle.text.specs.Places.{restAt, leftAt, endAt}
-use Rattle.text.specs.Contracts.{filler, spelling}
+use Rattle.text.specs.Contracts.{firsts, filler, spelling}
 use Rattle.text.specs.declared.parser.Line.{Line as Record}
 use Rattle.instruction.specs.Table.{Place, reg, num, comma-place, opening-place, closing-place, places}
 use Rattle.instruction.specs.Operands.{readNumber, markByte, readOperands}
 use Rattle.instruction.specs.Contracts.{mnemonicKeys, formNumbers, slotRows, formAt, operandsMeant, partsMeant}
 use Rattle.instruction.specs.declared.instruction.Operands.{Operands}
 use Rattle.instruction_operands.specs.Contracts.{Kept}
-use Rattle.instruction.specs.Kinds.{Kind, empty, labelled, config, ignored, plain}
+use Rattle.instruction.specs.Kinds.{Kind, empty, labelled, config, ignored, plain, kindOf}
 use Rattle.image.specs.Assembling.{Context, Effect as MeantEffect, nothing, sets, codes, faulty, Read as MeantRead, readOn}
 use Rattle.image.specs.Contracts.{settingsMeant, recordMeant}
 use Rattle.image.specs.declared.config.Config.{Config}
@@ -267,6 +267,11 @@ kindMeant s l LabelKind = labelled (spelling s (getD (l .tokens) 0 filler))
 kindMeant s l ConfigKind = config
 kindMeant s l Ignored = ignored
 kindMeant s l Plain = plain
+
+-- A record whose line begins with a label.
+pub record Labelled (s : List ℕ) (l : Record) : Type 0 where
+  pub recorded : Recorded s l
+  pub is-label : labelled (spelling s (getD (l .tokens) 0 filler)) ≡ kindOf (firsts s (l .tokens) (l .count))
 
 -- A line by its record, where its content starts at a place.
 pub record RecordIs (s : List ℕ) (l : Record) (start : ℕ) (c : Context) (r : Read) : Type 0 where

@@ -1,9 +1,8 @@
-// A line read from its bytes at once, without the record of its tokens: its label, its mnemonic and its operands. A line that is read so in
-// part only is left to the record.
+// A line read from its bytes at once, without the record of its tokens: its label, its mnemonic and its operands. A line of any other shape
+// is left to the record.
 ghost use mathlib.Core.Path.{_≡_};
-ghost use mathlib.Core.Bool.{true};
 ghost use Prim.Native.Nat.{_≤_, _<_};
-ghost use lib.ListN.{length, getD};
+ghost use lib.ListN.{length};
 ghost use Rattle.instruction.specs.Table.{places};
 ghost use Rattle.instruction.specs.Contracts.{formAt};
 ghost use Rattle.image_line.specs.Contracts.{Tables, Ahead, isNumber, markOf, OperandIs, EndsWith, Tails, isLabel, FirstWordIs, FastIs};
