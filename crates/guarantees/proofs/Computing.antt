@@ -16,7 +16,8 @@ use Rattle.instruction.specs.Text.{registerText, numberText, placesText, operan
 use Rattle.image.specs.Settings.{settings, begin, settingsFault, limb-bits-key, data-limbs-key, addr-limbs-key, setField, checked, configuredBy, configuredWith, configured}
 use Rattle.image.specs.Program.{magic, version, entry, stack-size, headerBytes, header-size, headerFor, image, imageLength, numberAt, headerOf, codeOf, dataOf}
 use Rattle.image.specs.Opening.{headerFault, openingFault, opening}
-use Rattle.image.specs.Assembling.{start, identifierKind, kindOf, isKnown, withLabel, enter, setting, coding, afterLabel, readKind, readOn, changedBy, contextAfter, readsFrom, reads, entering, withSettings, most-words, withInstruction, doing, step, contextOf, walk, rustLine, refusing, readTo, most-bytes, reading, fitted, assembling}
+use Rattle.instruction.specs.Kinds.{identifierKind, kindOf}
+use Rattle.image.specs.Assembling.{start, isKnown, withLabel, enter, setting, coding, afterLabel, readKind, readOn, changedBy, contextAfter, readsFrom, reads, entering, withSettings, most-words, withInstruction, doing, step, contextOf, walk, rustLine, refusing, readTo, most-bytes, reading, fitted, assembling}
 use Rattle.image.specs.Listing.{wordsOf, lineText, settingText, settingsText, wordText, textOf, refusal, isUsual, wordsFault, listingFault, listing}
 use Rattle.image.specs.Meaning.{codedBy, codedIn, instructionsOf, settingsIn, settingsOf, imageOf, isAccepted, isWritten}
 use Rattle.image.specs.Lent.{over, answerOf, entered, imageAfter, listAnswerOf, textAfter}

@@ -21,7 +21,8 @@ use Rattle.image.specs.Settings.{Settings, settings, settingsFault, limb-bits-k
 use Rattle.image.specs.Program.{Header, magic, version, header-size, headerOf, codeOf, imageLength}
 use Rattle.image.specs.Opening.{headerFault, openingFault}
 use Rattle.image.specs.Listing.{wordsOf, textOf, Refusal, refusal, isUsual, wordsFault, listingFault, Listing, written, rejected as unwritten, listing}
-use Rattle.image.specs.Assembling.{State, start, Step, next, stop, Kind, empty, labelled, config, ignored, plain, kindOf, isKnown, withLabel, enter, Context, Effect, nothing, sets, codes, faulty, Read, setting, coding, afterLabel, readKind, readOn, entering, most-words, withInstruction, doing, step, contextOf, Walk, finished, stopped, walk, Assembled, accepted, rejected, refusing, readTo, most-bytes, reading, fitted, assembling}
+use Rattle.instruction.specs.Kinds.{Kind, empty, labelled, config, ignored, plain, kindOf}
+use Rattle.image.specs.Assembling.{State, start, Step, next, stop, isKnown, withLabel, enter, Context, Effect, nothing, sets, codes, faulty, Read, setting, coding, afterLabel, readKind, readOn, entering, most-words, withInstruction, doing, step, contextOf, Walk, finished, stopped, walk, Assembled, accepted, rejected, refusing, readTo, most-bytes, reading, fitted, assembling}
 use Rattle.guarantees.specs.Calls.{readingNumbers, assemblingNumbers, openingNumbers, textlessNumbers, listingNumbers, isOneOf, OneOf}
 
 -- One of some numbers is one of more.

@@ -20,7 +20,8 @@ use Rattle.text.proofs.Tokens.{tokens-nil, Within64, reads-directive, reads-spa
 use Rattle.text.proofs.Lines.{visible, closed-append, Trimmed, decimal-visible, decimal-closed, high-plain, read-visible}
 use Rattle.instruction.specs.Operands.{Instruction, readIdentifier, readInstruction, behind}
 use Rattle.image.specs.Settings.{Settings, begin, settingsFault, setField, checked, configuredBy, configuredWith, configured}
-use Rattle.image.specs.Assembling.{Kind, empty, labelled, config, ignored, plain, kindOf, Context, Effect, nothing, sets, codes, faulty, setting, coding, afterLabel, readKind, readOn, changedBy, contextAfter, readsFrom, reads}
+use Rattle.instruction.specs.Kinds.{Kind, empty, labelled, config, ignored, plain, kindOf}
+use Rattle.image.specs.Assembling.{Context, Effect, nothing, sets, codes, faulty, setting, coding, afterLabel, readKind, readOn, changedBy, contextAfter, readsFrom, reads}
 use Rattle.image.specs.Meaning.{settingsIn, settingsOf}
 use Rattle.image.proofs.Settings.{no-fault, begin-good}
 

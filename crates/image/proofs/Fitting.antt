@@ -22,7 +22,8 @@ use Rattle.instruction.proofs.Decoding.{decode-encode, word-bound, decoded-fits
 use Rattle.instruction.proofs.Reading.{numberedToken, read-fits, line-numbered, behind-numbered}
 use Rattle.instruction.proofs.Text.{operandTokens, noColon, no-colon, tokens-kept, tokens-read, text-visible, text-line}
 use Rattle.image.specs.Settings.{Settings, begin, configured}
-use Rattle.image.specs.Assembling.{Kind, empty, labelled, config, ignored, plain, identifierKind, kindOf, Context, nothing, setting, coding, afterLabel, readKind, readOn, contextAfter, readsFrom, reads}
+use Rattle.instruction.specs.Kinds.{Kind, empty, labelled, config, ignored, plain, identifierKind, kindOf}
+use Rattle.image.specs.Assembling.{Context, nothing, setting, coding, afterLabel, readKind, readOn, contextAfter, readsFrom, reads}
 use Rattle.image.specs.Meaning.{codedBy, codedIn, instructionsOf}
 use Rattle.image.proofs.Images.{Words}
 use Rattle.image.proofs.Listed.{Decoded, AllDecoded}

@@ -17,7 +17,8 @@ use Rattle.instruction.specs.Operands.{Instruction, readInstruction}
 use Rattle.instruction.specs.Words.{instructionOf}
 use Rattle.instruction.specs.Text.{instructionText}
 use Rattle.image.specs.Settings.{Settings, settings, begin, limb-bits-key, data-limbs-key, addr-limbs-key, setField}
-use Rattle.image.specs.Assembling.{State, start, next, plain, kindOf, sets, coding, readKind, readOn, entering, withSettings, most-words, withInstruction, doing, step, contextOf, finished, walk, accepted, readTo, most-bytes, reading}
+use Rattle.instruction.specs.Kinds.{plain, kindOf}
+use Rattle.image.specs.Assembling.{State, start, next, sets, coding, readKind, readOn, entering, withSettings, most-words, withInstruction, doing, step, contextOf, finished, walk, accepted, readTo, most-bytes, reading}
 use Rattle.image.specs.Listing.{lineText, settingText, settingsText, wordText}
 use Rattle.image.proofs.Settings.{Good, no-fault, small-bits, small-data, small-addr}
 use Rattle.image.proofs.ConfigLines.{Key, configText, config-visible, config-read}

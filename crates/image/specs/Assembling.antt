@@ -5,11 +5,11 @@ use mathlib.Core.Option.{Option, none, some}
 use mathlib.Core.List.{List, [], _∷_, _++_}
 use lib.ListN.{length}
 use lib.Dec.{leb, ltb, eqb}
-use Rattle.text_lexical.specs.Bytes.{Result, value, refused, bytes, ascii, every, same, before, find, isSome}
+use Rattle.text_lexical.specs.Bytes.{Result, value, refused, ascii, every, same, before, find, isSome}
 use Rattle.text_lexical.specs.Names.{Name}
-use Rattle.text.specs.Tokens.{Token, identifier, register, number, hex, binary, directive, comma, colon, opening, closing}
 use Rattle.text.specs.Lines.{Line, lines, indent, readLine}
-use Rattle.instruction.specs.Operands.{Instruction, markByte, readInstruction, behind}
+use Rattle.instruction.specs.Operands.{Instruction, readInstruction, behind}
+use Rattle.instruction.specs.Kinds.{Kind, empty, labelled, config, ignored, plain, kindOf}
 use Rattle.image.specs.Settings.{Settings, begin, configured}
 use Rattle.image.specs.Program.{entry, imageLength}
 
@@ -32,38 +32,6 @@ start = record { labels = []; instructions = []; setup = begin }
 pub data Step : Type 0 where
   next : State → Step
   stop : ℕ → State → Step
-
--- ---- what a line is
-
-pub data Kind : Type 0 where
-  -- "Empty lines do nothing."
-  empty : Kind
-  -- "Identifier then colon is a label"
-  labelled : (spelling : List ℕ) → Kind
-  -- "A first token `.config` (that case only)"
-  config : Kind
-  -- "other directives do nothing"
-  ignored : Kind
-  -- "Otherwise the line is an instruction"
-  plain : Kind
-
--- A first token that is an Identifier: a label if a colon is next.
-unfoldable pub identifierKind : List ℕ → List Token → Kind
-identifierKind s [] = plain
-identifierKind s (t ∷ ts) = elim (eqb (markByte t) 58) [ true ↦ labelled s | false ↦ plain ]
-
-unfoldable pub kindOf : List Token → Kind
-kindOf [] = empty
-kindOf (identifier s ∷ ts) = identifierKind s ts
-kindOf (directive d ∷ ts) = elim (same d (bytes "config")) [ true ↦ config | false ↦ ignored ]
-kindOf (register r ∷ ts) = plain
-kindOf (number z ∷ ts) = plain
-kindOf (hex n ∷ ts) = plain
-kindOf (binary n ∷ ts) = plain
-kindOf (comma ∷ ts) = plain
-kindOf (colon ∷ ts) = plain
-kindOf (opening ∷ ts) = plain
-kindOf (closing ∷ ts) = plain
 
 -- ---- labels
 

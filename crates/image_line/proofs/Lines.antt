@@ -3,6 +3,7 @@ use Prim.Native.Nat.{ℕ, suc, _+_, _-_, _*_, _^_, _≤_, _<_}
 use mathlib.Core.Path.{_≡_, refl, sym, ap, _∙_}
 use native.Mathlib.Nat.{pow-suc, mul-add, mul-assoc, mul-comm, mul-le-mul-right}
 use native.Mathlib.Omega.{arith}
+use native.Mathlib.Numerals.{add-one}
 use mathlib.Core.Bool.{true, false, not, and-eq-true-iff, true≢false}
 use mathlib.Core.Option.{Option, none, some}
 use mathlib.Core.List.{List, [], _∷_, _++_, map, map-append}
@@ -13,6 +14,7 @@ use borrow.Author.Tests.{leb-true, le-leb, lt-leb, eq-eqb, ne-eqb, eqb-true}
 use Rattle.text_lexical.specs.Bytes.{Result, value, bytes, between, digit, nameStart, namePart, lower, blank, margin, every, same, run, find, isSome, each}
 use Rattle.text_lexical.specs.Names.{Name, name, named, numbered, conventional, present}
 use Rattle.text_lexical.specs.Contracts.{packed, keyOf, nameNumber}
+use Rattle.text_lexical.specs.Words.{wordEnd, part}
 use Rattle.text_lexical.specs.declared.name.RegisterName.the-variants.{Other}
 use Rattle.text_lexical.proofs.Keys.{Below}
 use Rattle.text_lexical.proofs.Tests.{split, by-test, no-both, or-left, between-true, Each, in-run}
@@ -32,125 +34,17 @@ use Rattle.instruction.specs.declared.opcode.Row.{Row as Looked}
 use Rattle.instruction.specs.declared.opcode.Row.the-variants.{At}
 use Rattle.instruction.proofs.Columns.{form-numbered}
 use Rattle.instruction_operands.proofs.Line.{six-places, below-part, named-by-key}
-use Rattle.image.specs.Assembling.{plain, identifierKind, kindOf, Context, nothing, codes, coding, afterLabel, readKind, readOn}
-use Rattle.image_line.specs.Contracts.{Reads, TailIs, wordEnd, part, WordIs, isLabel, Labels, OptionalLabel, without, with-label, WordAfter, InTable, readMeant, endOf, LineIs, ReadsAs}
+use Rattle.instruction.specs.Kinds.{plain, identifierKind, kindOf}
+use Rattle.image.specs.Assembling.{Context, nothing, codes, coding, afterLabel, readKind, readOn}
+use Rattle.image_line.specs.Contracts.{Reads, TailIs, isLabel, Labels, OptionalLabel, without, with-label, WordAfter, InTable, readMeant, endOf, LineIs, ReadsAs}
 use Rattle.image_line.specs.declared.fast.LabelPart.{LabelPart}
 use Rattle.image_line.specs.declared.line.Effect.the-variants.{Nothing, Codes}
 use Rattle.image_line.specs.declared.line.Read.{Read}
 use Rattle.image_line.proofs.Places.{stepped-reads, run-to, every-more, colon-reads, blanks-after}
 
--- ---- the key of a word, from its first byte on
-
--- A byte more after a spelling.
-packed-more : (u : List ℕ) (b : ℕ) → packed (u ++ (b ∷ [])) + 256 ^ length u ≡ packed u + 256 ^ length u * (b + 256)
-unfolding packed
-packed-more [] b = omega arith
-packed-more (x ∷ u) b =
-    let e = packed-more u b in
-    let a : 256 * 256 ^ length u * (b + 256) ≡ 256 * (256 ^ length u * (b + 256)) = mul-assoc 256 (256 ^ length u) (b + 256) in
-    rw (pow-suc 256 (length u)) (omega arith)
-
-pub lower-small : (b : ℕ) → b < 256 → lower b < 256
-unfolding lower
-lower-small b h = by-test (between 65 90 b) (λ e. rw (lower, e) (omega (arith, between-true 65 90 b e .1))) (λ e. rw (lower, e) h)
-
--- The first bytes of a word, and their key so far.
-pub record Spelling (s : List ℕ) (at sum scale i : ℕ) : Type 0 where
-  pub on : at ≤ i
-  pub in-text : i ≤ length s
-  pub few : i ≤ at + 7
-  parts : every namePart (part s at (i - at)) ≡ true
-  scale-is : scale ≡ 256 ^ (i - at)
-  key-is : sum + scale ≡ packed (map lower (part s at (i - at)))
-  pub small : sum < scale
-
-pub spelling-begin : (s : List ℕ) (at : ℕ) → at ≤ length s → Spelling s at 0 1 at
-unfolding every packed
-spelling-begin s at h =
-    let z : at - at ≡ 0 = omega arith in
-    record { on = omega arith; in-text = h; few = omega arith; parts = rw z; scale-is = rw z; key-is = rw z; small = omega arith }
-
--- There is room for a byte more.
-powers : Each (λ k. 256 ^ k ≤ 2 ^ 48) 0 7
-powers = (omega arith, (omega arith, (omega arith, (omega arith, (omega arith, (omega arith, (omega arith, tt)))))))
-
-pub scale-small : (s : List ℕ) (at sum scale i : ℕ) → Spelling s at sum scale i → i - at < 7 → scale ≤ 2 ^ 48
-scale-small s at sum scale i q h = rw (q .scale-is) (in-run (λ k. 256 ^ k ≤ 2 ^ 48) 0 7 (i - at) (omega arith) h powers)
-
-wide-powers : Each (λ k. 256 ^ k ≤ 2 ^ 56) 0 8
-wide-powers = (omega arith, (omega arith, (omega arith, (omega arith, (omega arith, (omega arith, (omega arith, (omega arith, tt))))))))
-
-pub scale-fits : (s : List ℕ) (at sum scale i : ℕ) → Spelling s at sum scale i → scale ≤ 2 ^ 56
-scale-fits s at sum scale i q = rw (q .scale-is) (in-run (λ k. 256 ^ k ≤ 2 ^ 56) 0 8 (i - at) (omega arith) (omega (arith, q .few, q .on)) wide-powers)
-
-pub product-small : (l scale : ℕ) → l < 256 → l * scale ≤ 255 * scale
-product-small l scale h = mul-le-mul-right scale (omega arith)
-
-length-part : (s : List ℕ) (at i : ℕ) → at ≤ i → i ≤ length s → length (map lower (part s at (i - at))) ≡ i - at
-length-part s at i h l = rw (length-map (part s at (i - at)) lower, length-take (i - at) (drop at s), length-drop at s) (omega arith)
-
--- A byte more is a part of the word.
-parts-more : (s : List ℕ) (at i : ℕ) → at ≤ i → i < length s → part s at (i + 1 - at) ≡ part s at (i - at) ++ (getD s i 0 ∷ [])
-parts-more s at i h l =
-    let m : i + 1 - at ≡ suc (i - at) = omega arith in
-    let a : at + (i - at) ≡ i = omega arith in
-    let g : getD (drop at s) (i - at) 0 ≡ getD s i 0 = getD-drop at s (i - at) 0 ∙ ap (λ (x : ℕ). getD s x 0) a in
-    rw m (take-suc (drop at s) (i - at) 0 (omega (arith, length-drop at s)) ∙ rw g)
-
-pub spelling-more : (s : List ℕ) (at sum scale i : ℕ) → Spelling s at sum scale i → i < length s → i - at < 7 → namePart (getD s i 0) ≡ true → getD s i 0 < 256
-    → Spelling s at (sum + lower (getD s i 0) * scale) (scale * 256) (i + 1)
-spelling-more s at sum scale i q l k h byte =
-    let u = map lower (part s at (i - at)) in
-    let b = lower (getD s i 0) in
-    let m : i + 1 - at ≡ suc (i - at) = omega (arith, q .on) in
-    let t = parts-more s at i (q .on) l in
-    let n : length u ≡ i - at = length-part s at i (q .on) (omega arith) in
-    let e : scale ≡ 256 ^ length u = q .scale-is ∙ ap (λ (x : ℕ). 256 ^ x) (sym n) in
-    let p : packed (u ++ (b ∷ [])) + scale ≡ packed u + scale * (b + 256) = rw e (packed-more u b) in
-    let d : scale * (b + 256) ≡ b * scale + scale * 256 = mul-add scale b 256 ∙ ap (λ (x : ℕ). x + scale * 256) (mul-comm scale b) in
-    let w = product-small b scale (lower-small (getD s i 0) byte) in
-    record {
-      on = omega (arith, q .on);
-      in-text = omega arith;
-      few = omega (arith, q .on);
-      parts = rw t (every-more namePart (part s at (i - at)) (getD s i 0) (q .parts) h);
-      scale-is = rw (m, pow-suc 256 (i - at), ← q .scale-is) (omega arith);
-      key-is = rw (t, map-append lower (part s at (i - at)) (getD s i 0 ∷ [])) (omega (arith, p, d, q .key-is));
-      small = omega (arith, q .small, w);
-    }
-
 start-part : (b : ℕ) → nameStart b ≡ true → namePart b ≡ true
 unfolding namePart
 start-part b h = or-left (nameStart b) (digit b) h
-
--- The word ends.
-pub spelling-ends : (s : List ℕ) (at sum scale i : ℕ) → Spelling s at sum scale i → at < length s → (i < length s → namePart (getD s i 0) ≡ false) → nameStart (getD s at 0) ≡ true
-    → WordIs s at (record { key = sum + scale; end = i })
-unfolding keyOf
-spelling-ends s at sum scale i q l g start =
-    split at i
-    (λ less. record {
-      ends = run-to namePart s (at + 1) i (omega arith) (q .in-text) (every-tail namePart _ _ (rw (part-cons s at i less l) at (q .parts))) g;
-      key-is = q .key-is ∙ sym (rw (keyOf, le-leb (length (map lower (part s at (i - at)))) 7 (omega (arith, length-part s at i (q .on) (q .in-text), q .few))));
-    })
-    (λ ge. let e : i ≡ at = omega (arith, q .on) in no-both (start-part (getD s at 0) start) (rw e at (g (omega arith))))
-
--- It goes on after seven bytes.
-pub spelling-long : (s : List ℕ) (at sum scale i end : ℕ) → Spelling s at sum scale i → i < length s → 7 ≤ i - at → namePart (getD s i 0) ≡ true → end ≡ i + run namePart (drop i s)
-    → WordIs s at (record { key = 0; end = end })
-unfolding keyOf
-spelling-long s at sum scale i end q l k h e =
-    let d = length-drop (at + 1) s in
-    let f = every-tail namePart _ _ (rw (part-cons s at i (omega arith) (omega arith)) at (q .parts)) in
-    let p = run-past namePart (i - (at + 1)) (drop (at + 1) s) (omega arith) f in
-    let m : at + 1 + (i - (at + 1)) ≡ i = omega arith in
-    let r : run namePart (drop (at + 1) s) ≡ i - (at + 1) + run namePart (drop i s) = rw (drop-drop (i - (at + 1)) (at + 1) s, m) at p in
-    let more : 0 < run namePart (drop i s) = omega (arith, run-yes namePart s i l h) in
-    let in-text : end ≤ length s = omega (arith, run-in namePart s i (omega arith)) in
-    record {
-      ends = omega (arith, r);
-      key-is = sym (rw (keyOf, lt-leb (length (map lower (part s at (end - at)))) 7 (omega (arith, length-part s at end (omega arith) in-text))));
-    }
 
 -- ---- a mnemonic is no register's name
 
@@ -186,12 +80,18 @@ long-unnamed u (some n) e h =
 -- ---- what a line begins with
 
 module _ (s : List ℕ) (at end : ℕ) (l : at < length s) (start : nameStart (getD s at 0) ≡ true) (ends : end ≡ wordEnd s at) where
+  word-goes : run namePart (drop at s) ≡ suc (run namePart (drop (at + 1) s))
+  word-goes = rw (add-one at) (run-yes namePart s at l (start-part (getD s at 0) start))
+
+  pub word-some : at < end
+  word-some = omega (arith, word-goes)
+
   pub word-in : end ≤ length s
-  word-in = omega (arith, run-in namePart s (at + 1) (omega arith))
+  word-in = omega (arith, run-in namePart s at (omega arith))
 
   name-reads : nameNumber (named present (part s at (end - at))) ≡ none → Reads s at (identifier (part s at (end - at))) end
   name-reads n =
-      stepped-reads s at (record { kind = Identifier; start = at; length = end - at }) end (solid-step s at _ l (start-solid _ start) (word-at s at end Other l start ends (sym n)))
+      stepped-reads s at (record { kind = Identifier; start = at; length = end - at }) end (solid-step s at _ l (start-solid _ start) (word-at s at end Other l start (omega (arith, word-goes)) (sym n)))
 
   -- A row that is found by the key of the word.
   pub mnemonic-reads : (key i : ℕ) (r : Looked) → Below s → key ≡ keyOf (map lower (part s at (end - at))) → IsRow r (find (λ q. eqb (keyOf (q .mnemonic)) key) table) → r ≡ At i

@@ -12,6 +12,7 @@ use lib.ListN.{length, take, drop, getD}
 use Rattle.text_lexical.specs.Bytes.{value, nameStart, namePart, lower, run, isSome}
 use Rattle.text_lexical.specs.Names.{named, present}
 use Rattle.text_lexical.specs.Contracts.{indexOf, nameNumber, keyOf, signedMeant}
+use Rattle.text_lexical.specs.Words.{part, WordIs}
 use Rattle.text_lexical.specs.declared.name.RegisterName.{RegisterName}
 use Rattle.text_lexical.specs.declared.name.RegisterName.the-variants.{Is as Named, NoSuch, Other as NoName}
 use Rattle.text_lexical.specs.declared.number.Whole.{Whole}
@@ -21,14 +22,15 @@ use Rattle.text.specs.Tokens.{Token, identifier, register, colon, infront, toke
 use Rattle.text.specs.Lines.{indent, kept as most-kept, readLine}
 use Rattle.text.specs.Places.{restAt, leftAt, endAt}
 use Rattle.text.specs.Values.{readNumber}
-use Rattle.text.specs.Contracts.{kindMeant as tokenMeant, filler, spelling}
+use Rattle.text.specs.Contracts.{kindMeant as tokenMeant, firsts, filler, spelling}
 use Rattle.text.specs.declared.parser.Line.{Line as Record}
 use Rattle.instruction.specs.Table.{Place, reg, num, comma-place, opening-place, closing-place, places}
 use Rattle.instruction.specs.Operands.{markByte, readOperands}
 use Rattle.instruction.specs.Contracts.{mnemonicKeys, formNumbers, slotRows, formAt, operandsMeant, partsMeant}
 use Rattle.instruction.specs.declared.instruction.Operands.{Operands}
 use Rattle.instruction_operands.specs.Contracts.{Kept}
-use Rattle.image.specs.Assembling.{Kind, empty, labelled, config, ignored, plain, Context, Effect as MeantEffect, nothing, sets, codes, faulty, Read as MeantRead, readOn}
+use Rattle.instruction.specs.Kinds.{Kind, empty, labelled, config, ignored, plain, kindOf}
+use Rattle.image.specs.Assembling.{Context, Effect as MeantEffect, nothing, sets, codes, faulty, Read as MeantRead, readOn}
 use Rattle.image.specs.Contracts.{settingsMeant, recordMeant}
 use Rattle.image.specs.declared.config.Config.{Config}
 use Rattle.image_line.specs.declared.operand.RegisterAt.{RegisterAt}
@@ -41,7 +43,6 @@ use Rattle.image_line.specs.declared.fast.OperandAt.{OperandAt}
 use Rattle.image_line.specs.declared.fast.OperandAt.the-variants.{Register as RegisterOperand, Number as NumberOperand, Other as NoOperand}
 use Rattle.image_line.specs.declared.fast.Tail.{Tail}
 use Rattle.image_line.specs.declared.fast.Tail.the-variants.{Are, Other as NoTail}
-use Rattle.image_line.specs.declared.fast.Word.{Word}
 use Rattle.image_line.specs.declared.fast.LabelPart.{LabelPart}
 use Rattle.image_line.specs.declared.fast.FirstWord.{FirstWord}
 use Rattle.image_line.specs.declared.fast.FirstWord.the-variants.{Is as IsWord, Missing as NoWord}
@@ -144,18 +145,6 @@ Tails s from form (Are o e) = TailIs s from form o e
 Tails s from form NoTail = Unit {0}
 
 -- ---- a word
-
--- Where the word that begins at a place ends.
-abbrev pub wordEnd : List ℕ → ℕ → ℕ
-wordEnd s at = at + 1 + run namePart (drop (at + 1) s)
-
-abbrev pub part : List ℕ → ℕ → ℕ → List ℕ
-part s at n = take n (drop at s)
-
--- The key of a word in lower case, and its end.
-pub record WordIs (s : List ℕ) (at : ℕ) (w : Word) : Type 0 where
-  pub ends : w .end ≡ wordEnd s at
-  pub key-is : w .key ≡ keyOf (map lower (part s at (w .end - at)))
 
 -- Whether a word is a label: a colon follows it at once, and it is no register's name.
 unfoldable pub isLabel : List ℕ → ℕ → ℕ → Bool
@@ -264,6 +253,11 @@ kindMeant s l LabelKind = labelled (spelling s (getD (l .tokens) 0 filler))
 kindMeant s l ConfigKind = config
 kindMeant s l Ignored = ignored
 kindMeant s l Plain = plain
+
+-- A record whose line begins with a label.
+pub record Labelled (s : List ℕ) (l : Record) : Type 0 where
+  pub recorded : Recorded s l
+  pub is-label : labelled (spelling s (getD (l .tokens) 0 filler)) ≡ kindOf (firsts s (l .tokens) (l .count))
 
 -- A line by its record, where its content starts at a place.
 pub record RecordIs (s : List ℕ) (l : Record) (start : ℕ) (c : Context) (r : Read) : Type 0 where

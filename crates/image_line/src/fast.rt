@@ -1,13 +1,11 @@
-// A line read from its bytes at once, without the record of its tokens: its label, its mnemonic and its operands. A line that is read so in
-// part only is left to the record.
+// A line read from its bytes at once, without the record of its tokens: its label, its mnemonic and its operands. A line of any other shape
+// is left to the record.
 ghost use mathlib.Core.Path.{_≡_};
-ghost use mathlib.Core.Bool.{true};
 ghost use Prim.Native.Nat.{_≤_, _<_};
-ghost use lib.ListN.{length, getD};
-ghost use Rattle.text_lexical.specs.Bytes.{nameStart};
+ghost use lib.ListN.{length};
 ghost use Rattle.instruction.specs.Table.{places};
 ghost use Rattle.instruction.specs.Contracts.{formAt};
-ghost use Rattle.image_line.specs.Contracts.{Tables, Ahead, isNumber, markOf, OperandIs, EndsWith, Tails, WordIs, isLabel, FirstWordIs, FastIs};
+ghost use Rattle.image_line.specs.Contracts.{Tables, Ahead, isNumber, markOf, OperandIs, EndsWith, Tails, isLabel, FirstWordIs, FastIs};
 use crate::operand::EndAt;
 use crate::operand::NumberAt;
 use crate::operand::RegisterAt;
@@ -69,12 +67,6 @@ enum OperandAt {
 enum Tail {
     Are { operands: Operands, end: usize },
     Other,
-}
-
-// The key of a word, and its end.
-struct Word {
-    key: u64,
-    end: usize,
 }
 
 // The operands of a form, a digit each, the first lowest: 1 `r,`, 2 `n(`, 3 `r)`, 4 `r`, 5 `n`. They are looked up: forms follow each
@@ -185,39 +177,6 @@ fn read_tail(source: &[u8], from: usize, form: u8) -> Tail
     tail_at(source, at, registers, number)
 }
 
-// The key in lower case of the word at `at`, and where it ends.
-fn lower_word(text: &[u8], at: usize) -> Word
-    requires { ⌜ at < length (now text) ⌝ ∗ ⌜ nameStart (getD (now text) at 0) ≡ true ⌝ }
-    ensures { λ r. ⌜ WordIs (now (text .entry)) at r ⌝ }
-{
-    let mut sum: u64 = 0;
-    let mut scale: u64 = 1;
-    let mut i = at;
-    while i < text.len() {
-        let b = text[i];
-        if !text_lexical::bytes::is_name_part(b) {
-            return Word {
-                key: sum + scale,
-                end: i,
-            };
-        }
-        if 7 <= i - at {
-            // the key of a longer word is 0
-            return Word {
-                key: 0,
-                end: text_lexical::bytes::run_end(text, i, Class::NamePart),
-            };
-        }
-        sum = sum + text_lexical::number::wide(text_lexical::bytes::to_lower(b)) * scale;
-        scale = scale * 256;
-        i += 1;
-    }
-    Word {
-        key: sum + scale,
-        end: i,
-    }
-}
-
 // Whether the word from `at` to `end` is a label: a colon follows it at once, and it is no register's name. These have four bytes at most.
 fn is_label(source: &[u8], at: usize, end: usize) -> bool
     requires { ⌜ at < end ⌝ ∗ ⌜ end ≤ length (now source) ⌝ }
@@ -256,7 +215,7 @@ fn first_word(source: &[u8], start: usize) -> FirstWord
         if !text_lexical::bytes::is_name_start(source[at]) {
             return FirstWord::Missing { label, at };
         }
-        let word = lower_word(source, at);
+        let word = text_lexical::name::lower_word(source, at);
         let key = word.key;
         let end = word.end;
         if label.labelled {

@@ -1,5 +1,4 @@
 // The line at a place of a source: what it reads as. Both walks read their lines by it.
-ghost use mathlib.Core.Path.{_≡_};
 ghost use Prim.Native.Nat.{_≤_};
 ghost use lib.ListN.{length};
 ghost use Rattle.image_line.specs.Contracts.{Tables, contextFor, LineIs};

@@ -3,12 +3,13 @@ ghost use mathlib.Core.Path.{_≡_};
 ghost use mathlib.Core.Bool.{false};
 ghost use Prim.Native.Nat.{_≤_};
 ghost use lib.ListN.{length, getD};
-ghost use Rattle.text.specs.Contracts.{firsts, filler, spelling as spellingOf};
+ghost use Rattle.text.specs.Contracts.{firsts, filler};
 ghost use Rattle.instruction.specs.Operands.{readInstruction, behind};
 ghost use Rattle.image.specs.Settings.{configured};
-ghost use Rattle.image.specs.Assembling.{labelled, kindOf, Context, setting, coding, afterLabel};
+ghost use Rattle.instruction.specs.Kinds.{kindOf};
+ghost use Rattle.image.specs.Assembling.{Context, setting, coding, afterLabel};
 ghost use Rattle.image.specs.Contracts.{recordMeant, settingsMeant};
-ghost use Rattle.image_line.specs.Contracts.{Tables, Recorded, kindMeant, contextFor, EffectIs, RecordIs, LineIs};
+ghost use Rattle.image_line.specs.Contracts.{Tables, Recorded, Labelled, kindMeant, contextFor, EffectIs, RecordIs, LineIs};
 use crate::line::Effect;
 use crate::line::Read;
 use image::config::Config;
@@ -136,7 +137,7 @@ fn read_label(
     forms: &[u8; 50],
     slots: &[u8; 293],
 ) -> Read
-    requires { ⌜ Recorded (now source) line ⌝ ∗ ⌜ kindOf (firsts (now source) (line .tokens) (line .count)) ≡ labelled (spellingOf (now source) (getD (line .tokens) 0 filler)) ⌝ ∗ ⌜ Tables (now mnemonics) (now forms) (now slots) ⌝ }
+    requires { ⌜ Labelled (now source) line ⌝ ∗ ⌜ Tables (now mnemonics) (now forms) (now slots) ⌝ }
     ensures { λ r. ⌜ ((c : Context) → RecordIs (now (source .entry)) line (getD (line .tokens) 0 filler .start) c r) ⌝ }
 {
     let tokens = line.tokens;

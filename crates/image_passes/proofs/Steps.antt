@@ -14,7 +14,7 @@ use Rattle.text.specs.Lines.{indent, readLine}
 use Rattle.text.specs.Lines.{Line as Record}
 use Rattle.text.specs.Places.{restAt, endAt}
 use Rattle.image.specs.Settings.{Settings}
-use Rattle.image.specs.Assembling.{State, next, config, nothing, codes, sets, faulty, readOn, changedBy, withSettings, most-words, withInstruction, doing, Effect as MeantEffect, Read as MeantRead}
+use Rattle.image.specs.Assembling.{State, next, nothing, codes, sets, faulty, readOn, changedBy, withSettings, most-words, withInstruction, doing, Effect as MeantEffect, Read as MeantRead}
 use Rattle.image.specs.Meaning.{codedBy}
 use Rattle.image.specs.Contracts.{settingsMeant}
 use Rattle.instruction.specs.Words.{wordOf}

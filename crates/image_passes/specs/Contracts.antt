@@ -14,7 +14,7 @@ use Rattle.text.specs.Contracts.{spelling}
 use Rattle.instruction.specs.Words.{wordOf}
 use Rattle.image.specs.Settings.{Settings}
 use Rattle.image.specs.Program.{entry, imageLength}
-use Rattle.image.specs.Assembling.{Label as Meant, State, start, next, stop, config, isKnown, Effect as MeantEffect, nothing, readOn, changedBy, most-words, Walk, walk, refusing, readTo, most-bytes, reading, accepted, doing}
+use Rattle.image.specs.Assembling.{Label as Meant, State, start, next, stop, isKnown, Effect as MeantEffect, nothing, readOn, changedBy, most-words, Walk, walk, refusing, readTo, most-bytes, reading, accepted, doing}
 use Rattle.image.specs.Lent.{over}
 use Rattle.image.specs.Meaning.{codedBy, instructionsOf, settingsOf, imageOf}
 use Rattle.image.specs.Contracts.{settingsMeant}

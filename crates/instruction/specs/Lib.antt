@@ -1,5 +1,6 @@
 pub mod Table
 pub mod Operands
+pub mod Kinds
 pub mod Words
 pub mod Fits
 pub mod Text

@@ -5,3 +5,4 @@ pub mod Keys
 pub mod Naming
 pub mod Values
 pub mod Registers
+pub mod Words

@@ -2,10 +2,20 @@
 ghost use mathlib.Core.Path.{_≡_};
 ghost use mathlib.Core.List.{[], _∷_, map};
 ghost use mathlib.Core.Option.{some};
+ghost use Prim.Native.Nat.{_≤_};
+ghost use lib.ListN.{length};
 ghost use Rattle.text_lexical.specs.Bytes.{lower};
 ghost use Rattle.text_lexical.specs.Names.{named, present};
 ghost use Rattle.text_lexical.specs.Contracts.{keyOf, nameMeant, nameNumber, registerNumber};
+ghost use Rattle.text_lexical.specs.Words.{WordIs};
+use crate::bytes::Class;
 use crate::register::Register;
+
+// The key of a word, and its end.
+pub struct Word {
+    pub key: u64,
+    pub end: usize,
+}
 
 pub enum RegisterName {
     Is(Register),
@@ -125,4 +135,37 @@ pub fn lower_key(spelling: &[u8]) -> u64
         key = key * 256 + crate::number::wide(crate::bytes::to_lower(spelling[i]));
     }
     key
+}
+
+// The word at `at`: its key in lower case, and its end. It has no byte where no part of a name stands.
+pub fn lower_word(text: &[u8], at: usize) -> Word
+    requires { ⌜ at ≤ length (now text) ⌝ }
+    ensures { λ r. ⌜ WordIs (now (text .entry)) at r ⌝ }
+{
+    let mut sum: u64 = 0;
+    let mut scale: u64 = 1;
+    let mut i = at;
+    while i < text.len() {
+        let b = text[i];
+        if !crate::bytes::is_name_part(b) {
+            return Word {
+                key: sum + scale,
+                end: i,
+            };
+        }
+        if 7 <= i - at {
+            // the key of a longer word is 0
+            return Word {
+                key: 0,
+                end: crate::bytes::run_end(text, i, Class::NamePart),
+            };
+        }
+        sum = sum + crate::number::wide(crate::bytes::to_lower(b)) * scale;
+        scale = scale * 256;
+        i += 1;
+    }
+    Word {
+        key: sum + scale,
+        end: i,
+    }
 }

@@ -8,7 +8,7 @@ use borrow.Author.Needs.{needs}
 use borrow.Author.Tests.{not-false}
 use Rattle.text_lexical.specs.Bytes.{nameStart}
 use Rattle.image_line.specs.Contracts.{Labels, OptionalLabel, WordAfter, NoWordAfter}
-use Rattle.image_line.proofs.Lines.{word-in, is-label-reads, before-label, after-label, label-in}
+use Rattle.image_line.proofs.Lines.{word-some, word-in, is-label-reads, before-label, after-label, label-in}
 use Rattle.image_line.proofs.fast.first_word.Statement.{statement}
 use Rattle.image_line.proofs.fast.first_word.Tie as tie
 
@@ -43,7 +43,7 @@ begins : (c : tie.Else2 Inv-loop μ-loop) → let k = c .before .before .before 
 begins c = (omega (arith, c .before .before .before .if1 .left), sym (c .before .is-name-start .ensures) ∙ not-false _ (c .if2 .left))
 
 lower-word-requires : tie.Need-lower-word-requires Inv-loop μ-loop
-lower-word-requires c κs = begins c
+lower-word-requires c κs = omega (arith, begins c .0)
 
 word : (c : tie.After-lower-word Inv-loop μ-loop) → let k = c .before .before .before .before .before in let a = k .before .before .args in let w = c .lower-word .result in
     WordAfter (a .source .now) (a .start) (k .loop .label) (w .key) (w .end)
@@ -59,7 +59,7 @@ bounds c =
     let a = k .before .before .args in
     let (inside-text, start) = begins (c .before) in
     let ends = c .lower-word .ensures .ends in
-    (omega arith, word-in (a .source .now) (k .loop .at) (c .lower-word .result .end) inside-text start ends)
+    (word-some (a .source .now) (k .loop .at) (c .lower-word .result .end) inside-text start ends, word-in (a .source .now) (k .loop .at) (c .lower-word .result .end) inside-text start ends)
 
 returns-3 : tie.Need-returns-3 Inv-loop μ-loop
 returns-3 c = word (c .before)

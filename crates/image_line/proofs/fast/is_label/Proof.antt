@@ -12,7 +12,8 @@ use Rattle.text_lexical.specs.Contracts.{nameNumber, nameMeant}
 use Rattle.text_lexical.specs.declared.name.RegisterName.{RegisterName}
 use Rattle.text_lexical.specs.declared.name.RegisterName.the-variants.{Is, NoSuch, Other}
 use Rattle.text_lexical.proofs.name.RegisterName as register-name-type
-use Rattle.image_line.specs.Contracts.{part, isLabel}
+use Rattle.text_lexical.specs.Words.{part}
+use Rattle.image_line.specs.Contracts.{isLabel}
 use Rattle.image_line.proofs.Lines.{no-byte, no-colon, no-name, a-name, long-name}
 use borrow.Author.Needs.{needs}
 use Rattle.image_line.proofs.fast.is_label.Statement.{statement}

@@ -20,7 +20,7 @@ use Rattle.text.specs.declared.lexer.Token.{Token}
 use Rattle.text.proofs.lexer.Kind as kind
 use Rattle.instruction.specs.Operands.{markByte}
 use Rattle.instruction_operands.proofs.Line.{getD-any}
-use Rattle.image.specs.Assembling.{config, ignored, plain, kindOf}
+use Rattle.instruction.specs.Kinds.{config, ignored, plain, kindOf}
 use Rattle.image_line.proofs.Records.{kind-none, kind-alone, kind-second, kind-spelled, kind-plain}
 use Rattle.image_line.proofs.record.line_kind.Statement.{statement}
 use Rattle.image_line.proofs.record.line_kind.Tie as tie

@@ -1,5 +1,5 @@
 -- `image_line::record::read_label` meets its contract.
-use mathlib.Core.Path.{_≡_, sym}
+use mathlib.Core.Path.{_≡_}
 use native.Mathlib.Omega.{arith}
 use mathlib.Core.List.{List}
 use lib.ListN.{length, getD}
@@ -24,15 +24,15 @@ after-label-requires : tie.Need-after-label-requires
 after-label-requires c κs =
     let b = c .before .before .before in
     let a = b .args in
-    (b .pre .0, (two-tokens (a .source .now) (a .line .tokens) (a .line .count) _ (sym (b .pre .1 .0)), b .pre .1 .1))
+    (b .pre .0 .recorded, (two-tokens (a .source .now) (a .line .tokens) (a .line .count) _ (b .pre .0 .is-label), b .pre .1))
 
 returns : tie.Need-returns
 returns c x =
     let b = c .before .before .before .before in
     let a = b .args in
-    let k = sym (b .pre .1 .0) in
-    rw (first (a .line .tokens) (b .pre .0 .kept .places))
-    (record-labelled (a .source .now) (a .line) x (b .pre .0) (two-tokens (a .source .now) (a .line .tokens) (a .line .count) _ k) k (c .after-label .result) (c .after-label .ensures))
+    let k = b .pre .0 .is-label in
+    rw (first (a .line .tokens) (b .pre .0 .recorded .kept .places))
+    (record-labelled (a .source .now) (a .line) x (b .pre .0 .recorded) (two-tokens (a .source .now) (a .line .tokens) (a .line .count) _ k) k (c .after-label .result) (c .after-label .ensures))
 
 pub read-label-spec : {M : Type 1} → statement M
 read-label-spec = tie.close (tie.spec array-copy-out-label after-label-requires returns)

@@ -1,6 +1,6 @@
 -- `image_line::record::read_record` meets its contract.
 use Prim.Native.Nat.{ℕ, _+_, _≤_}
-use mathlib.Core.Path.{_≡_, sym}
+use mathlib.Core.Path.{_≡_}
 use native.Mathlib.Omega.{arith}
 use mathlib.Core.List.{List, [], _∷_}
 use lib.ListN.{length}
@@ -11,7 +11,8 @@ use Rattle.text.specs.Lines.{indent}
 use Rattle.text.specs.Places.{restAt}
 use Rattle.text.specs.Contracts.{firsts}
 use Rattle.text.specs.declared.parser.Line.{Line}
-use Rattle.image.specs.Assembling.{kindOf, Context}
+use Rattle.instruction.specs.Kinds.{kindOf}
+use Rattle.image.specs.Assembling.{Context}
 use Rattle.image_line.specs.Contracts.{kindMeant, contextFor, RecordIs}
 use Rattle.image_line.specs.declared.line.Effect.the-variants.{Nothing}
 use Rattle.image_line.specs.declared.record.LineKind.{LineKind}
@@ -65,7 +66,7 @@ read-label-requires : tie.Need-read-label-requires
 read-label-requires c κs =
     let k = c .before .before in
     let t = k .before .before in
-    (recorded _ _ _ (t .tokenize .ensures), (sym (rw (c .enum-told2 .given .1) at (k .line-kind .ensures)), t .before .before .before .pre .1))
+    (record { recorded = recorded _ _ _ (t .tokenize .ensures); is-label = rw (c .enum-told2 .given .1) at (k .line-kind .ensures) }, t .before .before .before .pre .1)
 
 enum-told-3 : tie.Need-enum-told-3
 enum-told-3 c = search needs

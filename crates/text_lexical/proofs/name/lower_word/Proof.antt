@@ -1,13 +1,13 @@
--- `image_line::fast::lower_word` meets its contract. The loop's invariant: the bytes so far are parts of a name, and their key.
+-- `text_lexical::name::lower_word` meets its contract. The loop's invariant: the bytes so far are parts of a name, and their key.
 use Prim.Native.Nat.{_+_, _-_, _*_, _^_, _≤_, _<_}
 use mathlib.Core.Path.{sym, _∙_}
 use native.Mathlib.Omega.{arith}
 use lib.ListN.{length, getD}
 use borrow.Author.Needs.{needs}
 use borrow.Author.Tests.{not-true, not-false}
-use Rattle.image_line.proofs.Lines.{Spelling, spelling-begin, spelling-more, spelling-long, spelling-ends, scale-small, scale-fits, product-small, lower-small}
-use Rattle.image_line.proofs.fast.lower_word.Statement.{statement}
-use Rattle.image_line.proofs.fast.lower_word.Tie as tie
+use Rattle.text_lexical.proofs.Words.{Spelling, spelling-begin, spelling-more, spelling-long, spelling-ends, scale-small, scale-fits, product-small, lower-small}
+use Rattle.text_lexical.proofs.name.lower_word.Statement.{statement}
+use Rattle.text_lexical.proofs.name.lower_word.Tie as tie
 
 abbrev Inv-loop : tie.InvT-loop
 Inv-loop text at sum₀ scale₀ i₀ sum scale i = Spelling text at sum scale i
@@ -16,7 +16,7 @@ abbrev μ-loop : tie.MeasureT-loop
 μ-loop text at sum₀ scale₀ i₀ sum scale i = length text - i
 
 loop-holds : tie.Need-loop-holds Inv-loop μ-loop
-loop-holds c = let b = c .before in spelling-begin (b .args .text .now) (b .args .at) (omega (arith, b .pre .0))
+loop-holds c = let b = c .before in spelling-begin (b .args .text .now) (b .args .at) (b .pre)
 
 shared-slice-read-b : tie.Need-shared-slice-read-b Inv-loop μ-loop
 shared-slice-read-b c = search needs
@@ -35,7 +35,7 @@ returns c =
     let p = c .before in
     let k = p .before .before .before in
     let b = k .before .before in
-    spelling-ends (b .args .text .now) (b .args .at) (k .loop .sum) (k .loop .scale) (k .loop .i) (k .loop .inv) (b .pre .0) (λ _. sym (p .is-name-part .ensures) ∙ not-true _ (c .if1 .taken)) (b .pre .1)
+    spelling-ends (b .args .text .now) (b .args .at) (k .loop .sum) (k .loop .scale) (k .loop .i) (k .loop .inv) (λ _. sym (p .is-name-part .ensures) ∙ not-true _ (c .if1 .taken))
 
 sub-if2 : tie.Need-sub-if2 Inv-loop μ-loop
 sub-if2 c = c .before .before .before .before .loop .inv .on
@@ -110,7 +110,7 @@ returns-3 : tie.Need-returns-3 Inv-loop μ-loop
 returns-3 c =
     let k = c .before in
     let b = k .before .before in
-    spelling-ends (b .args .text .now) (b .args .at) (k .loop .sum) (k .loop .scale) (k .loop .i) (k .loop .inv) (b .pre .0) (λ h. absurd (omega (arith, c .loop-test .left))) (b .pre .1)
+    spelling-ends (b .args .text .now) (b .args .at) (k .loop .sum) (k .loop .scale) (k .loop .i) (k .loop .inv) (λ h. absurd (omega (arith, c .loop-test .left)))
 
 pub lower-word-spec : {M : Type 1} → statement M
 lower-word-spec =

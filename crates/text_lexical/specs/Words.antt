@@ -1,0 +1,20 @@
+-- The word at a place of a text: where it ends, and its key. A word's bytes are parts of a name.
+use Prim.Native.Nat.{ℕ, _+_, _-_}
+use mathlib.Core.Path.{_≡_}
+use mathlib.Core.List.{List, map}
+use lib.ListN.{take, drop}
+use Rattle.text_lexical.specs.Bytes.{namePart, lower, run}
+use Rattle.text_lexical.specs.Contracts.{keyOf}
+use Rattle.text_lexical.specs.declared.name.Word.{Word}
+
+abbrev pub wordEnd : List ℕ → ℕ → ℕ
+wordEnd s at = at + run namePart (drop at s)
+
+-- So many bytes of a text from a place on.
+abbrev pub part : List ℕ → ℕ → ℕ → List ℕ
+part s at n = take n (drop at s)
+
+-- The key of a word in lower case, and its end.
+pub record WordIs (s : List ℕ) (at : ℕ) (w : Word) : Type 0 where
+  pub ends : w .end ≡ wordEnd s at
+  pub key-is : w .key ≡ keyOf (map lower (part s at (w .end - at)))
