@@ -10,6 +10,7 @@ use image_passes::first_pass::Pass;
 use image_passes::first_pass::Verdict;
 use image_passes::second_pass::Fill;
 
+// What assembling answers. The labels are those that have been entered into the table.
 pub enum Assembled {
     Is {
         words: usize,
@@ -22,7 +23,7 @@ pub enum Assembled {
         line: usize,
         labels: usize,
     },
-    // 23: the length that is needed
+    // The image buffer is too short (23); the length that is needed.
     TooShort {
         labels: usize,
         needed: usize,

@@ -63,7 +63,8 @@ restOf (Faulty n) words c end = RestRefused n
 abbrev pub grown : State → MeantEffect → State
 grown st e = record { labels = st .labels; instructions = st .instructions ++ codedBy e; setup = changedBy (st .setup) e }
 
--- What the line at a place comes to, its label aside, where it is not refused: what it does to a state with so many words, how many there are then, the settings, and where it ends.
+-- What the line at a place comes to, its label aside, where it is not refused: what it does to a state with so many words, how many
+-- words there are then, the settings, and where it ends.
 pub record RestDone (s : List ℕ) (at words : ℕ) (setup : Settings) (words′ : ℕ) (c : Config) (end : ℕ) : Type 0 where
   pub does : (st : State) → length (st .instructions) ≡ words → doing (effectAt s at setup) (next st) ≡ next (grown st (effectAt s at setup))
   pub counts : words′ ≡ words + length (codedBy (effectAt s at setup))

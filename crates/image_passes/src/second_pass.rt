@@ -89,7 +89,7 @@ fn write_coded(image: &mut [u8], place: usize, coded: Coded) -> usize
     }
 }
 
-// The words of all lines, behind the header.
+// The words of all lines, after the header.
 fn second_pass(
     source: &[u8],
     image: &mut [u8],
