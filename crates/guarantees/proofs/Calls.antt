@@ -5,9 +5,8 @@ use mathlib.Core.Logic.{_↔_}
 use mathlib.Core.Bool.{true, true≢false}
 use mathlib.Core.List.{List, [], map}
 use native.Mathlib.Omega.{arith}
-use lib.ListN.{length, take, length-map}
+use lib.ListN.{length, take}
 use Rattle.text_lexical.specs.Names.{present}
-use Rattle.instruction.specs.Words.{wordOf}
 use Rattle.image.specs.Settings.{Settings, settings}
 use Rattle.image.specs.Assembling.{Assembled as Reading, accepted, rejected, assembling}
 use Rattle.image.specs.Listing.{textOf, Listing as Written, written, rejected as unwritten, listing}

@@ -2,7 +2,6 @@
 ghost use mathlib.Core.Path.{_≡_};
 ghost use Prim.Native.Nat.{_+_, _≤_};
 ghost use lib.ListN.{length};
-ghost use Rattle.text_lexical.specs.Numbers.{little};
 ghost use Rattle.text_writer.specs.Contracts.{Written};
 ghost use Rattle.image.specs.Program.{headerBytes, headerFor, numberAt, headerOf};
 ghost use Rattle.image.specs.Opening.{headerFault, opening};

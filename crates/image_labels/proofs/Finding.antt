@@ -24,7 +24,7 @@ use Rattle.image_labels.specs.declared.label.Gap.{Gap}
 use Rattle.image_labels.specs.declared.label.Found.{Found}
 use Rattle.image_labels.specs.declared.label.Found.the-variants.{At, Missing}
 use Rattle.image_labels.specs.Contracts.{InText, spelled, noLabel, anyNamed, indexOf, Enters}
-use Rattle.image_labels.specs.Tree.{plain, unlinked, held, link, raised, linked, hashOf, firstTurns, turned, wayOf, keyOf, entryFor, hits, slotOf, rootOf, plantedAt, planted, span, begunAt, begun, visited, gapOf, foundOf, Finds, here, there, Rootable, Tree, TreeBehind, Enterable, joined, addressed, Gaps, Finding, Visitable}
+use Rattle.image_labels.specs.Tree.{plain, unlinked, held, link, raised, linked, hashOf, firstTurns, turned, wayOf, keyOf, entryFor, hits, slotOf, rootOf, plantedAt, planted, span, begunAt, begun, visited, gapOf, foundOf, Finds, here, there, Tree, TreeBehind, Enterable, joined, addressed, Gaps, Finding, Visitable}
 use Rattle.image_labels.proofs.Hashing.{slot-inside, parity, held-odd, raised-odd, held-even, raised-even, link-low, linked-low, link-high, linked-high, visited-hit, visited-last, visited-on}
 use Rattle.image_labels.proofs.Roots.{planted-long, planted-new, planted-kept, planted-rooted}
 use Rattle.image_labels.proofs.Named.{spelled-long, index-at, index-none, index-names, any-index, enters-known, enters-new, enters-full}

@@ -1,30 +1,29 @@
 -- The key of a word, labels, and the line that a label, a mnemonic and its operands make.
 use Prim.Native.Nat.{ℕ, suc, _+_, _-_, _*_, _^_, _≤_, _<_}
 use mathlib.Core.Path.{_≡_, refl, sym, ap, _∙_}
-use native.Mathlib.Nat.{pow-suc, mul-add, mul-assoc, mul-comm, mul-le-mul-right}
 use native.Mathlib.Omega.{arith}
 use native.Mathlib.Numerals.{add-one}
 use mathlib.Core.Bool.{true, false, not, and-eq-true-iff, true≢false}
 use mathlib.Core.Option.{Option, none, some}
-use mathlib.Core.List.{List, [], _∷_, _++_, map, map-append}
-use lib.ListN.{length, drop, getD, length-map, length-take, length-drop, List·getD-eq-default}
-use lib.Seq.{drop-drop, take-suc, getD-drop, take-all}
+use mathlib.Core.List.{List, [], _∷_, _++_, map}
+use lib.ListN.{length, drop, getD, length-take, length-drop, List·getD-eq-default}
+use lib.Seq.{take-all}
 use lib.Dec.{leb, eqb}
-use borrow.Author.Tests.{leb-true, le-leb, lt-leb, eq-eqb, ne-eqb, eqb-true}
-use Rattle.text_lexical.specs.Bytes.{Result, value, bytes, between, digit, nameStart, namePart, lower, blank, margin, every, same, run, find, isSome, each}
+use borrow.Author.Tests.{leb-true, eq-eqb, ne-eqb, eqb-true}
+use Rattle.text_lexical.specs.Bytes.{Result, value, bytes, between, digit, nameStart, namePart, lower, blank, margin, same, run, find, isSome, each}
 use Rattle.text_lexical.specs.Names.{Name, name, named, numbered, conventional, present}
-use Rattle.text_lexical.specs.Contracts.{packed, keyOf, nameNumber}
+use Rattle.text_lexical.specs.Contracts.{keyOf, nameNumber}
 use Rattle.text_lexical.specs.Words.{wordEnd, part}
 use Rattle.text_lexical.specs.declared.name.RegisterName.the-variants.{Other}
 use Rattle.text_lexical.proofs.Keys.{Below}
-use Rattle.text_lexical.proofs.Tests.{split, by-test, no-both, or-left, between-true, Each, in-run}
-use Rattle.text_lexical.proofs.Strings.{every-tail, run-past, run-yes, same-eq, found}
+use Rattle.text_lexical.proofs.Tests.{split, no-both, or-left}
+use Rattle.text_lexical.proofs.Strings.{run-yes, same-eq, found}
 use Rattle.text.specs.Tokens.{Token, identifier, register, number, hex, binary, directive, comma, colon, opening, closing, infront, tokens}
 use Rattle.text.specs.Lines.{Line, indent, kept, lineOf, recordOf, readLine}
 use Rattle.text.specs.Places.{restAt, leftAt, endAt}
 use Rattle.text.specs.declared.lexer.Kind.the-variants.{Identifier}
 use Rattle.text.proofs.Left.{start-solid, content-at, indent-at}
-use Rattle.text.proofs.Fronts.{run-in, part-cons, word-at}
+use Rattle.text.proofs.Fronts.{run-in, word-at}
 use Rattle.text.proofs.Stepping.{solid-step, margin-on}
 use Rattle.instruction.specs.Table.{reg, Form, R, I, Shift, Load, Store, Branch, Jump, System, places, row, table, rowNamed}
 use Rattle.instruction.specs.Operands.{Operands, Instruction, readIdentifier, readRegister, markByte, readPlace, readOperands, made, readRow, readMnemonic, readInstruction, behind}
@@ -40,7 +39,7 @@ use Rattle.image_line.specs.Contracts.{Reads, TailIs, isLabel, Labels, O
 use Rattle.image_line.specs.declared.fast.LabelPart.{LabelPart}
 use Rattle.image_line.specs.declared.line.Effect.the-variants.{Nothing, Codes}
 use Rattle.image_line.specs.declared.line.Read.{Read}
-use Rattle.image_line.proofs.Places.{stepped-reads, run-to, every-more, colon-reads, blanks-after}
+use Rattle.image_line.proofs.Places.{stepped-reads, colon-reads, blanks-after}
 
 start-part : (b : ℕ) → nameStart b ≡ true → namePart b ≡ true
 unfolding namePart

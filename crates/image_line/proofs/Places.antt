@@ -38,20 +38,6 @@ stepped-reads s at t next found =
     let (st, sz, n, f, l, e) = p .leads in
     record { means = p .means; on = f; in-text = l; ends = e }
 
--- Past blanks.
-pub past-blanks : (s : List ℕ) (from at : ℕ) (t : Token) (next : ℕ) → from ≤ length s → at ≡ from + run blank (drop from s) → Reads s at t next → Reads s from t next
-past-blanks s from at t next l q r =
-    let n = run-le blank (drop from s) in
-    let k = length-drop from s in
-    let i : every inside (take (run blank (drop from s)) (drop from s)) ≡ true
-    = rw (take-run blank (drop from s)) (every-mono blank inside blank-inside (before blank (drop from s)) (every-run blank (drop from s))) in
-    record {
-      means = blanks-at present s from ∙ ap (λ (x : ℕ). tokens present (leftAt s x)) (sym q) ∙ r .means;
-      on = omega (arith, r .on);
-      in-text = r .in-text;
-      ends = r .ends ∙ ap (endAt s) q ∙ end-on s from (run blank (drop from s)) (omega arith) i;
-    }
-
 -- Blanks after a token are skipped with it.
 pub blanks-after : (s : List ℕ) (at end next : ℕ) (t : Token) → Reads s at t end → next ≡ end + run blank (drop end s) → Reads s at t next
 blanks-after s at end next t r q =

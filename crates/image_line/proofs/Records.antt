@@ -27,7 +27,7 @@ use Rattle.instruction.specs.Operands.{markByte, readInstruction, behind}
 use Rattle.instruction_operands.proofs.Line.{behind-none}
 use Rattle.image.specs.Settings.{configured}
 use Rattle.instruction.specs.Kinds.{Kind, empty, labelled, config, ignored, plain, identifierKind, kindOf}
-use Rattle.image.specs.Assembling.{next, Context, nothing, setting, coding, afterLabel, readKind, readOn}
+use Rattle.image.specs.Assembling.{Context, nothing, setting, coding, afterLabel, readKind, readOn}
 use Rattle.image.specs.Assembling.{Effect as MeantEffect}
 use Rattle.image.specs.Contracts.{recordMeant}
 use Rattle.image_line.specs.Contracts.{effectMeant, InTable, EffectIs, endOf, LineIs, Recorded, RecordIs}

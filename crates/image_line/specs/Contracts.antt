@@ -7,11 +7,11 @@ use mathlib.Core.Bool.{Bool, true, false, not, _&&_, _||_}
 use lib.Dec.{eqb}
 use mathlib.Core.Logic.{_⊎_}
 use mathlib.Core.Option.{Option, none, some}
-use mathlib.Core.List.{List, [], _∷_, map}
+use mathlib.Core.List.{List, [], _∷_}
 use lib.ListN.{length, take, drop, getD}
-use Rattle.text_lexical.specs.Bytes.{value, nameStart, namePart, lower, run, isSome}
+use Rattle.text_lexical.specs.Bytes.{value, nameStart, isSome}
 use Rattle.text_lexical.specs.Names.{named, present}
-use Rattle.text_lexical.specs.Contracts.{indexOf, nameNumber, keyOf, signedMeant}
+use Rattle.text_lexical.specs.Contracts.{indexOf, nameNumber, signedMeant}
 use Rattle.text_lexical.specs.Words.{part, WordIs}
 use Rattle.text_lexical.specs.declared.name.RegisterName.{RegisterName}
 use Rattle.text_lexical.specs.declared.name.RegisterName.the-variants.{Is as Named, NoSuch, Other as NoName}

@@ -11,6 +11,7 @@ use crate::operand::NumberAt;
 use crate::operand::RegisterAt;
 use instruction::instruction::Operands;
 use instruction::opcode::Row;
+use instruction::opcode::SYSTEM;
 use text::parser::Extracted;
 use text_lexical::bytes::Class;
 use text_lexical::name::RegisterName;
@@ -75,7 +76,7 @@ fn operands_of(form: u8) -> u32
     ensures { λ r. ⌜ Ahead (places (formAt form)) r ⌝ }
 {
     let operands = [0o411, 0o511, 0o511, 0o321, 0o321, 0o511, 0o51];
-    if form < 7 {
+    if form < SYSTEM {
         return operands[form as usize];
     }
     0

@@ -16,7 +16,7 @@ use Rattle.text.specs.Lines.{Line as Record}
 use Rattle.text.specs.Places.{restAt, endAt}
 use Rattle.text_lexical.proofs.Tests.{split}
 use Rattle.text_writer.specs.Contracts.{Written}
-use Rattle.text_writer.proofs.Writing.{written-none, written-length, written-append, room-behind, room-before}
+use Rattle.text_writer.proofs.Writing.{written-none, written-append, room-behind, room-before}
 use Rattle.text.proofs.Lines.{line-at, last-line}
 use Rattle.instruction.specs.Words.{wordOf}
 use Rattle.image.specs.Settings.{Settings, begin}
@@ -131,10 +131,6 @@ read-on l ls h = go (readLine present l) h
         no-record z = let y : _≡_ {A = ℕ} 0 1 = cc in absurd (omega arith)
 
 module _ {old s m : List ℕ} {place at : ℕ} {c : Config} (d : Worded old s m place at c) (room : 32 + length (codeBytes s) ≤ length old) where
-  -- the buffer is as long as it was
-  pub worded-length : length m ≡ length old
-  worded-length = written-length (d .so-far) (omega (arith, ap length (d .whole), length-append (d .front) (lineBytes (settingsMeant c) (lines (drop at s)))))
-
   module _ (r : CodedLine) (h : CodesLine s at (settingsMeant c) r) where
     -- its word, and the settings after it
     abbrev word : List ℕ

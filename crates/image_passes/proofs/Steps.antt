@@ -5,12 +5,10 @@ use native.Mathlib.Omega.{arith}
 use mathlib.Core.Bool.{Bool, true, false}
 use mathlib.Core.Option.{Option, none, some}
 use mathlib.Core.List.{List, [], _∷_, _++_, append-nil}
-use lib.ListN.{length, take, drop}
 use lib.Dec.{ltb}
 use borrow.Author.Tests.{ltb-true, lt-ltb, le-ltb}
-use Rattle.text_lexical.specs.Bytes.{same}
 use Rattle.text_lexical.specs.Names.{present}
-use Rattle.text.specs.Lines.{indent, readLine}
+use Rattle.text.specs.Lines.{readLine}
 use Rattle.text.specs.Lines.{Line as Record}
 use Rattle.text.specs.Places.{restAt, endAt}
 use Rattle.image.specs.Settings.{Settings}

@@ -2,9 +2,9 @@
 use Prim.Native.Nat.{ℕ, _+_, _*_, _≤_, _<_}
 use mathlib.Core.Path.{_≡_}
 use mathlib.Core.Bool.{Bool, true, false}
-use mathlib.Core.Option.{Option, none, some}
+use mathlib.Core.Option.{none, some}
 use mathlib.Core.List.{List, [], _∷_, _++_, map, flatMap}
-use lib.ListN.{length, take, drop}
+use lib.ListN.{length, drop}
 use lib.Dec.{leb, ltb}
 use Rattle.text_lexical.specs.Numbers.{little}
 use Rattle.text_lexical.specs.Names.{present}
@@ -14,7 +14,7 @@ use Rattle.text.specs.Contracts.{spelling}
 use Rattle.instruction.specs.Words.{wordOf}
 use Rattle.image.specs.Settings.{Settings}
 use Rattle.image.specs.Program.{entry, imageLength}
-use Rattle.image.specs.Assembling.{Label as Meant, State, start, next, stop, isKnown, Effect as MeantEffect, nothing, readOn, changedBy, most-words, Walk, walk, refusing, readTo, most-bytes, reading, accepted, doing}
+use Rattle.image.specs.Assembling.{Label as Meant, State, start, next, stop, isKnown, Effect as MeantEffect, readOn, changedBy, most-words, Walk, walk, refusing, readTo, most-bytes, reading, accepted, doing}
 use Rattle.image.specs.Lent.{over}
 use Rattle.image.specs.Meaning.{codedBy, instructionsOf, settingsOf, imageOf}
 use Rattle.image.specs.Contracts.{settingsMeant}

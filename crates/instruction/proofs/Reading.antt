@@ -141,12 +141,7 @@ module _ (names : List Name) (N : Naming names) where
       go none h f = refl
       go (some t) h f = infront-numbered (t .token) _ h (f (pred (t .size)))
 
-  -- The tokens of a text name registers of the sixteen, whatever the names.
-  pub tokens-numbered : (s : List ℕ) (ts : List Token) → tokens names s ≡ some ts → each numberedToken ts ≡ true
-  unfolding tokens whenSome
-  tokens-numbered s ts e = subst (λ o. whenSome (each numberedToken) o ≡ true) e (past-numbered 0 s)
-
-  -- And so do those that a line keeps.
+  -- The tokens that a line keeps name registers of the sixteen, whatever the names.
   pub line-numbered : (l : List ℕ) (line : Line) → readLine names l ≡ some line → each numberedToken (line .first) ≡ true
   unfolding readLine tokens whenSome
   line-numbered l line e =

@@ -1,7 +1,7 @@
 -- The text of each form in the pieces that the code writes, and how long they are.
 use mathlib.Core.Path.{_≡_, ap, _∙_}
 use mathlib.Core.Option.{none, some}
-use mathlib.Core.List.{List, [], _∷_, _++_, append-assoc, append-nil}
+use mathlib.Core.List.{[], _∷_, _++_, append-assoc, append-nil}
 use Prim.Native.Nat.{ℕ, _+_}
 use native.Mathlib.Omega.{arith}
 use lib.ListN.{length, length-append}
@@ -9,7 +9,7 @@ use Rattle.text_lexical.specs.Numbers.{signedDecimal}
 use Rattle.text_lexical.specs.Contracts.{indexOf, wholeMeant}
 use Rattle.text_lexical.specs.declared.register.Register.{Register}
 use Rattle.text_lexical.specs.declared.number.Whole.{Whole}
-use Rattle.instruction.specs.Table.{R, I, Shift, Load, Store, Branch, Jump, System, places}
+use Rattle.instruction.specs.Table.{R, I, Load, Jump, places}
 use Rattle.instruction.specs.Text.{registerText, numberText, placesText, operandsText}
 use Rattle.instruction.specs.Contracts.{rowAt}
 use Rattle.instruction_codec.specs.Contracts.{firstText, pairText, baseText, formText}

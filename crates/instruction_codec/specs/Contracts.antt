@@ -1,14 +1,13 @@
--- What the values of coding and writing mean in terms of the definitions, and what the functions promise.
+-- What decoded values mean in terms of the definitions, and what the functions that encode, decode and write promise.
 use Prim.Native.Nat.{ℕ, _+_, _^_, _≤_}
 use mathlib.Core.Path.{_≡_}
 use mathlib.Core.Bool.{true}
 use mathlib.Core.Option.{Option}
 use mathlib.Core.List.{List, [], _∷_, _++_}
-use lib.ListN.{length, take, drop}
 use lib.IntN.{ℤ}
 use Rattle.text_lexical.specs.Bytes.{Result, value, refused}
 use Rattle.text_lexical.specs.Numbers.{meantBy}
-use Rattle.text_lexical.specs.Contracts.{indexOf, wholeMeant}
+use Rattle.text_lexical.specs.Contracts.{indexOf}
 use Rattle.text_lexical.specs.declared.register.Register.{Register}
 use Rattle.instruction.specs.Table.{Form, places}
 use Rattle.instruction.specs.Operands.{Instruction as Meant}

@@ -1,3 +1,3 @@
-// The instruction layer, coding: words, and the text of an instruction.
+// The instruction layer: the words and texts of each form, and the instruction of a word.
 pub mod display;
 pub mod encoder;

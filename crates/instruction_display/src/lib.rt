@@ -1,2 +1,2 @@
-// The instruction layer, writing: the text of each of the fifty cases.
+// The instruction layer: the text of each of the fifty cases.
 pub mod display;

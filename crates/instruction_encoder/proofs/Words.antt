@@ -1,9 +1,8 @@
 -- The word of a case: its mnemonic names the row whose opcode the code takes, and its form is that row's.
-use mathlib.Core.Path.{_≡_, sym, ap, _∙_}
+use mathlib.Core.Path.{_≡_, sym, _∙_}
 use Prim.Native.Nat.{ℕ}
 use mathlib.Core.Bool.{true}
 use lib.Dec.{ltb}
-use borrow.Author.Tests.{ltb-true}
 use Rattle.text_lexical.specs.Contracts.{wholeMeant}
 use Rattle.instruction.specs.Table.{Form, I, Load, places}
 use Rattle.instruction.specs.Words.{wordOf}

@@ -1,2 +1,2 @@
-// The instruction layer, encoding: the word of each of the fifty cases.
+// The instruction layer: the word of each of the fifty cases.
 pub mod encoder;

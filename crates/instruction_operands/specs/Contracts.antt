@@ -1,4 +1,4 @@
--- What the values of reading mean in terms of the definitions, and what the functions promise.
+-- What operands that were read mean in terms of the definitions, and what the functions promise.
 use Prim.Native.Nat.{ℕ, _+_, _≤_, _<_}
 use mathlib.Core.Path.{_≡_}
 use mathlib.Core.List.{List, [], _∷_}

@@ -13,7 +13,14 @@ ghost use Rattle.instruction.specs.Operands.{Operands as MeantOperands};
 ghost use Rattle.instruction.specs.Contracts.{rowAt, formAt, formNumber, mnemonicKeys, formNumbers, slotRows};
 ghost use Rattle.instruction_operands.specs.Contracts.{registerMeant, behindRegister, sixBehind, Reads, parsedMeant, InTable, Kept};
 use instruction::instruction::Operands;
+use instruction::opcode::BRANCH;
+use instruction::opcode::I_TYPE;
+use instruction::opcode::JUMP;
+use instruction::opcode::LOAD;
+use instruction::opcode::R_TYPE;
 use instruction::opcode::Row;
+use instruction::opcode::SHIFT;
+use instruction::opcode::STORE;
 use text::lexer::Kind;
 use text::lexer::Token;
 use text::parser::Extracted;
@@ -207,9 +214,9 @@ fn operand_count(form: u8) -> usize
     ensures { λ r. ⌜ r ≡ length (places (formAt form)) ⌝ }
 {
     match form {
-        0 | 1 | 2 | 5 => 5,
-        3 | 4 => 6,
-        6 => 3,
+        R_TYPE | I_TYPE | SHIFT | BRANCH => 5,
+        LOAD | STORE => 6,
+        JUMP => 3,
         _ => 0,
     }
 }
@@ -218,10 +225,10 @@ fn parse_operands(form: u8, k: Six) -> Operand
     ensures { λ r. ⌜ Reads (places (formAt form)) k r ⌝ }
 {
     match form {
-        0 => parse_r_type(k),
-        1 | 2 | 5 => parse_i_type(k),
-        3 | 4 => parse_memory(k),
-        6 => parse_jal(k),
+        R_TYPE => parse_r_type(k),
+        I_TYPE | SHIFT | BRANCH => parse_i_type(k),
+        LOAD | STORE => parse_memory(k),
+        JUMP => parse_jal(k),
         _ => are(
             Register::R0,
             Register::R0,

@@ -1,2 +1,2 @@
-// The instruction layer, reading: a line's tokens read as an instruction.
+// The instruction layer: a line's tokens read as an instruction.
 pub mod assembler;

@@ -1,7 +1,6 @@
 -- Laws of texts that are put into a room, one after the other, and of a number's digits.
 use Prim.Native.Nat.{ℕ, zero, suc, _+_, _-_, _/_, _%_, _^_, _≤_, _<_, min}
 use mathlib.Core.Path.{_≡_, refl, sym, ap, _∙_}
-use mathlib.Core.Bool.{true, false}
 use mathlib.Core.List.{List, [], _∷_, _++_, append-nil, append-assoc}
 use native.Mathlib.Nat.{add-zero, add-suc, suc-add, min-eq-left, min-eq-right, min-le-right, lt-of-not-le, pow-suc, one-le-pow}
 use native.Mathlib.Decide.{decLe}

@@ -1,5 +1,5 @@
 // Reads lines of one instruction with the oracle's words and texts for them, and words alone, and compares what
-// `instruction`, `coding`, `encoding`, `writing` and `reading` make of them. Writes the number of each record that differs, then counts.
+// the crates of the instruction layer make of them. Writes the number of each record that differs, then counts.
 ghost use Prim.Native.Nat.{_≤_, _<_};
 ghost use lib.ListN.{length, take};
 ghost use mathlib.Core.Path.{_≡_};

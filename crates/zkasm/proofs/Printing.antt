@@ -5,8 +5,8 @@ use native.Mathlib.Nat.{zero-add}
 use native.Mathlib.Omega.{arith}
 use mathlib.Core.Bool.{Bool, true, false}
 use mathlib.Core.Option.{Option, none, some}
-use mathlib.Core.List.{List, [], _∷_, _++_, map}
-use lib.ListN.{length, take, length-append, length-map}
+use mathlib.Core.List.{List, [], _∷_, _++_}
+use lib.ListN.{length, take, length-append}
 use lib.Dec.{leb}
 use borrow.Author.Tests.{le-leb, lt-leb}
 use Rattle.text_lexical.specs.Bytes.{bytes, ascii, every, before}
@@ -15,11 +15,10 @@ use Rattle.text_lexical.specs.Names.{present}
 use Rattle.text_lexical.proofs.Numbers.{decimal-length}
 use Rattle.text_writer.specs.Contracts.{put, Written}
 use Rattle.text.specs.Lines.{lines}
-use Rattle.instruction.specs.Words.{wordOf}
 use Rattle.image.specs.Settings.{Settings}
 use Rattle.image.specs.Assembling.{Walk, finished, stopped, Assembled, accepted, rejected, start, walk, most-bytes, refusing, readTo, reading, assembling}
 use Rattle.image.specs.Listing.{textOf, written, listing}
-use Rattle.image.specs.Meaning.{instructionsOf, settingsOf, imageOf}
+use Rattle.image.specs.Meaning.{instructionsOf, imageOf}
 use Rattle.image.specs.Lent.{over, assembled, refusal, answerOf, imageAfter, listed, unlisted, listAnswerOf, textAfter}
 use Rattle.image_listing.specs.Contracts.{Lists}
 use Rattle.zkasm.specs.Zkasm.{most-input, table-room, image-room, refusalText, outputOf, programOutput}

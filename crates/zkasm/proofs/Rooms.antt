@@ -3,15 +3,13 @@ use mathlib.Core.Path.{_≡_, refl, ap}
 use Prim.Native.Nat.{ℕ, suc, _+_, _*_, _≤_}
 use native.Mathlib.Omega.{arith}
 use mathlib.Core.Bool.{Bool, true, false}
-use mathlib.Core.Option.{Option, none, some}
+use mathlib.Core.Option.{none}
 use mathlib.Core.List.{List, [], _∷_, map, flatMap}
 use lib.ListN.{length, length-append, length-map}
 use lib.Dec.{eqb}
 use borrow.Author.Tests.{le-leb}
-use Rattle.text_lexical.specs.Bytes.{value}
 use Rattle.text_lexical.specs.Names.{Name, present}
 use Rattle.text.specs.Lines.{extended, lines, readLine}
-use Rattle.instruction.specs.Operands.{Instruction}
 use Rattle.instruction.specs.Words.{wordOf}
 use Rattle.image.specs.Settings.{begin}
 use Rattle.image.specs.Program.{header-size, imageLength}

@@ -20,7 +20,7 @@ use ghost.Atoms.{Atoms, sem}
 use contract.Lifetimes.{Lfts, Shares, toks}
 use contract.Monad.{Fun}
 use sound.WpLaws.{fmOf, WpFn-mono}
-use types.Kit.{Given, Item, Sq, prop, runs, atRet, ‵, raw, _⊛_, mean, _$_, _∵_, !, qed, move, drop, use0, use1, use2, use3, split, join, fsplit, fjoin, feqL, suffices, frame, done}
+use types.Kit.{Given, Item, Sq, prop, runs, atRet, ‵, raw, _⊛_, mean, _$_, _∵_, !, qed, move, drop, use0, use1, use2, use3, split, join, fsplit, fjoin, feqL, suffices, done}
 use types.Part.{agg, whole, sub, look-in}
 use types.Run.{look, init, store, stop, hop, fld, from, load, addr, of-opd, and-then, no-more, assigns, land, returns, enter, alloc1, alloc0, params1, pass1, pass0}
 use borrow.Struct.Items.{is-same}

@@ -1,7 +1,6 @@
 -- `image_line::operand::behind_mark` meets its contract.
 use mathlib.Core.Path.{refl}
 use mathlib.Core.Logic.{⊎-elim}
-use native.Mathlib.Omega.{arith}
 use Rattle.image_line.proofs.Places.{no-mark}
 use Rattle.image_line.proofs.operand.behind_mark.Statement.{statement}
 use Rattle.image_line.proofs.operand.behind_mark.Tie as tie

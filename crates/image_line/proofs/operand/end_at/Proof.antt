@@ -1,10 +1,7 @@
 -- `image_line::operand::end_at` meets its contract.
-use mathlib.Core.Path.{refl}
 use mathlib.Core.Logic.{inl, inr}
 use native.Mathlib.Omega.{arith}
 use borrow.Author.Needs.{needs}
-use Rattle.text_lexical.specs.Bytes.{margin}
-use Rattle.text.proofs.Fronts.{run-in}
 use Rattle.image_line.proofs.Places.{end-reads, stops-here}
 use Rattle.image_line.proofs.operand.end_at.Statement.{statement}
 use Rattle.image_line.proofs.operand.end_at.Tie as tie

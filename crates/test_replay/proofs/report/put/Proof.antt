@@ -1,7 +1,6 @@
 -- `test_replay::report::put` meets its contract. The loop's invariant: what is left of the bytes makes of the room what is promised.
 use Prim.Native.Nat.{_-_}
 use mathlib.Core.Path.{_≡_}
-use native.Mathlib.Omega.{arith}
 use lib.ListN.{length}
 use borrow.Author.Needs.{needs}
 use Rattle.test_replay.proofs.Reports.{put-past, Putting, putting-none, putting-more, putting-all, putting-full}

@@ -1,7 +1,6 @@
 -- `test_tokens::list::filler` meets its contract.
 use mathlib.Core.Path.{refl}
 use Rattle.test_tokens.specs.Entries.{fillerAt}
-use borrow.Author.Needs.{needs}
 use Rattle.test_tokens.proofs.list.filler.Statement.{statement}
 use Rattle.test_tokens.proofs.list.filler.Tie as tie
 

@@ -1,11 +1,11 @@
 -- `test_tokens::list::is_entry` meets its contract.
 use mathlib.Core.Path.{_≡_, _∙_}
-use mathlib.Core.Bool.{true, false, _&&_}
+use mathlib.Core.Bool.{_&&_}
 use mathlib.Core.Logic.{⊎-elim}
 use borrow.Author.Needs.{needs}
 use lib.Dec.{eqb}
 use borrow.Author.Tests.{eq-eqb, ne-eqb}
-use Rattle.test_tokens.specs.Entries.{spellingOf, sameToken}
+use Rattle.test_tokens.specs.Entries.{sameToken}
 use Rattle.test_tokens.proofs.list.is_entry.Statement.{statement}
 use Rattle.test_tokens.proofs.list.is_entry.Tie as tie
 

@@ -1,7 +1,6 @@
 -- `test_vectors::answer::same` meets its contract. The loop's invariant: what is left of the two rows agrees as they do.
 use Prim.Native.Nat.{_-_, _≤_}
 use mathlib.Core.Path.{_≡_, refl, sym, _∙_}
-use native.Mathlib.Omega.{arith}
 use lib.ListN.{length, drop}
 use borrow.Author.Tests.{eq-eqb, ne-eqb}
 use Rattle.test_vectors.specs.Answers.{sameNumbers}

@@ -5,7 +5,6 @@ use mathlib.Core.Logic.{⊎-elim}
 use lib.Dec.{eqb}
 use borrow.Author.Tests.{eq-eqb, ne-eqb}
 use Rattle.test_vectors.specs.Tables.{sameEntry}
-use borrow.Author.Needs.{needs}
 use Rattle.test_vectors.proofs.table.is_entry.Statement.{statement}
 use Rattle.test_vectors.proofs.table.is_entry.Tie as tie
 

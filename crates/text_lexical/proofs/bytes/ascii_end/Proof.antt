@@ -3,7 +3,6 @@ use mathlib.Core.Path.{_≡_, refl, sym, _∙_}
 use Prim.Native.Nat.{_≤_, _+_, _-_}
 use native.Mathlib.Omega.{arith}
 use lib.ListN.{length, drop}
-use borrow.Author.Needs.{needs}
 use borrow.Author.Tests.{not-false}
 use Rattle.text_lexical.specs.Bytes.{run, ascii}
 use Rattle.text_lexical.proofs.Strings.{run-block}

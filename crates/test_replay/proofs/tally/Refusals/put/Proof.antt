@@ -1,6 +1,6 @@
 -- `test_replay::tally::Refusals::put` meets its contract. The loop's invariant: the lines that are put, and those that are left, are all.
 use Prim.Native.Nat.{_-_}
-use mathlib.Core.Path.{_≡_, sym, ap, _∙_}
+use mathlib.Core.Path.{_≡_, ap, _∙_}
 use mathlib.Core.Logic.{⊎-elim}
 use mathlib.Core.List.{[], _∷_}
 use lib.ListN.{length}

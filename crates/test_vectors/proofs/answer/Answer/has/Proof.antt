@@ -1,6 +1,6 @@
 -- `test_vectors::answer::Answer::has` meets its contract.
 use borrow.Author.Tests.{eq-eqb, ne-eqb}
-use Rattle.test_vectors.specs.Answers.{answerValues, sameAnswer}
+use Rattle.test_vectors.specs.Answers.{sameAnswer}
 use borrow.Author.Needs.{needs}
 use Rattle.test_vectors.proofs.answer.Answer.has.Statement.{statement}
 use Rattle.test_vectors.proofs.answer.Answer.has.Tie as tie

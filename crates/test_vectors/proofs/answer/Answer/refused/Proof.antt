@@ -1,7 +1,6 @@
 -- `test_vectors::answer::Answer::refused` meets its contract.
 use mathlib.Core.Path.{refl}
 use Rattle.test_vectors.specs.Answers.{refusedAnswer}
-use borrow.Author.Needs.{needs}
 use Rattle.test_vectors.proofs.answer.Answer.refused.Statement.{statement}
 use Rattle.test_vectors.proofs.answer.Answer.refused.Tie as tie
 

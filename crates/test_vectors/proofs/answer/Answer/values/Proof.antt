@@ -1,7 +1,6 @@
 -- `test_vectors::answer::Answer::values` meets its contract.
 use mathlib.Core.Path.{refl}
 use Rattle.test_vectors.specs.Answers.{answerValues}
-use borrow.Author.Needs.{needs}
 use Rattle.test_vectors.proofs.answer.Answer.values.Statement.{statement}
 use Rattle.test_vectors.proofs.answer.Answer.values.Tie as tie
 

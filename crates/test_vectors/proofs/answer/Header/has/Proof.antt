@@ -1,6 +1,6 @@
 -- `test_vectors::answer::Header::has` meets its contract.
 use borrow.Author.Tests.{eq-eqb, ne-eqb}
-use Rattle.test_vectors.specs.Answers.{headerValues, sameHeader}
+use Rattle.test_vectors.specs.Answers.{sameHeader}
 use borrow.Author.Needs.{needs}
 use Rattle.test_vectors.proofs.answer.Header.has.Statement.{statement}
 use Rattle.test_vectors.proofs.answer.Header.has.Tie as tie

@@ -1,7 +1,6 @@
 -- `test_vectors::answer::Header::refused` meets its contract.
 use mathlib.Core.Path.{refl}
 use Rattle.test_vectors.specs.Answers.{refusedHeader}
-use borrow.Author.Needs.{needs}
 use Rattle.test_vectors.proofs.answer.Header.refused.Statement.{statement}
 use Rattle.test_vectors.proofs.answer.Header.refused.Tie as tie
 

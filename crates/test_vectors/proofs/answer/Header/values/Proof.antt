@@ -1,7 +1,6 @@
 -- `test_vectors::answer::Header::values` meets its contract.
 use mathlib.Core.Path.{refl}
 use Rattle.test_vectors.specs.Answers.{headerValues}
-use borrow.Author.Needs.{needs}
 use Rattle.test_vectors.proofs.answer.Header.values.Statement.{statement}
 use Rattle.test_vectors.proofs.answer.Header.values.Tie as tie
 

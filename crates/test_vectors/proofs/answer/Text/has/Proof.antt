@@ -1,6 +1,6 @@
 -- `test_vectors::answer::Text::has` meets its contract.
 use borrow.Author.Tests.{eq-eqb, ne-eqb}
-use Rattle.test_vectors.specs.Answers.{textValues, sameText}
+use Rattle.test_vectors.specs.Answers.{sameText}
 use borrow.Author.Needs.{needs}
 use Rattle.test_vectors.proofs.answer.Text.has.Statement.{statement}
 use Rattle.test_vectors.proofs.answer.Text.has.Tie as tie

@@ -1,7 +1,6 @@
 -- `test_vectors::answer::Text::values` meets its contract.
 use mathlib.Core.Path.{refl}
 use Rattle.test_vectors.specs.Answers.{textValues}
-use borrow.Author.Needs.{needs}
 use Rattle.test_vectors.proofs.answer.Text.values.Statement.{statement}
 use Rattle.test_vectors.proofs.answer.Text.values.Tie as tie
 
