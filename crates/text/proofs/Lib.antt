@@ -6,4 +6,5 @@ pub mod Meanings
 pub mod Fronts
 pub mod Stepping
 pub mod Recording
+pub mod NameSets
 pub mod Within

@@ -9,7 +9,7 @@ use lib.Dec.{eqb}
 use lib.IntN.{ℤ, pos, natAbs}
 use Rattle.text_lexical.specs.Bytes.{Result, value, refused, digit, nameStart, blank, margin, run}
 use Rattle.text_lexical.specs.Numbers.{minus}
-use Rattle.text_lexical.specs.Names.{present}
+use Rattle.text_lexical.specs.Names.{Name}
 use Rattle.text_lexical.specs.Contracts.{indexOf, registerAt, wholeMeant}
 use Rattle.text_lexical.specs.declared.number.Radix.{Radix}
 use Rattle.text_lexical.specs.declared.number.Radix.the-variants.{Binary as BinaryRadix, Decimal as DecimalRadix, Hex as HexRadix}
@@ -106,31 +106,31 @@ abbrev pub foundAt : List ℕ → ℕ → Option Sized → Scan
 foundAt s at none = Bad
 foundAt s at (some t) = Found (record { kind = kindFor (t .token) (take (t .size) (drop at s)); start = at; length = t .size }) (at + t .size)
 
--- The token that what is left of the line begins with.
-unfoldable pub tokenAt : List ℕ → ℕ → Scan
-tokenAt s at = foundAt s at (front present (leftAt s at))
+-- The token that what is left of the line begins with, by a set of names.
+unfoldable pub tokenAt : List Name → List ℕ → ℕ → Scan
+tokenAt names s at = foundAt s at (front names (leftAt s at))
 
 -- What stands at a place: a token, or something that is none; where nothing is left, the end, with the place after the margin.
-unfoldable pub standsAt : List ℕ → ℕ → Scan
-standsAt s at = elim (leftAt s at) [ [] ↦ End (at + run margin (drop at s)) | b ∷ l ↦ tokenAt s at ]
+unfoldable pub standsAt : List Name → List ℕ → ℕ → Scan
+standsAt names s at = elim (leftAt s at) [ [] ↦ End (at + run margin (drop at s)) | b ∷ l ↦ tokenAt names s at ]
 
 -- The place past the blanks from a place on.
 abbrev pub past : List ℕ → ℕ → ℕ
 past s from = from + run blank (drop from s)
 
 -- What is found next from a place on.
-unfoldable pub scanAt : List ℕ → ℕ → Scan
-scanAt s from = standsAt s (past s from)
+unfoldable pub scanAt : List Name → List ℕ → ℕ → Scan
+scanAt names s from = standsAt names s (past s from)
 
 -- A number's first byte: a digit or `-`.
 unfoldable pub numberStart : ℕ → Bool
 numberStart b = digit b || eqb b 45
 
 -- Decimal digits at a place, which no longer match begins.
-pub record IsDecimal (s : List ℕ) (at : ℕ) : Type 0 where
+pub record IsDecimal (names : List Name) (s : List ℕ) (at : ℕ) : Type 0 where
   pub in-text : at < length s
   pub is-digit : digit (getD s at 0) ≡ true
-  pub is-number : longest present (drop at s) (length (drop at s)) ≡ some (record { size = run digit (drop at s); class = NumberClass })
+  pub is-number : longest names (drop at s) (length (drop at s)) ≡ some (record { size = run digit (drop at s); class = NumberClass })
 
 -- The byte after the `0` of a number that is not decimal.
 abbrev pub PrefixIs : Radix → ℕ → Type 0
@@ -175,13 +175,13 @@ followed Bad rest = none
 followed (End e) rest = some []
 
 -- The tokens of a line from a place on, one after the other, up to the n-th; none: a bad token.
-unfoldable pub tokensFrom : ℕ → List ℕ → ℕ → Option (List Token)
-tokensFrom zero s at = some []
-tokensFrom (suc n) s at = followed (scanAt s at) (tokensFrom n s)
+unfoldable pub tokensFrom : List Name → ℕ → List ℕ → ℕ → Option (List Token)
+tokensFrom names zero s at = some []
+tokensFrom names (suc n) s at = followed (scanAt names s at) (tokensFrom names n s)
 
 -- All of them: each takes a byte at least, so that there are no more than bytes.
-abbrev pub allFrom : List ℕ → ℕ → Option (List Token)
-allFrom s at = tokensFrom (suc (length s)) s at
+abbrev pub allFrom : List Name → List ℕ → ℕ → Option (List Token)
+allFrom names s at = tokensFrom names (suc (length s)) s at
 
 -- What fills the places that no token takes.
 abbrev pub filler : Token
@@ -201,8 +201,8 @@ lineWith s from none = spoiled from
 lineWith s from (some ts) = record { tokens = firstKept ts; count = length ts; bad = false; end = endAt s from }
 
 -- The record of the line from a place on, whose tokens begin after its margin.
-unfoldable pub recordAt : List ℕ → ℕ → Line
-recordAt s from = lineWith s from (allFrom s (from + run margin (drop from s)))
+unfoldable pub recordAt : List Name → List ℕ → ℕ → Line
+recordAt names s from = lineWith s from (allFrom names s (from + run margin (drop from s)))
 
 -- The tokens that a record keeps: of its places the first `count`, so all of them where there are more.
 abbrev pub firsts : List ℕ → List Token → ℕ → List Meant

@@ -4,6 +4,7 @@ ghost use mathlib.Core.Bool.{true, false};
 ghost use Prim.Native.Nat.{_+_, _-_, _≤_, _<_};
 ghost use lib.ListN.{length, getD};
 ghost use Rattle.text_lexical.specs.Bytes.{nameStart, digit, mark, blank};
+ghost use Rattle.text_lexical.specs.Names.{present};
 ghost use Rattle.text.specs.Contracts.{patternKind, tokenAt, scanAt, numberStart, IsDecimal, Prefixed, NoWord};
 use text_lexical::bytes::Class;
 use text_lexical::name::RegisterName;
@@ -59,7 +60,7 @@ fn found(kind: Kind, at: usize, end: usize) -> Scan
 // A word: a Register or an Identifier.
 fn word(text: &[u8], at: usize) -> Scan
     requires { ⌜ at < length (now text) ⌝ ∗ ⌜ nameStart (getD (now text) at 0) ≡ true ⌝ }
-    ensures { λ r. ⌜ r ≡ tokenAt (now (text .entry)) at ⌝ }
+    ensures { λ r. ⌜ r ≡ tokenAt present (now (text .entry)) at ⌝ }
 {
     let end = text_lexical::bytes::run_end(text, at + 1, Class::NamePart);
     match text_lexical::name::parse_register(&text[at..end]) {
@@ -71,8 +72,8 @@ fn word(text: &[u8], at: usize) -> Scan
 
 // Decimal digits at `at`, all of which make the token.
 fn decimal(text: &[u8], at: usize) -> Scan
-    requires { ⌜ IsDecimal (now text) at ⌝ }
-    ensures { λ r. ⌜ r ≡ tokenAt (now (text .entry)) at ⌝ }
+    requires { ⌜ IsDecimal present (now text) at ⌝ }
+    ensures { λ r. ⌜ r ≡ tokenAt present (now (text .entry)) at ⌝ }
 {
     let digits = text_lexical::number::digits_at(text, at, Radix::Decimal);
     let end = digits.end;
@@ -92,7 +93,7 @@ fn decimal(text: &[u8], at: usize) -> Scan
 // `-` at `at`.
 fn minus(text: &[u8], at: usize) -> Scan
     requires { ⌜ at < length (now text) ⌝ ∗ ⌜ getD (now text) at 0 ≡ 45 ⌝ }
-    ensures { λ r. ⌜ r ≡ tokenAt (now (text .entry)) at ⌝ }
+    ensures { λ r. ⌜ r ≡ tokenAt present (now (text .entry)) at ⌝ }
 {
     let begin = at + 1;
     let digits = text_lexical::number::digits_at(text, begin, Radix::Decimal);
@@ -127,7 +128,7 @@ fn pattern(radix: Radix, magnitude: u64) -> Kind
 // `0x` or `0b` at `at`; without a digit after it, only `0` is the token.
 fn prefixed(text: &[u8], at: usize, radix: Radix) -> Scan
     requires { ⌜ Prefixed (now text) at radix ⌝ }
-    ensures { λ r. ⌜ r ≡ tokenAt (now (text .entry)) at ⌝ }
+    ensures { λ r. ⌜ r ≡ tokenAt present (now (text .entry)) at ⌝ }
 {
     let begin = at + 2;
     let digits = text_lexical::number::digits_at(text, begin, radix);
@@ -145,7 +146,7 @@ fn prefixed(text: &[u8], at: usize, radix: Radix) -> Scan
 // A digit at `at`.
 fn digits(text: &[u8], at: usize) -> Scan
     requires { ⌜ at < length (now text) ⌝ ∗ ⌜ digit (getD (now text) at 0) ≡ true ⌝ }
-    ensures { λ r. ⌜ r ≡ tokenAt (now (text .entry)) at ⌝ }
+    ensures { λ r. ⌜ r ≡ tokenAt present (now (text .entry)) at ⌝ }
 {
     let second = at + 1;
     if text[at] == b'0' && second < text.len() {
@@ -169,7 +170,7 @@ pub fn is_number_start(b: u8) -> bool
 // A number at `at`.
 pub fn number(text: &[u8], at: usize) -> Scan
     requires { ⌜ at < length (now text) ⌝ ∗ ⌜ numberStart (getD (now text) at 0) ≡ true ⌝ }
-    ensures { λ r. ⌜ r ≡ tokenAt (now (text .entry)) at ⌝ }
+    ensures { λ r. ⌜ r ≡ tokenAt present (now (text .entry)) at ⌝ }
 {
     if text[at] == b'-' {
         return minus(text, at);
@@ -180,7 +181,7 @@ pub fn number(text: &[u8], at: usize) -> Scan
 // `.` at `at`.
 fn directive(text: &[u8], at: usize) -> Scan
     requires { ⌜ at < length (now text) ⌝ ∗ ⌜ getD (now text) at 0 ≡ 46 ⌝ }
-    ensures { λ r. ⌜ r ≡ tokenAt (now (text .entry)) at ⌝ }
+    ensures { λ r. ⌜ r ≡ tokenAt present (now (text .entry)) at ⌝ }
 {
     let second = at + 1;
     if text.len() <= second {
@@ -196,7 +197,7 @@ fn directive(text: &[u8], at: usize) -> Scan
 // A byte that begins no token: the line's end, a comment, or margin before one of them; anything else is bad.
 fn ending(text: &[u8], at: usize) -> Scan
     requires { ⌜ at < length (now text) ⌝ ∗ ⌜ NoWord (getD (now text) at 0) ⌝ ∗ ⌜ mark (getD (now text) at 0) ≡ false ⌝ }
-    ensures { λ r. ⌜ r ≡ scanAt (now (text .entry)) at ⌝ }
+    ensures { λ r. ⌜ r ≡ scanAt present (now (text .entry)) at ⌝ }
 {
     let stop = text_lexical::bytes::run_end(text, at, Class::Margin);
     if text.len() <= stop {
@@ -211,7 +212,7 @@ fn ending(text: &[u8], at: usize) -> Scan
 // A mark at `at`, or no token.
 fn mark_or_ending(text: &[u8], at: usize) -> Scan
     requires { ⌜ at < length (now text) ⌝ ∗ ⌜ NoWord (getD (now text) at 0) ⌝ }
-    ensures { λ r. ⌜ r ≡ scanAt (now (text .entry)) at ⌝ }
+    ensures { λ r. ⌜ r ≡ scanAt present (now (text .entry)) at ⌝ }
 {
     let end = at + 1;
     match text[at] {
@@ -226,7 +227,7 @@ fn mark_or_ending(text: &[u8], at: usize) -> Scan
 // What stands at `at`.
 fn front(text: &[u8], at: usize) -> Scan
     requires { ⌜ at < length (now text) ⌝ ∗ ⌜ blank (getD (now text) at 0) ≡ false ⌝ }
-    ensures { λ r. ⌜ r ≡ scanAt (now (text .entry)) at ⌝ }
+    ensures { λ r. ⌜ r ≡ scanAt present (now (text .entry)) at ⌝ }
 {
     let b = text[at];
     if text_lexical::bytes::is_name_start(b) {
@@ -244,7 +245,7 @@ fn front(text: &[u8], at: usize) -> Scan
 // The next token of the line from `from` on.
 pub(crate) fn next_token(text: &[u8], from: usize) -> Scan
     requires { ⌜ from ≤ length (now text) ⌝ }
-    ensures { λ r. ⌜ r ≡ scanAt (now (text .entry)) from ⌝ }
+    ensures { λ r. ⌜ r ≡ scanAt present (now (text .entry)) from ⌝ }
 {
     let at = text_lexical::bytes::run_end(text, from, Class::Blank);
     if at < text.len() {
