@@ -20,6 +20,7 @@ use Rattle.text_lexical.proofs.Tests.{split, no-both, or-left}
 use Rattle.text_lexical.proofs.Strings.{run-yes, same-eq, found}
 use Rattle.text.specs.Tokens.{Token, identifier, register, number, hex, binary, directive, comma, colon, opening, closing, infront, tokens}
 use Rattle.text.specs.Lines.{Line, indent, kept, lineOf, recordOf, readLine}
+use Rattle.text.specs.NameSets.{Naming}
 use Rattle.text.specs.Places.{restAt, leftAt, endAt}
 use Rattle.text.specs.declared.lexer.Kind.the-variants.{Identifier}
 use Rattle.text.proofs.Left.{start-solid, content-at, indent-at}
@@ -47,15 +48,19 @@ start-part b h = or-left (nameStart b) (digit b) h
 
 -- ---- a mnemonic is no register's name
 
-mnemonics-unnamed : each (λ n. not (isSome (rowNamed (map lower (n .spelling))))) present ≡ true
-unfolding each isSome present numbered conventional name bytes rowNamed find table row same lower between
-mnemonics-unnamed = refl
+-- Names of which no mnemonic is one, in whatever case.
+abbrev pub NoMnemonics : List Name → Type 0
+NoMnemonics names = each (λ n. not (isSome (rowNamed (map lower (n .spelling))))) names ≡ true
 
-unnamed : (u : List ℕ) (o : Option Name) → named present u ≡ o → isSome (rowNamed (map lower u)) ≡ true → nameNumber o ≡ none
+pub no-mnemonics : NoMnemonics present
+unfolding each isSome present numbered conventional name bytes rowNamed find table row same lower between
+no-mnemonics = refl
+
+unnamed : (names : List Name) → NoMnemonics names → (u : List ℕ) (o : Option Name) → named names u ≡ o → isSome (rowNamed (map lower u)) ≡ true → nameNumber o ≡ none
 unfolding named not
-unnamed u none e h = refl
-unnamed u (some n) e h =
-    let (p, q) = found (λ x. same (x .spelling) u) (λ x. not (isSome (rowNamed (map lower (x .spelling))))) present n e mnemonics-unnamed in
+unnamed names free u none e h = refl
+unnamed names free u (some n) e h =
+    let (p, q) = found (λ x. same (x .spelling) u) (λ x. not (isSome (rowNamed (map lower (x .spelling))))) names n e free in
     let k : not (isSome (rowNamed (map lower u))) ≡ true = rw (same-eq (n .spelling) u p) at q in
     absurd (true≢false (sym k ∙ rw h))
 
@@ -63,16 +68,19 @@ some-row : {A : Type 0} (o : Option A) (a : A) → o ≡ some a → isSome o ≡
 unfolding isSome
 some-row o a e = rw e
 
--- Nor is a name that is longer than any.
-names-short : each (λ n. leb (length (n .spelling)) 4) present ≡ true
+-- Names of four bytes at most; a longer one is none of them.
+abbrev pub Short : List Name → Type 0
+Short names = each (λ n. leb (length (n .spelling)) 4) names ≡ true
+
+pub names-short : Short present
 unfolding each present numbered conventional name bytes
 names-short = refl
 
-long-unnamed : (u : List ℕ) (o : Option Name) → named present u ≡ o → 4 < length u → nameNumber o ≡ none
+long-unnamed : (names : List Name) → Short names → (u : List ℕ) (o : Option Name) → named names u ≡ o → 4 < length u → nameNumber o ≡ none
 unfolding named
-long-unnamed u none e h = refl
-long-unnamed u (some n) e h =
-    let (p, q) = found (λ x. same (x .spelling) u) (λ x. leb (length (x .spelling)) 4) present n e names-short in
+long-unnamed names short u none e h = refl
+long-unnamed names short u (some n) e h =
+    let (p, q) = found (λ x. same (x .spelling) u) (λ x. leb (length (x .spelling)) 4) names n e short in
     let k : length u ≤ 4 = leb-true (length u) 4 (rw (same-eq (n .spelling) u p) at q) in
     absurd (omega arith)
 
@@ -88,41 +96,42 @@ module _ (s : List ℕ) (at end : ℕ) (l : at < length s) (start : nameStart (g
   pub word-in : end ≤ length s
   word-in = omega (arith, run-in namePart s at (omega arith))
 
-  name-reads : nameNumber (named present (part s at (end - at))) ≡ none → Reads s at (identifier (part s at (end - at))) end
-  name-reads n =
-      stepped-reads s at (record { kind = Identifier; start = at; length = end - at }) end (solid-step s at _ l (start-solid _ start) (word-at s at end Other l start (omega (arith, word-goes)) (sym n)))
+  module _ (names : List Name) (ok : Naming names) where
+    name-reads : nameNumber (named names (part s at (end - at))) ≡ none → Reads names s at (identifier (part s at (end - at))) end
+    name-reads n =
+        stepped-reads names ok s at (record { kind = Identifier; start = at; length = end - at }) end (solid-step names s at _ l (start-solid _ start) (word-at names ok s at end Other l start (omega (arith, word-goes)) (sym n)))
 
-  -- A row that is found by the key of the word.
-  pub mnemonic-reads : (key i : ℕ) (r : Looked) → Below s → key ≡ keyOf (map lower (part s at (end - at))) → IsRow r (find (λ q. eqb (keyOf (q .mnemonic)) key) table) → r ≡ At i
-      → (i < 50) × ((rowNamed (map lower (part s at (end - at))) ≡ some (rowAt i)) × Reads s at (identifier (part s at (end - at))) end)
-  mnemonic-reads key i r below k row f =
-      let u = part s at (end - at) in
-      let (in-table, n) : (i < 50) × (rowNamed (map lower u) ≡ some (rowAt i)) = rw (← named-by-key u key (below-part at (end - at) s below) k) (rw f at row) in
-      (in-table, (n, name-reads (unnamed u (named present u) refl (some-row _ _ n))))
+    -- A row that is found by the key of the word.
+    pub mnemonic-reads : NoMnemonics names → (key i : ℕ) (r : Looked) → Below s → key ≡ keyOf (map lower (part s at (end - at))) → IsRow r (find (λ q. eqb (keyOf (q .mnemonic)) key) table) → r ≡ At i
+        → (i < 50) × ((rowNamed (map lower (part s at (end - at))) ≡ some (rowAt i)) × Reads names s at (identifier (part s at (end - at))) end)
+    mnemonic-reads free key i r below k row f =
+        let u = part s at (end - at) in
+        let (in-table, n) : (i < 50) × (rowNamed (map lower u) ≡ some (rowAt i)) = rw (← named-by-key u key (below-part at (end - at) s below) k) (rw f at row) in
+        (in-table, (n, name-reads (unnamed names free u (named names u) refl (some-row _ _ n))))
 
-  -- A colon after a name that is no register's.
-  pub label-reads : end < length s → getD s end 0 ≡ 58 → nameNumber (named present (part s at (end - at))) ≡ none → Labels s at end (end + 1)
-  label-reads h c n = record { name = name-reads n; mark = colon-reads s end h c }
+    -- A colon after a name that is no register's.
+    pub label-reads : end < length s → getD s end 0 ≡ 58 → nameNumber (named names (part s at (end - at))) ≡ none → Labels names s at end (end + 1)
+    label-reads h c n = record { name = name-reads n; mark = colon-reads names ok s end h c }
 
 -- Whether a word is a label, by the byte after it and by its name.
-module _ (s : List ℕ) (at end : ℕ) where
-  pub no-colon : (getD s end 0 ≡ 58 → ⊥) → false ≡ isLabel s at end
+module _ (names : List Name) (s : List ℕ) (at end : ℕ) where
+  pub no-colon : (getD s end 0 ≡ 58 → ⊥) → false ≡ isLabel names s at end
   unfolding isLabel
   no-colon h = sym (rw (isLabel, ne-eqb (getD s end 0) 58 h))
 
-  pub no-byte : length s ≤ end → false ≡ isLabel s at end
+  pub no-byte : length s ≤ end → false ≡ isLabel names s at end
   no-byte h = no-colon (λ e. let z : getD s end 0 ≡ 0 = List·getD-eq-default s 0 {n = end} h in omega arith)
 
-  pub no-name : getD s end 0 ≡ 58 → nameNumber (named present (part s at (end - at))) ≡ none → true ≡ isLabel s at end
+  pub no-name : getD s end 0 ≡ 58 → nameNumber (named names (part s at (end - at))) ≡ none → true ≡ isLabel names s at end
   unfolding isLabel isSome
   no-name c n = sym (rw (isLabel, c, n))
 
-  pub a-name : (o : Option ℕ) → getD s end 0 ≡ 58 → nameNumber (named present (part s at (end - at))) ≡ some o → false ≡ isLabel s at end
+  pub a-name : (o : Option ℕ) → getD s end 0 ≡ 58 → nameNumber (named names (part s at (end - at))) ≡ some o → false ≡ isLabel names s at end
   unfolding isLabel isSome
   a-name o c n = sym (rw (isLabel, c, n))
 
-  pub long-name : end ≤ length s → 4 < end - at → nameNumber (named present (part s at (end - at))) ≡ none
-  long-name h l = long-unnamed (part s at (end - at)) _ refl (omega (arith, length-take (end - at) (drop at s), length-drop at s))
+  pub long-name : Short names → end ≤ length s → 4 < end - at → nameNumber (named names (part s at (end - at))) ≡ none
+  long-name short h l = long-unnamed names short (part s at (end - at)) _ refl (omega (arith, length-take (end - at) (drop at s), length-drop at s))
 
 no-number : (o : Option (Option ℕ)) → not (isSome o) ≡ true → o ≡ none
 unfolding isSome
@@ -130,44 +139,44 @@ no-number none h = refl
 no-number (some n) h = absurd (true≢false (sym h))
 
 -- A word that is one.
-pub is-label-reads : (s : List ℕ) (at end : ℕ) → at < length s → nameStart (getD s at 0) ≡ true → end ≡ wordEnd s at → isLabel s at end ≡ true → (end < length s) × Labels s at end (end + 1)
+pub is-label-reads : (names : List Name) → Naming names → (s : List ℕ) (at end : ℕ) → at < length s → nameStart (getD s at 0) ≡ true → end ≡ wordEnd s at → isLabel names s at end ≡ true → (end < length s) × Labels names s at end (end + 1)
 unfolding isLabel
-is-label-reads s at end l start ends h =
-    let (c, n) = and-eq-true-iff (eqb (getD s end 0) 58) (not (isSome (nameNumber (named present (part s at (end - at)))))) .0 h in
-    let inside-text : end < length s = split end (length s) (λ i. i) (λ i. no-both h (sym (no-byte s at end i))) in
-    (inside-text, label-reads s at end l start ends inside-text (eqb-true (getD s end 0) 58 c) (no-number _ n))
+is-label-reads names ok s at end l start ends h =
+    let (c, n) = and-eq-true-iff (eqb (getD s end 0) 58) (not (isSome (nameNumber (named names (part s at (end - at)))))) .0 h in
+    let inside-text : end < length s = split end (length s) (λ i. i) (λ i. no-both h (sym (no-byte names s at end i))) in
+    (inside-text, label-reads s at end l start ends names ok inside-text (eqb-true (getD s end 0) 58 c) (no-number _ n))
 
 -- The first word of a line, its label aside, whose key is found in a row.
-pub word-row : {s : List ℕ} {start key end : ℕ} {p : LabelPart} (w : WordAfter s start p key end) → Below s → (r : Looked) (row : ℕ)
+pub word-row : {names : List Name} {s : List ℕ} {start key end : ℕ} {p : LabelPart} (w : WordAfter names s start p key end) → Naming names → NoMnemonics names → Below s → (r : Looked) (row : ℕ)
     → IsRow r (find (λ q. eqb (keyOf (q .mnemonic)) key) table) → r ≡ At row
-    → (row < 50) × ((rowNamed (map lower (part s (w .at) (end - w .at))) ≡ some (rowAt row)) × Reads s (w .at) (identifier (part s (w .at) (end - w .at))) end)
-word-row {s} {key = key} {end = end} w below r row is f = mnemonic-reads s (w .at) end (w .in-text) (w .begins) (w .word .ends) key row r below (w .word .key-is) is f
+    → (row < 50) × ((rowNamed (map lower (part s (w .at) (end - w .at))) ≡ some (rowAt row)) × Reads names s (w .at) (identifier (part s (w .at) (end - w .at))) end)
+word-row {names} {s} {key = key} {end = end} w ok free below r row is f = mnemonic-reads s (w .at) end (w .in-text) (w .begins) (w .word .ends) names ok free key row r below (w .word .key-is) is f
 
-pub word-ends : {s : List ℕ} {start key end : ℕ} {p : LabelPart} → WordAfter s start p key end → end ≤ length s
-word-ends {s} {end = end} w = word-in s (w .at) end (w .in-text) (w .begins) (w .word .ends)
+pub word-ends : {names : List Name} {s : List ℕ} {start key end : ℕ} {p : LabelPart} → WordAfter names s start p key end → end ≤ length s
+word-ends {s = s} {end = end} w = word-in s (w .at) end (w .in-text) (w .begins) (w .word .ends)
 
 -- ---- the turns of the loop
 
-pub before-label : {s : List ℕ} {start : ℕ} → OptionalLabel s start (record { labelled = false; length = 0 }) start
+pub before-label : {names : List Name} {s : List ℕ} {start : ℕ} → OptionalLabel names s start (record { labelled = false; length = 0 }) start
 before-label = without refl refl refl
 
 -- Nothing stands before the first word, so a label there is the line's, and blanks after it are skipped.
-pub after-label : (s : List ℕ) (start at end next : ℕ) (p : LabelPart) → OptionalLabel s start p at → p .labelled ≡ false → at < end → end < length s → Labels s at end (end + 1)
-    → next ≡ end + 1 + run blank (drop (end + 1) s) → OptionalLabel s start (record { labelled = true; length = end - at }) next
-after-label s start at end next p (without f n a) b h l is q =
+pub after-label : (names : List Name) (s : List ℕ) (start at end next : ℕ) (p : LabelPart) → OptionalLabel names s start p at → p .labelled ≡ false → at < end → end < length s → Labels names s at end (end + 1)
+    → next ≡ end + 1 + run blank (drop (end + 1) s) → OptionalLabel names s start (record { labelled = true; length = end - at }) next
+after-label names s start at end next p (without f n a) b h l is q =
     let e : at + (end - at) ≡ end = omega arith in
-    with-label refl (rw (← a, e) (record { name = is .name; mark = blanks-after s end (end + 1) next colon (is .mark) q }))
-after-label s start at end next p (with-label t is′) b h l is q = absurd (true≢false (sym t ∙ b))
+    with-label refl (rw (← a, e) (record { name = is .name; mark = blanks-after names s end (end + 1) next colon (is .mark) q }))
+after-label names s start at end next p (with-label t is′) b h l is q = absurd (true≢false (sym t ∙ b))
 
-pub label-in : {s : List ℕ} {start at : ℕ} {p : LabelPart} → start ≤ length s → OptionalLabel s start p at → at ≤ length s
+pub label-in : {names : List Name} {s : List ℕ} {start at : ℕ} {p : LabelPart} → start ≤ length s → OptionalLabel names s start p at → at ≤ length s
 label-in l (without f n a) = omega arith
 label-in l (with-label t is) = is .mark .in-text
 
 -- ---- the line
 
-line-reads : (s : List ℕ) (from begin : ℕ) → begin ≡ from + run margin (drop from s) → readLine present (restAt s from) ≡ recordOf (tokens present (leftAt s begin))
+line-reads : (names : List Name) (s : List ℕ) (from begin : ℕ) → begin ≡ from + run margin (drop from s) → readLine names (restAt s from) ≡ recordOf (tokens names (leftAt s begin))
 unfolding readLine
-line-reads s from begin q = ap (λ (x : List ℕ). recordOf (tokens present x)) (content-at s from ∙ ap (leftAt s) (sym q))
+line-reads names s from begin q = ap (λ (x : List ℕ). recordOf (tokens names x)) (content-at s from ∙ ap (leftAt s) (sym q))
 
 -- The first operand of a form is a register.
 register-first : (bit : ℕ) (t : Token) (rest : Result Operands) (o : Operands) → readPlace (reg bit) t rest ≡ value o → eqb (markByte t) 58 ≡ false
@@ -211,10 +220,10 @@ unfolding lineOf
 kept-all ts h = rw (take-all kept ts h)
 
 -- A line by its tokens.
-tokens-line : (s : List ℕ) (from start : ℕ) (ts : List Token) → start ≡ from + run margin (drop from s) → tokens present (leftAt s start) ≡ some ts → length ts ≤ 9
-    → readLine present (restAt s from) ≡ some (record { count = length ts; first = ts })
+tokens-line : (names : List Name) (s : List ℕ) (from start : ℕ) (ts : List Token) → start ≡ from + run margin (drop from s) → tokens names (leftAt s start) ≡ some ts → length ts ≤ 9
+    → readLine names (restAt s from) ≡ some (record { count = length ts; first = ts })
 unfolding recordOf
-tokens-line s from start ts q e h = line-reads s from start q ∙ rw e (ap some (kept-all ts h))
+tokens-line names s from start ts q e h = line-reads names s from start q ∙ rw e (ap some (kept-all ts h))
 
 -- A token more in front of others.
 one-more : {o p : Option (List Token)} {t : Token} {ts : List Token} → o ≡ infront t p → p ≡ some ts → o ≡ some (t ∷ ts)
@@ -272,60 +281,60 @@ content-starts s from start l q =
     let (x, y, z) = margin-on s from start l q in
     (q ∙ ap (λ (n : ℕ). from + n) (sym (indent-at s from)), y)
 
-module _ (s : List ℕ) (from start : ℕ) (l : from ≤ length s) (q : start ≡ from + run margin (drop from s)) where
+module _ (names : List Name) (s : List ℕ) (from start : ℕ) (l : from ≤ length s) (q : start ≡ from + run margin (drop from s)) where
   start-in : start ≤ length s
   start-in = content-starts s from start l q .1
 
   start-ends : endAt s start ≡ endAt s from
   start-ends = let (x, y, z) = margin-on s from start l q in z
 
-  line-some : (c : Context) (r : Read) (x : Line) → readLine present (restAt s from) ≡ some x → readMeant s r ≡ readOn c (some x) → r .start ≡ start
-      → (r .labelled ≡ false → r .length ≡ 0) → r .end ≡ endAt s from → r .start + r .length ≤ length s → InTable (r .effect) → LineIs s from c r
+  line-some : (c : Context) (r : Read) (x : Line) → readLine names (restAt s from) ≡ some x → readMeant s r ≡ readOn c (some x) → r .start ≡ start
+      → (r .labelled ≡ false → r .length ≡ 0) → r .end ≡ endAt s from → r .start + r .length ≤ length s → InTable (r .effect) → LineIs names s from c r
   unfolding endOf
   line-some c r x e reads b u n t k = record { reads = rw e reads; starts = b ∙ content-starts s from start l q .0; unlabelled = u; ends = rw (endOf, e) n; in-text = t; in-table = k }
 
   -- A label alone, or nothing.
-  pub bare-line : (p : LabelPart) (at e : ℕ) → OptionalLabel s start p at → tokens present (leftAt s at) ≡ some [] → e ≡ endAt s at
-      → ReadsAs s from (record { labelled = p .labelled; start = start; length = p .length; effect = Nothing; end = e })
+  pub bare-line : (p : LabelPart) (at e : ℕ) → OptionalLabel names s start p at → tokens names (leftAt s at) ≡ some [] → e ≡ endAt s at
+      → ReadsAs names s from (record { labelled = p .labelled; start = start; length = p .length; effect = Nothing; end = e })
   bare-line p at e (without f n a) none-left ends c =
-      let t : tokens present (leftAt s start) ≡ some [] = rw a at none-left in
+      let t : tokens names (leftAt s start) ≡ some [] = rw a at none-left in
       rw (f, n)
-      (line-some c (record { labelled = false; start = start; length = 0; effect = Nothing; end = e }) _ (tokens-line s from start [] q t (omega arith)) (sym (read-none c)) refl
+      (line-some c (record { labelled = false; start = start; length = 0; effect = Nothing; end = e }) _ (tokens-line names s from start [] q t (omega arith)) (sym (read-none c)) refl
       (λ _. refl) (ends ∙ ap (endAt s) a ∙ start-ends) (omega (arith, start-in)) tt)
   bare-line p at e (with-label f is) none-left ends c =
       let v = part s start (p .length) in
       let k : start + p .length - start ≡ p .length = omega arith in
-      let t : tokens present (leftAt s start) ≡ some (identifier v ∷ colon ∷ []) = label-tokens (rw k at (is .name .means)) (is .mark .means) none-left in
+      let t : tokens names (leftAt s start) ≡ some (identifier v ∷ colon ∷ []) = label-tokens (rw k at (is .name .means)) (is .mark .means) none-left in
       rw f
-      (line-some c (record { labelled = true; start = start; length = p .length; effect = Nothing; end = e }) _ (tokens-line s from start (identifier v ∷ colon ∷ []) q t (omega arith))
+      (line-some c (record { labelled = true; start = start; length = p .length; effect = Nothing; end = e }) _ (tokens-line names s from start (identifier v ∷ colon ∷ []) q t (omega arith))
       (sym (read-label c v)) refl (λ g. absurd (true≢false g)) (ends ∙ is .mark .ends ∙ is .name .ends ∙ start-ends) (is .name .in-text) tt)
 
   -- An instruction, after a label or not.
-  instruction-line : (p : LabelPart) (at end form row : ℕ) (u : List ℕ) (o : Kept) (e : ℕ) → OptionalLabel s start p at → row < 50 → rowNamed (map lower u) ≡ some (rowAt row)
-      → Reads s at (identifier u) end → formAt form ≡ rowAt row .form → TailIs s end form o e
-      → ReadsAs s from (record { labelled = p .labelled; start = start; length = p .length; effect = Codes row o; end = e })
+  instruction-line : (p : LabelPart) (at end form row : ℕ) (u : List ℕ) (o : Kept) (e : ℕ) → OptionalLabel names s start p at → row < 50 → rowNamed (map lower u) ≡ some (rowAt row)
+      → Reads names s at (identifier u) end → formAt form ≡ rowAt row .form → TailIs names s end form o e
+      → ReadsAs names s from (record { labelled = p .labelled; start = start; length = p .length; effect = Codes row o; end = e })
   instruction-line p at end form row u o e (without f n a) in-table named-is rd g tail c =
       let ts = tail .operands in
       let w = written form row u ts o named-is g (tail .count) (tail .read) in
-      let t : tokens present (leftAt s start) ≡ some (identifier u ∷ ts) = rw a at (one-more (rd .means) (tail .means)) in
+      let t : tokens names (leftAt s start) ≡ some (identifier u ∷ ts) = rw a at (one-more (rd .means) (tail .means)) in
       rw (f, n)
-      (line-some c (record { labelled = false; start = start; length = 0; effect = Codes row o; end = e }) _ (tokens-line s from start (identifier u ∷ ts) q t (omega (arith, w .few)))
+      (line-some c (record { labelled = false; start = start; length = 0; effect = Codes row o; end = e }) _ (tokens-line names s from start (identifier u ∷ ts) q t (omega (arith, w .few)))
       (sym (read-instruction c row o u ts w)) refl (λ _. refl) (tail .ends ∙ rd .ends ∙ ap (endAt s) a ∙ start-ends) (omega (arith, start-in)) in-table)
   instruction-line p at end form row u o e (with-label f is) in-table named-is rd g tail c =
       let ts = tail .operands in
       let v = part s start (p .length) in
       let w = written form row u ts o named-is g (tail .count) (tail .read) in
       let k : start + p .length - start ≡ p .length = omega arith in
-      let t : tokens present (leftAt s start) ≡ some (identifier v ∷ colon ∷ identifier u ∷ ts) = label-tokens (rw k at (is .name .means)) (is .mark .means) (one-more (rd .means) (tail .means)) in
+      let t : tokens names (leftAt s start) ≡ some (identifier v ∷ colon ∷ identifier u ∷ ts) = label-tokens (rw k at (is .name .means)) (is .mark .means) (one-more (rd .means) (tail .means)) in
       rw f
       (line-some c (record { labelled = true; start = start; length = p .length; effect = Codes row o; end = e }) _
-      (tokens-line s from start (identifier v ∷ colon ∷ identifier u ∷ ts) q t (omega (arith, w .few)))
+      (tokens-line names s from start (identifier v ∷ colon ∷ identifier u ∷ ts) q t (omega (arith, w .few)))
       (sym (read-labelled c row o u ts w v)) refl (λ g. absurd (true≢false g)) (tail .ends ∙ rd .ends ∙ is .mark .ends ∙ is .name .ends ∙ start-ends) (is .name .in-text) in-table)
 
   -- The same by the line's first word and the row that its key is found in.
-  pub word-line : {p : LabelPart} {key end : ℕ} → WordAfter s start p key end → Below s → (r : Looked) (row form : ℕ)
-      → IsRow r (find (λ q. eqb (keyOf (q .mnemonic)) key) table) → r ≡ At row → form ≡ formNumber (rowAt row .form) → (o : Kept) (e : ℕ) → TailIs s end form o e
-      → ReadsAs s from (record { labelled = p .labelled; start = start; length = p .length; effect = Codes row o; end = e })
-  word-line {p} {key} {end} w below r row form is f g o e tail =
-      let (in-table, (named-is, rd)) = word-row w below r row is f in
+  pub word-line : {p : LabelPart} {key end : ℕ} → WordAfter names s start p key end → Naming names → NoMnemonics names → Below s → (r : Looked) (row form : ℕ)
+      → IsRow r (find (λ q. eqb (keyOf (q .mnemonic)) key) table) → r ≡ At row → form ≡ formNumber (rowAt row .form) → (o : Kept) (e : ℕ) → TailIs names s end form o e
+      → ReadsAs names s from (record { labelled = p .labelled; start = start; length = p .length; effect = Codes row o; end = e })
+  word-line {p} {key} {end} w ok free below r row form is f g o e tail =
+      let (in-table, (named-is, rd)) = word-row w ok free below r row is f in
       instruction-line p (w .at) end form row _ o e (w .label) in-table named-is rd (ap formAt g ∙ form-numbered (rowAt row .form)) tail

@@ -11,7 +11,7 @@ use lib.ListN.{length, take, getD, set, replicate, length-append, length-set}
 use lib.Seq.{take-suc-set}
 use lib.IntN.{ℤ}
 use Rattle.text_lexical.specs.Bytes.{Result, value}
-use Rattle.text_lexical.specs.Names.{present}
+use Rattle.text_lexical.specs.Names.{Name}
 use Rattle.text_lexical.specs.Contracts.{indexOf, signedMeant}
 use Rattle.text_lexical.specs.declared.number.Whole.{Whole}
 use Rattle.text_lexical.specs.declared.register.Register.{Register}
@@ -102,9 +102,9 @@ joined-register : (rs : List ℕ) (k : ℕ) (n : Option ℤ) (o : Operands) → 
 unfolding joined
 joined-register rs k n o = rw (append-assoc rs (k ∷ []) (o .registers))
 
-pub record Partly (s : List ℕ) (from : ℕ) (f : Form) (at : ℕ) (ps : List Place) (count : ℕ) (rs : List Register) (n : Bool) (m : ℕ) : Type 0 where
+pub record Partly (names : List Name) (s : List ℕ) (from : ℕ) (f : Form) (at : ℕ) (ps : List Place) (count : ℕ) (rs : List Register) (n : Bool) (m : ℕ) : Type 0 where
   pre : List Token
-  means : tokens present (leftAt s from) ≡ along pre (tokens present (leftAt s at))
+  means : tokens names (leftAt s from) ≡ along pre (tokens names (leftAt s at))
   sum : length pre + length ps ≡ length (places f)
   pub three : length rs ≡ 3
   regs : count + regsIn ps ≡ regsIn (places f)
@@ -115,9 +115,9 @@ pub record Partly (s : List ℕ) (from : ℕ) (f : Form) (at : ℕ) (ps : List P
   pub place : at ≤ length s
   ends : endAt s at ≡ endAt s from
 
-partly-begin : (s : List ℕ) (from : ℕ) (f : Form) → from ≤ length s → Partly s from f from (places f) 0 (replicate 3 R0) false 0
+partly-begin : (names : List Name) (s : List ℕ) (from : ℕ) (f : Form) → from ≤ length s → Partly names s from f from (places f) 0 (replicate 3 R0) false 0
 unfolding along joined given orElse
-partly-begin s from f l =
+partly-begin names s from f l =
     record {
       pre = [];
       means = refl;
@@ -131,10 +131,10 @@ partly-begin s from f l =
       ends = refl;
     }
 
-module _ (s : List ℕ) (from : ℕ) (f : Form) (at : ℕ) (ps : List Place) (count : ℕ) (rs : List Register) (n : Bool) (m : ℕ) where
+module _ (names : List Name) (s : List ℕ) (from : ℕ) (f : Form) (at : ℕ) (ps : List Place) (count : ℕ) (rs : List Register) (n : Bool) (m : ℕ) where
   -- A mark, at a place that only asks for its byte.
   partly-mark : (p : Place) (t : Token) (next : ℕ) → regsIn (p ∷ ps) ≡ regsIn ps → numsIn (p ∷ ps) ≡ numsIn ps
-      → ((rest : Result Operands) → readPlace p t rest ≡ rest) → Partly s from f at (p ∷ ps) count rs n m → Reads s at t next → Partly s from f next ps count rs n m
+      → ((rest : Result Operands) → readPlace p t rest ≡ rest) → Partly names s from f at (p ∷ ps) count rs n m → Reads names s at t next → Partly names s from f next ps count rs n m
   unfolding readOperands
   partly-mark p t next er en passes q r =
       record {
@@ -153,8 +153,8 @@ module _ (s : List ℕ) (from : ℕ) (f : Form) (at : ℕ) (ps : List Place) (co
   more-registers : (r : Register) → count < length rs → map indexOf (take (count + 1) (set rs count r)) ≡ map indexOf (take count rs) ++ (indexOf r ∷ [])
   more-registers r h = rw (add-one count, take-suc-set rs count r h) (map-append indexOf (take count rs) (r ∷ []))
 
-  partly-register : (bit next : ℕ) (r : Register) → Partly s from f at (reg bit ∷ ps) count rs n m → Reads s at (register (some (indexOf r))) next
-      → Partly s from f next ps (count + 1) (set rs count r) n m
+  partly-register : (bit next : ℕ) (r : Register) → Partly names s from f at (reg bit ∷ ps) count rs n m → Reads names s at (register (some (indexOf r))) next
+      → Partly names s from f next ps (count + 1) (set rs count r) n m
   unfolding readOperands readPlace readRegister withRegister regsIn numsIn
   partly-register bit next r q rd =
       let t = register (some (indexOf r)) in
@@ -179,8 +179,8 @@ module _ (s : List ℕ) (from : ℕ) (f : Form) (at : ℕ) (ps : List Place) (co
   joined-number zero z y o e = refl
   joined-number (suc k) z y o e = absurd (omega arith)
 
-  partly-number : (bit width next : ℕ) (signed : Bool) (t : Token) (n′ : Bool) (m′ : ℕ) → Partly s from f at (num bit width signed ∷ ps) count rs n m
-      → readNumber t ≡ value (signedMeant n′ m′) → Reads s at t next → Partly s from f next ps count rs n′ m′
+  partly-number : (bit width next : ℕ) (signed : Bool) (t : Token) (n′ : Bool) (m′ : ℕ) → Partly names s from f at (num bit width signed ∷ ps) count rs n m
+      → readNumber t ≡ value (signedMeant n′ m′) → Reads names s at t next → Partly names s from f next ps count rs n′ m′
   unfolding readOperands readPlace withNumber regsIn numsIn
   partly-number bit width next signed t n′ m′ q e rd =
       let none-yet : q .nums ≡ 0 = omega (arith, q .numbers, one-number f) in
@@ -213,13 +213,13 @@ closing-passes t e rest = rw (readPlace, e)
 
 -- ---- the loop
 
-pub record Reading (s : List ℕ) (from form at left count : ℕ) (rs : List Register) (n : Bool) (m : ℕ) : Type 0 where
+pub record Reading (names : List Name) (s : List ℕ) (from form at left count : ℕ) (rs : List Register) (n : Bool) (m : ℕ) : Type 0 where
   ps : List Place
   ahead : Ahead ps left
-  pub partly : Partly s from (formAt form) at ps count rs n m
+  pub partly : Partly names s from (formAt form) at ps count rs n m
 
-pub reading-begin : (s : List ℕ) (from form left : ℕ) → from ≤ length s → Ahead (places (formAt form)) left → Reading s from form from left 0 (replicate 3 R0) false 0
-reading-begin s from form left l a = record { ps = places (formAt form); ahead = a; partly = partly-begin s from (formAt form) l }
+pub reading-begin : (names : List Name) (s : List ℕ) (from form left : ℕ) → from ≤ length s → Ahead (places (formAt form)) left → Reading names s from form from left 0 (replicate 3 R0) false 0
+reading-begin names s from form left l a = record { ps = places (formAt form); ahead = a; partly = partly-begin names s from (formAt form) l }
 
 -- A digit's mark.
 marked : (left d k : ℕ) → left % 8 ≡ d → markOf d ≡ k → markOf (left % 8) ≡ k
@@ -232,12 +232,12 @@ numbered-digit left d e h k = true≢false (sym (ap isNumber e ∙ h) ∙ k)
 lettered-digit : (left d : ℕ) → left % 8 ≡ d → isNumber d ≡ false → isNumber (left % 8) ≡ true → ⊥
 lettered-digit left d e h k = true≢false (sym k ∙ (ap isNumber e ∙ h))
 
-module _ (s : List ℕ) (from : ℕ) (f : Form) (at left count : ℕ) (rs : List Register) (n : Bool) (m : ℕ) where
+module _ (names : List Name) (s : List ℕ) (from : ℕ) (f : Form) (at left count : ℕ) (rs : List Register) (n : Bool) (m : ℕ) where
   abbrev Next : ℕ → ℕ → List Register → Bool → ℕ → Type 0
-  Next at′ count′ rs′ n′ m′ = (ps : List Place) × (Ahead ps (left / 8) × Partly s from f at′ ps count′ rs′ n′ m′)
+  Next at′ count′ rs′ n′ m′ = (ps : List Place) × (Ahead ps (left / 8) × Partly names s from f at′ ps count′ rs′ n′ m′)
 
-  step-register : (ps : List Place) → Ahead ps left → Partly s from f at ps count rs n m → 0 < left → isNumber (left % 8) ≡ false
-      → (r : Register) (next at′ : ℕ) → Reads s at (register (some (indexOf r))) next → Behind s next (markOf (left % 8)) at′ → (at′ ≡ 0 → ⊥)
+  step-register : (ps : List Place) → Ahead ps left → Partly names s from f at ps count rs n m → 0 < left → isNumber (left % 8) ≡ false
+      → (r : Register) (next at′ : ℕ) → Reads names s at (register (some (indexOf r))) next → Behind names s next (markOf (left % 8)) at′ → (at′ ≡ 0 → ⊥)
       → Next at′ (count + 1) (set rs count r) n m
   unfolding regsIn numsIn markOf isNumber
   step-register ps (no-more e) q pos letter r next at′ rd b there = absurd (omega arith)
@@ -246,22 +246,22 @@ module _ (s : List ℕ) (from : ℕ) (f : Form) (at left count : ℕ) (rs : List
       let h : left / 8 ≡ k = omega arith in
       let i = marked left 1 44 d refl in
       let (t, (mb, rd2)) = b .there (inl i) there in
-      (qs, (rw h a, partly-mark s from f next qs (count + 1) (set rs count r) n m comma-place t at′ refl refl (comma-passes t (mb ∙ i)) (partly-register s from f at (comma-place ∷ qs) count rs n m _ next r q rd) rd2))
+      (qs, (rw h a, partly-mark names s from f next qs (count + 1) (set rs count r) n m comma-place t at′ refl refl (comma-passes t (mb ∙ i)) (partly-register names s from f at (comma-place ∷ qs) count rs n m _ next r q rd) rd2))
   step-register ps (number-opening a e) q pos letter r next at′ rd b there = absurd (numbered-digit left 2 (omega arith) refl letter)
   step-register ps (register-closing {n = k} {ps = qs} a e) q pos letter r next at′ rd b there =
       let d : left % 8 ≡ 3 = omega arith in
       let h : left / 8 ≡ k = omega arith in
       let i = marked left 3 41 d refl in
       let (t, (mb, rd2)) = b .there (inr (inr i)) there in
-      (qs, (rw h a, partly-mark s from f next qs (count + 1) (set rs count r) n m closing-place t at′ refl refl (closing-passes t (mb ∙ i)) (partly-register s from f at (closing-place ∷ qs) count rs n m _ next r q rd) rd2))
+      (qs, (rw h a, partly-mark names s from f next qs (count + 1) (set rs count r) n m closing-place t at′ refl refl (closing-passes t (mb ∙ i)) (partly-register names s from f at (closing-place ∷ qs) count rs n m _ next r q rd) rd2))
   step-register ps (register-last e) q pos letter r next at′ rd b there =
       let d : left % 8 ≡ 4 = omega arith in
       let h : left / 8 ≡ 0 = omega arith in
-      ([], (no-more h, rw (b .here (marked left 4 0 d refl)) (partly-register s from f at [] count rs n m _ next r q rd)))
+      ([], (no-more h, rw (b .here (marked left 4 0 d refl)) (partly-register names s from f at [] count rs n m _ next r q rd)))
   step-register ps (number-last e) q pos letter r next at′ rd b there = absurd (numbered-digit left 5 (omega arith) refl letter)
 
-  step-number : (ps : List Place) → Ahead ps left → Partly s from f at ps count rs n m → 0 < left → isNumber (left % 8) ≡ true
-      → (t : Token) (n′ : Bool) (m′ next at′ : ℕ) → readNumber t ≡ value (signedMeant n′ m′) → Reads s at t next → Behind s next (markOf (left % 8)) at′ → (at′ ≡ 0 → ⊥)
+  step-number : (ps : List Place) → Ahead ps left → Partly names s from f at ps count rs n m → 0 < left → isNumber (left % 8) ≡ true
+      → (t : Token) (n′ : Bool) (m′ next at′ : ℕ) → readNumber t ≡ value (signedMeant n′ m′) → Reads names s at t next → Behind names s next (markOf (left % 8)) at′ → (at′ ≡ 0 → ⊥)
       → Next at′ count rs n′ m′
   unfolding regsIn numsIn markOf isNumber
   step-number ps (no-more e) q pos digit t n′ m′ next at′ v rd b there = absurd (omega arith)
@@ -271,13 +271,13 @@ module _ (s : List ℕ) (from : ℕ) (f : Form) (at left count : ℕ) (rs : List
       let h : left / 8 ≡ k = omega arith in
       let i = marked left 2 40 d refl in
       let (o, (mb, rd2)) = b .there (inr (inl i)) there in
-      (qs, (rw h a, partly-mark s from f next qs count rs n′ m′ opening-place o at′ refl refl (opening-passes o (mb ∙ i)) (partly-number s from f at (opening-place ∷ qs) count rs n m _ _ next _ t n′ m′ q v rd) rd2))
+      (qs, (rw h a, partly-mark names s from f next qs count rs n′ m′ opening-place o at′ refl refl (opening-passes o (mb ∙ i)) (partly-number names s from f at (opening-place ∷ qs) count rs n m _ _ next _ t n′ m′ q v rd) rd2))
   step-number ps (register-closing a e) q pos digit t n′ m′ next at′ v rd b there = absurd (lettered-digit left 3 (omega arith) refl digit)
   step-number ps (register-last e) q pos digit t n′ m′ next at′ v rd b there = absurd (lettered-digit left 4 (omega arith) refl digit)
   step-number ps (number-last e) q pos digit t n′ m′ next at′ v rd b there =
       let d : left % 8 ≡ 5 = omega arith in
       let h : left / 8 ≡ 0 = omega arith in
-      ([], (no-more h, rw (b .here (marked left 5 0 d refl)) (partly-number s from f at [] count rs n m _ _ next _ t n′ m′ q v rd)))
+      ([], (no-more h, rw (b .here (marked left 5 0 d refl)) (partly-number names s from f at [] count rs n m _ _ next _ t n′ m′ q v rd)))
 
 -- A register is ahead; nothing is.
 register-ahead : (left : ℕ) (ps : List Place) → Ahead ps left → 0 < left → isNumber (left % 8) ≡ false → 0 < regsIn ps
@@ -297,17 +297,17 @@ none-ahead left ps (register-closing a e) over = absurd (over (omega arith))
 none-ahead left ps (register-last e) over = absurd (over (omega arith))
 none-ahead left ps (number-last e) over = absurd (over (omega arith))
 
-module _ (s : List ℕ) (from form at left count : ℕ) (rs : List Register) (n : Bool) (m : ℕ) (q : Reading s from form at left count rs n m) where
-  pub reading-register : 0 < left → isNumber (left % 8) ≡ false → (r : Register) (next at′ : ℕ) → Reads s at (register (some (indexOf r))) next
-      → Behind s next (markOf (left % 8)) at′ → (at′ ≡ 0 → ⊥) → Reading s from form at′ (left / 8) (count + 1) (set rs count r) n m
+module _ (names : List Name) (s : List ℕ) (from form at left count : ℕ) (rs : List Register) (n : Bool) (m : ℕ) (q : Reading names s from form at left count rs n m) where
+  pub reading-register : 0 < left → isNumber (left % 8) ≡ false → (r : Register) (next at′ : ℕ) → Reads names s at (register (some (indexOf r))) next
+      → Behind names s next (markOf (left % 8)) at′ → (at′ ≡ 0 → ⊥) → Reading names s from form at′ (left / 8) (count + 1) (set rs count r) n m
   reading-register pos letter r next at′ rd b there =
-      let (ps, (a, p)) = step-register s from (formAt form) at left count rs n m (q .ps) (q .ahead) (q .partly) pos letter r next at′ rd b there in
+      let (ps, (a, p)) = step-register names s from (formAt form) at left count rs n m (q .ps) (q .ahead) (q .partly) pos letter r next at′ rd b there in
       record { ps = ps; ahead = a; partly = p }
 
-  pub reading-number : 0 < left → isNumber (left % 8) ≡ true → (t : Token) (n′ : Bool) (m′ next at′ : ℕ) → readNumber t ≡ value (signedMeant n′ m′) → Reads s at t next
-      → Behind s next (markOf (left % 8)) at′ → (at′ ≡ 0 → ⊥) → Reading s from form at′ (left / 8) count rs n′ m′
+  pub reading-number : 0 < left → isNumber (left % 8) ≡ true → (t : Token) (n′ : Bool) (m′ next at′ : ℕ) → readNumber t ≡ value (signedMeant n′ m′) → Reads names s at t next
+      → Behind names s next (markOf (left % 8)) at′ → (at′ ≡ 0 → ⊥) → Reading names s from form at′ (left / 8) count rs n′ m′
   reading-number pos digit t n′ m′ next at′ v rd b there =
-      let (ps, (a, p)) = step-number s from (formAt form) at left count rs n m (q .ps) (q .ahead) (q .partly) pos digit t n′ m′ next at′ v rd b there in
+      let (ps, (a, p)) = step-number names s from (formAt form) at left count rs n m (q .ps) (q .ahead) (q .partly) pos digit t n′ m′ next at′ v rd b there in
       record { ps = ps; ahead = a; partly = p }
 
   -- There is room for a register that is ahead.
@@ -348,10 +348,10 @@ three-are (a ∷ b ∷ c ∷ x ∷ l) d h = absurd (omega arith)
 abbrev operandsOf : Register → Register → Register → Bool → ℕ → KeptOperands
 operandsOf a b c n m = record { first = a; second = b; third = c; number = record { negative = n; magnitude = m } }
 
-partly-end : (s : List ℕ) (from form at count : ℕ) (rs : List Register) (n : Bool) (m e : ℕ) (d : Register) → Partly s from (formAt form) at [] count rs n m
-    → tokens present (leftAt s at) ≡ some [] → e ≡ endAt s at → TailIs s from form (operandsOf (getD rs 0 d) (getD rs 1 d) (getD rs 2 d) n m) e
+partly-end : (names : List Name) (s : List ℕ) (from form at count : ℕ) (rs : List Register) (n : Bool) (m e : ℕ) (d : Register) → Partly names s from (formAt form) at [] count rs n m
+    → tokens names (leftAt s at) ≡ some [] → e ≡ endAt s at → TailIs names s from form (operandsOf (getD rs 0 d) (getD rs 1 d) (getD rs 2 d) n m) e
 unfolding readOperands noOperands joined regsIn numsIn
-partly-end s from form at count rs n m e d q nothing ends =
+partly-end names s from form at count rs n m e d q nothing ends =
     let f = formAt form in
     let z = signedMeant n m in
     let c : count ≡ regsIn (places f) = omega (arith, q .regs) in
@@ -369,12 +369,12 @@ partly-end s from form at count rs n m e d q nothing ends =
     }
 
 -- No operand is left: what was read, if the line ends there.
-pub reading-tail : (s : List ℕ) (from form at left count : ℕ) (rs : List Register) (w : Whole) → Reading s from form at left count rs (w .negative) (w .magnitude)
-    → (0 < left → ⊥) → (t : Tail) → EndsWith s at rs w t → Tails s from form t
-reading-tail s from form at left count rs w q over NoTail h = tt
-reading-tail s from form at left count rs w q over (Are o e) h =
+pub reading-tail : (names : List Name) (s : List ℕ) (from form at left count : ℕ) (rs : List Register) (w : Whole) → Reading names s from form at left count rs (w .negative) (w .magnitude)
+    → (0 < left → ⊥) → (t : Tail) → EndsWith names s at rs w t → Tails names s from form t
+reading-tail names s from form at left count rs w q over NoTail h = tt
+reading-tail names s from form at left count rs w q over (Are o e) h =
     rw (h .operands-are)
-    (partly-end s from form at count rs (w .negative) (w .magnitude) e R0 (rw (none-ahead left (q .ps) (q .ahead) over) at (q .partly)) (h .nothing-left) (h .ends))
+    (partly-end names s from form at count rs (w .negative) (w .magnitude) e R0 (rw (none-ahead left (q .ps) (q .ahead) over) at (q .partly)) (h .nothing-left) (h .ends))
 
 -- The mark of a digit is one that is asked for, or none.
 pub mark-any : (d m : ℕ) → m ≡ markOf d → (m ≡ 0) ⊎ IsMark m

@@ -10,7 +10,7 @@ use mathlib.Core.List.{List, [], _∷_, _++_}
 use lib.ListN.{length, take, drop, getD, length-drop}
 use lib.Seq.{drop-cons, drop-drop}
 use Rattle.text_lexical.specs.Bytes.{between, letter, digit, mark, nameStart, namePart, blank, inside, margin, every, before, run, isSome}
-use Rattle.text_lexical.specs.Names.{Name, named, present}
+use Rattle.text_lexical.specs.Names.{Name, named}
 use Rattle.text_lexical.specs.Contracts.{indexOf, nameMeant, nameNumber}
 use Rattle.text_lexical.specs.declared.register.Register.{Register}
 use Rattle.text_lexical.specs.declared.name.RegisterName.{RegisterName}
@@ -18,6 +18,7 @@ use Rattle.text_lexical.specs.declared.name.RegisterName.the-variants.{Is, NoSu
 use Rattle.text_lexical.proofs.Tests.{split, both}
 use Rattle.text_lexical.proofs.Strings.{every-head, every-tail, every-mono, every-run, take-run, run-past, run-no, run-end, run-le}
 use Rattle.text.specs.Tokens.{Token, isIdentifier, isRegister, register, comma, colon, opening, closing, markToken, infront, tokens}
+use Rattle.text.specs.NameSets.{Naming}
 use Rattle.text.specs.Places.{restAt, leftAt, endAt}
 use Rattle.text.specs.Contracts.{meant, scanAt, numberStart, NoWord}
 use Rattle.text.specs.declared.lexer.Token.{Token as KeptToken}
@@ -25,28 +26,28 @@ use Rattle.text.specs.declared.lexer.Kind.the-variants.{Register as RegisterKin
 use Rattle.text.specs.declared.lexer.Scan.the-variants.{Found}
 use Rattle.text.proofs.Scanning.{register-identifier}
 use Rattle.text.proofs.Left.{start-solid, blank-inside, blanks-at, end-on, nothing-left, none-read}
-use Rattle.text.proofs.Fronts.{part-cons, names-ok, word-at}
+use Rattle.text.proofs.Fronts.{part-cons, word-at}
 use Rattle.text.proofs.Stepping.{solid-step, margin-on, mark-step, blank-step, stepped}
 use Rattle.instruction.specs.Operands.{markByte}
 use Rattle.image_line.specs.Contracts.{Reads, RegisterIs, upTo, IsMark}
 
 -- ---- what a scan finds
 
-pub stepped-reads : (s : List ℕ) (at : ℕ) (t : KeptToken) (next : ℕ) → Found t next ≡ scanAt s at → Reads s at (meant s t) next
-stepped-reads s at t next found =
-    let p = stepped s at (Found t next) found in
+pub stepped-reads : (names : List Name) (ok : Naming names) (s : List ℕ) (at : ℕ) (t : KeptToken) (next : ℕ) → Found t next ≡ scanAt names s at → Reads names s at (meant s t) next
+stepped-reads names ok s at t next found =
+    let p = stepped names ok s at (Found t next) found in
     let (st, sz, n, f, l, e) = p .leads in
     record { means = p .means; on = f; in-text = l; ends = e }
 
 -- Blanks after a token are skipped with it.
-pub blanks-after : (s : List ℕ) (at end next : ℕ) (t : Token) → Reads s at t end → next ≡ end + run blank (drop end s) → Reads s at t next
-blanks-after s at end next t r q =
+pub blanks-after : (names : List Name) (s : List ℕ) (at end next : ℕ) (t : Token) → Reads names s at t end → next ≡ end + run blank (drop end s) → Reads names s at t next
+blanks-after names s at end next t r q =
     let n = run-le blank (drop end s) in
     let k = length-drop end s in
     let i : every inside (take (run blank (drop end s)) (drop end s)) ≡ true
     = rw (take-run blank (drop end s)) (every-mono blank inside blank-inside (before blank (drop end s)) (every-run blank (drop end s))) in
     record {
-      means = r .means ∙ ap (infront t) (blanks-at present s end ∙ ap (λ (x : ℕ). tokens present (leftAt s x)) (sym q));
+      means = r .means ∙ ap (infront t) (blanks-at names s end ∙ ap (λ (x : ℕ). tokens names (leftAt s x)) (sym q));
       on = omega (arith, r .on);
       in-text = omega (arith, r .in-text);
       ends = ap (endAt s) q ∙ end-on s end (run blank (drop end s)) (omega (arith, r .in-text)) i ∙ r .ends;
@@ -100,23 +101,23 @@ unfolding isIdentifier
 identifier-parts b t h = both (nameStart b) (every namePart t) h
 
 -- The bytes from a place on that name a register, with no part of a name behind them.
-pub register-reads : (s : List ℕ) (from at e : ℕ) (r : Register) → from ≤ length s → at ≡ from + run blank (drop from s) → at < e → e < length s
-    → namePart (getD s e 0) ≡ false → nameNumber (named present (take (e - at) (drop at s))) ≡ some (some (indexOf r))
-    → Reads s from (register (some (indexOf r))) e
+pub register-reads : (names : List Name) (ok : Naming names) (s : List ℕ) (from at e : ℕ) (r : Register) → from ≤ length s → at ≡ from + run blank (drop from s) → at < e → e < length s
+    → namePart (getD s e 0) ≡ false → nameNumber (named names (take (e - at) (drop at s))) ≡ some (some (indexOf r))
+    → Reads names s from (register (some (indexOf r))) e
 unfolding isRegister
-register-reads s from at e r fl q h l g n =
-    let i = register-identifier present names-ok (take (e - at) (drop at s)) (some-named _ _ n) in
+register-reads names ok s from at e r fl q h l g n =
+    let i = register-identifier names (ok .identifiers) (take (e - at) (drop at s)) (some-named _ _ n) in
     let (b, f) = identifier-parts (getD s at 0) (take (e - (at + 1)) (drop (at + 1) s)) (rw (part-cons s at e h (omega arith)) at i) in
     let m = run-is namePart s (at + 1) e (omega arith) l f g in
-    let w = word-at s at e (Is r) (omega arith) b m (sym n) in
-    stepped-reads s from (record { kind = RegisterKind r; start = at; length = e - at }) e (blank-step s from at _ fl q (omega arith) (solid-step s at _ (omega arith) (start-solid _ b) w))
+    let w = word-at names ok s at e (Is r) (omega arith) b m (sym n) in
+    stepped-reads names ok s from (record { kind = RegisterKind r; start = at; length = e - at }) e (blank-step names s from at _ fl q (omega arith) (solid-step names s at _ (omega arith) (start-solid _ b) w))
 
 -- The same by the name that they are.
-pub register-case : (s : List ℕ) (from at e : ℕ) (r : RegisterName) → from ≤ length s → at ≡ from + run blank (drop from s) → at < e → e < length s
-    → namePart (getD s e 0) ≡ false → nameMeant r ≡ nameNumber (named present (take (e - at) (drop at s))) → RegisterIs s from (upTo r e)
-register-case s from at e (Is r) fl q h l g n = register-reads s from at e r fl q h l g (sym n)
-register-case s from at e NoSuch fl q h l g n = tt
-register-case s from at e Other fl q h l g n = tt
+pub register-case : (names : List Name) (ok : Naming names) (s : List ℕ) (from at e : ℕ) (r : RegisterName) → from ≤ length s → at ≡ from + run blank (drop from s) → at < e → e < length s
+    → namePart (getD s e 0) ≡ false → nameMeant r ≡ nameNumber (named names (take (e - at) (drop at s))) → RegisterIs names s from (upTo r e)
+register-case names ok s from at e (Is r) fl q h l g n = register-reads names ok s from at e r fl q h l g (sym n)
+register-case names ok s from at e NoSuch fl q h l g n = tt
+register-case names ok s from at e Other fl q h l g n = tt
 
 -- ---- marks
 
@@ -131,38 +132,38 @@ colon-plain : NoWord 58
 unfolding blank nameStart letter digit between numberStart
 colon-plain = record { no-blank = refl; no-start = refl; no-number = refl; no-dot = λ h. absurd (omega arith) }
 
-pub colon-reads : (s : List ℕ) (at : ℕ) → at < length s → getD s at 0 ≡ 58 → Reads s at colon (at + 1)
+pub colon-reads : (names : List Name) (ok : Naming names) (s : List ℕ) (at : ℕ) → at < length s → getD s at 0 ≡ 58 → Reads names s at colon (at + 1)
 unfolding mark markToken
-colon-reads s at l b = stepped-reads s at _ (at + 1) (mark-step s at Colon colon l (rw b colon-plain) (rw b) (rw b) (λ u. refl) (λ u. refl))
+colon-reads names ok s at l b = stepped-reads names ok s at _ (at + 1) (mark-step names ok s at Colon colon l (rw b colon-plain) (rw b) (rw b) (λ u. refl) (λ u. refl))
 
 pub no-mark : (m : ℕ) → m ≡ 0 → IsMark m → ⊥
 no-mark m z (inl e) = omega arith
 no-mark m z (inr (inl e)) = omega arith
 no-mark m z (inr (inr e)) = omega arith
 
-pub mark-reads : (s : List ℕ) (from at m : ℕ) → from ≤ length s → at ≡ from + run blank (drop from s) → at < length s → getD s at 0 ≡ m → IsMark m
-    → (t : Token) × ((markByte t ≡ m) × Reads s from t (at + 1))
+pub mark-reads : (names : List Name) (ok : Naming names) (s : List ℕ) (from at m : ℕ) → from ≤ length s → at ≡ from + run blank (drop from s) → at < length s → getD s at 0 ≡ m → IsMark m
+    → (t : Token) × ((markByte t ≡ m) × Reads names s from t (at + 1))
 unfolding mark markToken markByte
-mark-reads s from at m fl q l e (inl i) =
+mark-reads names ok s from at m fl q l e (inl i) =
     let b : getD s at 0 ≡ 44 = e ∙ i in
-    (comma, (sym i, stepped-reads s from _ (at + 1) (blank-step s from at _ fl q l (mark-step s at Comma comma l (mark-plain _ (inl b)) (rw b) (rw b) (λ u. refl) (λ u. refl)))))
-mark-reads s from at m fl q l e (inr (inl i)) =
+    (comma, (sym i, stepped-reads names ok s from _ (at + 1) (blank-step names s from at _ fl q l (mark-step names ok s at Comma comma l (mark-plain _ (inl b)) (rw b) (rw b) (λ u. refl) (λ u. refl)))))
+mark-reads names ok s from at m fl q l e (inr (inl i)) =
     let b : getD s at 0 ≡ 40 = e ∙ i in
-    (opening, (sym i, stepped-reads s from _ (at + 1) (blank-step s from at _ fl q l (mark-step s at LParen opening l (mark-plain _ (inr (inl b))) (rw b) (rw b) (λ u. refl) (λ u. refl)))))
-mark-reads s from at m fl q l e (inr (inr i)) =
+    (opening, (sym i, stepped-reads names ok s from _ (at + 1) (blank-step names s from at _ fl q l (mark-step names ok s at LParen opening l (mark-plain _ (inr (inl b))) (rw b) (rw b) (λ u. refl) (λ u. refl)))))
+mark-reads names ok s from at m fl q l e (inr (inr i)) =
     let b : getD s at 0 ≡ 41 = e ∙ i in
-    (closing, (sym i, stepped-reads s from _ (at + 1) (blank-step s from at _ fl q l (mark-step s at RParen closing l (mark-plain _ (inr (inr b))) (rw b) (rw b) (λ u. refl) (λ u. refl)))))
+    (closing, (sym i, stepped-reads names ok s from _ (at + 1) (blank-step names s from at _ fl q l (mark-step names ok s at RParen closing l (mark-plain _ (inr (inr b))) (rw b) (rw b) (λ u. refl) (λ u. refl)))))
 
 -- ---- the line's end
 
-pub end-reads : (s : List ℕ) (from stop e : ℕ) → from ≤ length s → stop ≡ from + run margin (drop from s)
+pub end-reads : (names : List Name) (s : List ℕ) (from stop e : ℕ) → from ≤ length s → stop ≡ from + run margin (drop from s)
     → (stop < length s → (getD s stop 0 ≡ 10) ⊎ (getD s stop 0 ≡ 35)) → e ≡ stop + run inside (drop stop s)
-    → (tokens present (leftAt s from) ≡ some []) × (e ≡ endAt s from)
+    → (tokens names (leftAt s from) ≡ some []) × (e ≡ endAt s from)
 unfolding endAt restAt run
-end-reads s from stop e l q f g =
+end-reads names s from stop e l q f g =
     let n = nothing-left s from l (rw q at f) in
     let (a, b, c) = margin-on s from stop l q in
-    (none-read present s from n, g ∙ c)
+    (none-read names s from n, g ∙ c)
 
 newline-ends : (b : ℕ) → b ≡ 10 → inside b ≡ false
 unfolding inside

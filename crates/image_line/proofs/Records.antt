@@ -9,12 +9,13 @@ use lib.ListN.{length, take, drop, getD, length-take, length-map, drop-of-length
 use lib.Seq.{drop-cons, getD-take}
 use lib.Dec.{eqb}
 use Rattle.text_lexical.specs.Bytes.{bytes, same}
-use Rattle.text_lexical.specs.Names.{present}
+use Rattle.text_lexical.specs.Names.{Name}
 use Rattle.text_lexical.proofs.Tests.{split}
 use Rattle.text.specs.Tokens.{identifier, register, number, hex, binary, directive, comma, colon, opening, closing}
 use Rattle.text.specs.Tokens.{Token as Meant}
 use Rattle.text.specs.Lines.{indent, kept, readLine}
 use Rattle.text.specs.Lines.{Line as Record}
+use Rattle.text.specs.NameSets.{Naming}
 use Rattle.text.specs.Places.{restAt}
 use Rattle.text.specs.Contracts.{kindMeant, filler, firsts, meant, spelling, recordAt}
 use Rattle.text.specs.declared.lexer.Kind.{Kind as TokenKind}
@@ -37,9 +38,9 @@ use Rattle.image_line.specs.declared.line.Read.{Read}
 
 -- ---- the tokens of a record
 
-pub recorded : (s : List ℕ) (from : ℕ) (l : Line) → l ≡ recordAt s from → Recorded s l
-recorded s from l e =
-    let r = line-read s from l e in
+pub recorded : (names : List Name) → Naming names → (s : List ℕ) (from : ℕ) (l : Line) → l ≡ recordAt names s from → Recorded s l
+recorded names ok s from l e =
+    let r = line-read names ok s from l e in
     record { kept = record { places = r .places; inside-text = r .inside-text }; solid = r .solid }
 
 module _ (s : List ℕ) (ts : List Token) (count : ℕ) where
@@ -212,14 +213,14 @@ two-tokens s ts count u e =
 
 -- ---- the line at a place
 
-module _ (s : List ℕ) (from : ℕ) (l : Line) (is : l ≡ recordAt s from) (c : Context) where
-  h : LineRead s from l
-  h = line-read s from l is
+module _ (names : List Name) (ok : Naming names) (s : List ℕ) (from : ℕ) (l : Line) (is : l ≡ recordAt names s from) (c : Context) where
+  h : LineRead names s from l
+  h = line-read names ok s from l is
 
-  pub line-record : (start : ℕ) (r : Read) → l .bad ≡ false → start ≡ from + indent (restAt s from) → RecordIs s l start c r → LineIs s from c r
+  pub line-record : (start : ℕ) (r : Read) → l .bad ≡ false → start ≡ from + indent (restAt s from) → RecordIs s l start c r → LineIs names s from c r
   unfolding endOf
   line-record start r b i q =
-      let e : readLine present (restAt s from) ≡ some (recordMeant s l) = h .means ∙ rw b in
+      let e : readLine names (restAt s from) ≡ some (recordMeant s l) = h .means ∙ rw b in
       record {
         reads = rw e (q .reads);
         starts = q .starts ∙ i;
@@ -235,10 +236,10 @@ module _ (s : List ℕ) (from : ℕ) (l : Line) (is : l ≡ recordAt s from) (c 
 
   -- A line with a bad token.
   pub line-bad : (start : ℕ) → l .bad ≡ true → start ≡ from + indent (restAt s from) → start ≤ length s
-      → LineIs s from c (record { labelled = false; start = start; length = 0; effect = Faulty 3; end = l .end })
+      → LineIs names s from c (record { labelled = false; start = start; length = 0; effect = Faulty 3; end = l .end })
   unfolding readOn endOf
   line-bad start b i inside =
-      let e : readLine present (restAt s from) ≡ none = h .means ∙ rw b in
+      let e : readLine names (restAt s from) ≡ none = h .means ∙ rw b in
       record {
         reads = rw e;
         starts = i;

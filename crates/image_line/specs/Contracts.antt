@@ -10,7 +10,7 @@ use mathlib.Core.Option.{Option, none, some}
 use mathlib.Core.List.{List, [], _∷_}
 use lib.ListN.{length, take, drop, getD}
 use Rattle.text_lexical.specs.Bytes.{value, nameStart, isSome}
-use Rattle.text_lexical.specs.Names.{named, present}
+use Rattle.text_lexical.specs.Names.{Name, named}
 use Rattle.text_lexical.specs.Contracts.{indexOf, nameNumber, signedMeant}
 use Rattle.text_lexical.specs.Words.{part, WordIs}
 use Rattle.text_lexical.specs.declared.name.RegisterName.{RegisterName}
@@ -57,15 +57,15 @@ use Rattle.image_line.specs.declared.line.Read.{Read}
 -- ---- a token at a place
 
 -- From a place on a line has a token, and what it has from the next place on.
-pub record Reads (s : List ℕ) (at : ℕ) (t : Token) (next : ℕ) : Type 0 where
-  pub means : tokens present (leftAt s at) ≡ infront t (tokens present (leftAt s next))
+pub record Reads (names : List Name) (s : List ℕ) (at : ℕ) (t : Token) (next : ℕ) : Type 0 where
+  pub means : tokens names (leftAt s at) ≡ infront t (tokens names (leftAt s next))
   pub on : at < next
   pub in-text : next ≤ length s
   pub ends : endAt s next ≡ endAt s at
 
-abbrev pub RegisterIs : List ℕ → ℕ → RegisterAt → Type 0
-RegisterIs s at (IsRegister r next) = Reads s at (register (some (indexOf r))) next
-RegisterIs s at NoRegister = Unit {0}
+abbrev pub RegisterIs : List Name → List ℕ → ℕ → RegisterAt → Type 0
+RegisterIs names s at (IsRegister r next) = Reads names s at (register (some (indexOf r))) next
+RegisterIs names s at NoRegister = Unit {0}
 
 -- A register that is named up to a place.
 abbrev pub upTo : RegisterName → ℕ → RegisterAt
@@ -74,22 +74,22 @@ upTo NoSuch next = NoRegister
 upTo NoName next = NoRegister
 
 -- A token of such a kind, whatever its spelling.
-abbrev pub NumberIs : List ℕ → ℕ → NumberAt → Type 0
-NumberIs s at (IsNumber k next) = (u : List ℕ) × Reads s at (tokenMeant k u) next
-NumberIs s at NoNumber = Unit {0}
+abbrev pub NumberIs : List Name → List ℕ → ℕ → NumberAt → Type 0
+NumberIs names s at (IsNumber k next) = (u : List ℕ) × Reads names s at (tokenMeant k u) next
+NumberIs names s at NoNumber = Unit {0}
 
 -- The marks behind an operand: `,`, `(`, `)`.
 abbrev pub IsMark : ℕ → Type 0
 IsMark m = (m ≡ 44) ⊎ ((m ≡ 40) ⊎ (m ≡ 41))
 
 -- The place behind a mark; 0: nothing is said.
-abbrev pub MarkIs : List ℕ → ℕ → ℕ → ℕ → Type 0
-MarkIs s at m next = (next ≡ 0 → ⊥) → (t : Token) × ((markByte t ≡ m) × Reads s at t next)
+abbrev pub MarkIs : List Name → List ℕ → ℕ → ℕ → ℕ → Type 0
+MarkIs names s at m next = (next ≡ 0 → ⊥) → (t : Token) × ((markByte t ≡ m) × Reads names s at t next)
 
 -- Nothing is left of the line, which ends there.
-abbrev pub EndIs : List ℕ → ℕ → EndAt → Type 0
-EndIs s at (IsEnd e) = (tokens present (leftAt s at) ≡ some []) × (e ≡ endAt s at)
-EndIs s at NoEnd = Unit {0}
+abbrev pub EndIs : List Name → List ℕ → ℕ → EndAt → Type 0
+EndIs names s at (IsEnd e) = (tokens names (leftAt s at) ≡ some []) × (e ≡ endAt s at)
+EndIs names s at NoEnd = Unit {0}
 
 -- ---- the operands of a form
 
@@ -111,71 +111,71 @@ unfoldable pub markOf : ℕ → ℕ
 markOf d = getD (0 ∷ 44 ∷ 40 ∷ 41 ∷ []) d 0
 
 -- The place behind the mark that is asked for, if one is; 0: nothing is said.
-pub record Behind (s : List ℕ) (at m next : ℕ) : Type 0 where
+pub record Behind (names : List Name) (s : List ℕ) (at m next : ℕ) : Type 0 where
   pub here : m ≡ 0 → next ≡ at
-  pub there : IsMark m → MarkIs s at m next
+  pub there : IsMark m → MarkIs names s at m next
 
 -- An operand at a place: a number where one is asked for, and else a register.
-abbrev pub OperandIs : List ℕ → ℕ → Bool → OperandAt → Type 0
-OperandIs s at numeric (NumberOperand w next) =
-    (numeric ≡ true) × ((t : Token) × ((readNumber t ≡ value (signedMeant (w .negative) (w .magnitude))) × Reads s at t next))
-OperandIs s at numeric (RegisterOperand r next) = (numeric ≡ false) × Reads s at (register (some (indexOf r))) next
-OperandIs s at numeric NoOperand = Unit {0}
+abbrev pub OperandIs : List Name → List ℕ → ℕ → Bool → OperandAt → Type 0
+OperandIs names s at numeric (NumberOperand w next) =
+    (numeric ≡ true) × ((t : Token) × ((readNumber t ≡ value (signedMeant (w .negative) (w .magnitude))) × Reads names s at t next))
+OperandIs names s at numeric (RegisterOperand r next) = (numeric ≡ false) × Reads names s at (register (some (indexOf r))) next
+OperandIs names s at numeric NoOperand = Unit {0}
 
 -- The line ends at a place, after these operands.
-pub record EndsAfter (s : List ℕ) (at : ℕ) (rs : List Register) (w : Whole) (o : Operands) (end : ℕ) : Type 0 where
+pub record EndsAfter (names : List Name) (s : List ℕ) (at : ℕ) (rs : List Register) (w : Whole) (o : Operands) (end : ℕ) : Type 0 where
   pub operands-are : o ≡ record { first = getD rs 0 R0; second = getD rs 1 R0; third = getD rs 2 R0; number = w }
-  pub nothing-left : tokens present (leftAt s at) ≡ some []
+  pub nothing-left : tokens names (leftAt s at) ≡ some []
   pub ends : end ≡ endAt s at
 
-abbrev pub EndsWith : List ℕ → ℕ → List Register → Whole → Tail → Type 0
-EndsWith s at rs w (Are o e) = EndsAfter s at rs w o e
-EndsWith s at rs w NoTail = Unit {0}
+abbrev pub EndsWith : List Name → List ℕ → ℕ → List Register → Whole → Tail → Type 0
+EndsWith names s at rs w (Are o e) = EndsAfter names s at rs w o e
+EndsWith names s at rs w NoTail = Unit {0}
 
 -- The operands of a form fill the rest of a line.
-pub record TailIs (s : List ℕ) (from form : ℕ) (o : Operands) (end : ℕ) : Type 0 where
+pub record TailIs (names : List Name) (s : List ℕ) (from form : ℕ) (o : Operands) (end : ℕ) : Type 0 where
   pub operands : List Token
-  pub means : tokens present (leftAt s from) ≡ some operands
+  pub means : tokens names (leftAt s from) ≡ some operands
   pub count : length operands ≡ length (places (formAt form))
   pub read : readOperands (places (formAt form)) operands ≡ value (operandsMeant (places (formAt form)) o)
   pub ends : end ≡ endAt s from
 
-abbrev pub Tails : List ℕ → ℕ → ℕ → Tail → Type 0
-Tails s from form (Are o e) = TailIs s from form o e
-Tails s from form NoTail = Unit {0}
+abbrev pub Tails : List Name → List ℕ → ℕ → ℕ → Tail → Type 0
+Tails names s from form (Are o e) = TailIs names s from form o e
+Tails names s from form NoTail = Unit {0}
 
 -- ---- a word
 
 -- Whether a word is a label: a colon follows it at once, and it is no register's name.
-unfoldable pub isLabel : List ℕ → ℕ → ℕ → Bool
-isLabel s at end = eqb (getD s end 0) 58 && not (isSome (nameNumber (named present (part s at (end - at)))))
+unfoldable pub isLabel : List Name → List ℕ → ℕ → ℕ → Bool
+isLabel names s at end = eqb (getD s end 0) 58 && not (isSome (nameNumber (named names (part s at (end - at)))))
 
 -- An identifier up to a place, and a colon up to another.
-pub record Labels (s : List ℕ) (at end next : ℕ) : Type 0 where
-  pub name : Reads s at (identifier (part s at (end - at))) end
-  pub mark : Reads s end colon next
+pub record Labels (names : List Name) (s : List ℕ) (at end next : ℕ) : Type 0 where
+  pub name : Reads names s at (identifier (part s at (end - at))) end
+  pub mark : Reads names s end colon next
 
 -- What stands between the start of a line's content and a place: nothing, or a label.
-pub data OptionalLabel (s : List ℕ) (start : ℕ) (l : LabelPart) (at : ℕ) : Type 0 where
-  without : l .labelled ≡ false → l .length ≡ 0 → at ≡ start → OptionalLabel s start l at
-  with-label : l .labelled ≡ true → Labels s start (start + l .length) at → OptionalLabel s start l at
+pub data OptionalLabel (names : List Name) (s : List ℕ) (start : ℕ) (l : LabelPart) (at : ℕ) : Type 0 where
+  without : l .labelled ≡ false → l .length ≡ 0 → at ≡ start → OptionalLabel names s start l at
+  with-label : l .labelled ≡ true → Labels names s start (start + l .length) at → OptionalLabel names s start l at
 
 -- The first word of a line, its label aside;
-pub record WordAfter (s : List ℕ) (start : ℕ) (l : LabelPart) (key end : ℕ) : Type 0 where
+pub record WordAfter (names : List Name) (s : List ℕ) (start : ℕ) (l : LabelPart) (key end : ℕ) : Type 0 where
   pub at : ℕ
-  pub label : OptionalLabel s start l at
+  pub label : OptionalLabel names s start l at
   pub in-text : at < length s
   pub begins : nameStart (getD s at 0) ≡ true
   pub word : WordIs s at (record { key = key; end = end })
 
 -- or the place where none begins.
-pub record NoWordAfter (s : List ℕ) (start : ℕ) (l : LabelPart) (at : ℕ) : Type 0 where
-  pub label : OptionalLabel s start l at
+pub record NoWordAfter (names : List Name) (s : List ℕ) (start : ℕ) (l : LabelPart) (at : ℕ) : Type 0 where
+  pub label : OptionalLabel names s start l at
   pub in-text : at ≤ length s
 
-abbrev pub FirstWordIs : List ℕ → ℕ → FirstWord → Type 0
-FirstWordIs s start (IsWord l key end) = WordAfter s start l key end
-FirstWordIs s start (NoWord l at) = NoWordAfter s start l at
+abbrev pub FirstWordIs : List Name → List ℕ → ℕ → FirstWord → Type 0
+FirstWordIs names s start (IsWord l key end) = WordAfter names s start l key end
+FirstWordIs names s start (NoWord l at) = NoWordAfter names s start l at
 
 -- ---- what a line reads as
 
@@ -215,30 +215,30 @@ abbrev pub readMeant : List ℕ → Read → MeantRead
 readMeant s r = record { label = labelIf (r .labelled) (take (r .length) (drop (r .start) s)); effect = effectMeant (r .effect) }
 
 -- Where the line at a place ends; a bad token leaves that open, and the place itself is answered.
-unfoldable pub endOf : List ℕ → ℕ → ℕ
-endOf s from = elim (readLine present (restAt s from)) [ none ↦ from | some l ↦ endAt s from ]
+unfoldable pub endOf : List Name → List ℕ → ℕ → ℕ
+endOf names s from = elim (readLine names (restAt s from)) [ none ↦ from | some l ↦ endAt s from ]
 
 -- The line at a place, with what those above it leave.
-pub record LineIs (s : List ℕ) (from : ℕ) (c : Context) (r : Read) : Type 0 where
-  pub reads : readMeant s r ≡ readOn c (readLine present (restAt s from))
+pub record LineIs (names : List Name) (s : List ℕ) (from : ℕ) (c : Context) (r : Read) : Type 0 where
+  pub reads : readMeant s r ≡ readOn c (readLine names (restAt s from))
   pub starts : r .start ≡ from + indent (restAt s from)
   pub unlabelled : r .labelled ≡ false → r .length ≡ 0
-  pub ends : r .end ≡ endOf s from
+  pub ends : r .end ≡ endOf names s from
   pub in-text : r .start + r .length ≤ length s
   pub in-table : InTable (r .effect)
 
 -- ---- the fast path
 
 -- What a line reads as whatever the settings are.
-abbrev pub ReadsAs : List ℕ → ℕ → Read → Type 0
-ReadsAs s from r = (c : Context) → LineIs s from c r
+abbrev pub ReadsAs : List Name → List ℕ → ℕ → Read → Type 0
+ReadsAs names s from r = (c : Context) → LineIs names s from c r
 
-abbrev pub FastIs : List ℕ → ℕ → Fast → Type 0
-FastIs s from (Instruction l start row o end) =
-    ReadsAs s from (record { labelled = l .labelled; start = start; length = l .length; effect = Codes row o; end = end })
-FastIs s from (Bare l start end) =
-    ReadsAs s from (record { labelled = l .labelled; start = start; length = l .length; effect = Nothing; end = end })
-FastIs s from NotFast = Unit {0}
+abbrev pub FastIs : List Name → List ℕ → ℕ → Fast → Type 0
+FastIs names s from (Instruction l start row o end) =
+    ReadsAs names s from (record { labelled = l .labelled; start = start; length = l .length; effect = Codes row o; end = end })
+FastIs names s from (Bare l start end) =
+    ReadsAs names s from (record { labelled = l .labelled; start = start; length = l .length; effect = Nothing; end = end })
+FastIs names s from NotFast = Unit {0}
 
 -- ---- a line by its record
 

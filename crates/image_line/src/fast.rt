@@ -3,6 +3,7 @@
 ghost use mathlib.Core.Path.{_≡_};
 ghost use Prim.Native.Nat.{_≤_, _<_};
 ghost use lib.ListN.{length};
+ghost use Rattle.text_lexical.specs.Names.{present};
 ghost use Rattle.instruction.specs.Table.{places};
 ghost use Rattle.instruction.specs.Contracts.{formAt};
 ghost use Rattle.image_line.specs.Contracts.{Tables, Ahead, isNumber, markOf, OperandIs, EndsWith, Tails, isLabel, FirstWordIs, FastIs};
@@ -103,7 +104,7 @@ fn mark_of(operand: u32) -> u8
 // A number or a register, and the place after it.
 fn operand_at(source: &[u8], at: usize, numeric: bool) -> OperandAt
     requires { ⌜ at ≤ length (now source) ⌝ }
-    ensures { λ r. ⌜ OperandIs (now (source .entry)) at numeric r ⌝ }
+    ensures { λ r. ⌜ OperandIs present (now (source .entry)) at numeric r ⌝ }
 {
     if numeric {
         return match crate::operand::number_at(source, at) {
@@ -123,7 +124,7 @@ fn operand_at(source: &[u8], at: usize, numeric: bool) -> OperandAt
 // The operands that were read, if the line ends at `at`.
 fn tail_at(source: &[u8], at: usize, registers: [Register; 3], number: Whole) -> Tail
     requires { ⌜ at ≤ length (now source) ⌝ }
-    ensures { λ r. ⌜ EndsWith (now (source .entry)) at registers number r ⌝ }
+    ensures { λ r. ⌜ EndsWith present (now (source .entry)) at registers number r ⌝ }
 {
     match crate::operand::end_at(source, at) {
         EndAt::Other => Tail::Other,
@@ -143,7 +144,7 @@ fn tail_at(source: &[u8], at: usize, registers: [Register; 3], number: Whole) ->
 // each, so that all of it is compiled as one.
 fn read_tail(source: &[u8], from: usize, form: u8) -> Tail
     requires { ⌜ from ≤ length (now source) ⌝ }
-    ensures { λ r. ⌜ Tails (now (source .entry)) from form r ⌝ }
+    ensures { λ r. ⌜ Tails present (now (source .entry)) from form r ⌝ }
 {
     let none = Register::R0;
     let mut registers = [none; 3];
@@ -181,7 +182,7 @@ fn read_tail(source: &[u8], from: usize, form: u8) -> Tail
 // Whether the word from `at` to `end` is a label: a colon follows it at once, and it is no register's name. These have four bytes at most.
 fn is_label(source: &[u8], at: usize, end: usize) -> bool
     requires { ⌜ at < end ⌝ ∗ ⌜ end ≤ length (now source) ⌝ }
-    ensures { λ r. ⌜ r ≡ isLabel (now (source .entry)) at end ⌝ }
+    ensures { λ r. ⌜ r ≡ isLabel present (now (source .entry)) at end ⌝ }
 {
     if source.len() <= end {
         return false;
@@ -202,7 +203,7 @@ fn is_label(source: &[u8], at: usize, end: usize) -> bool
 // one place and compiled in line.
 fn first_word(source: &[u8], start: usize) -> FirstWord
     requires { ⌜ start ≤ length (now source) ⌝ }
-    ensures { λ r. ⌜ FirstWordIs (now (source .entry)) start r ⌝ }
+    ensures { λ r. ⌜ FirstWordIs present (now (source .entry)) start r ⌝ }
 {
     let mut label = LabelPart {
         labelled: false,
@@ -242,7 +243,7 @@ pub(crate) fn read_fast(
     slots: &[u8; 293],
 ) -> Fast
     requires { ⌜ from ≤ length (now source) ⌝ ∗ ⌜ Tables (now mnemonics) (now forms) (now slots) ⌝ }
-    ensures { λ r. ⌜ FastIs (now (source .entry)) from r ⌝ }
+    ensures { λ r. ⌜ FastIs present (now (source .entry)) from r ⌝ }
 {
     let start = text_lexical::bytes::run_end(source, from, Class::Margin);
     match first_word(source, start) {

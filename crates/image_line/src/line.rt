@@ -1,6 +1,7 @@
 // The line at a place of a source: what it reads as. Both walks read their lines by it.
 ghost use Prim.Native.Nat.{_≤_};
 ghost use lib.ListN.{length};
+ghost use Rattle.text_lexical.specs.Names.{present};
 ghost use Rattle.image_line.specs.Contracts.{Tables, contextFor, LineIs};
 use crate::fast::Fast;
 use image::config::Config;
@@ -36,7 +37,7 @@ pub fn read_line(
     slots: &[u8; 293],
 ) -> Read
     requires { ⌜ at ≤ length (now source) ⌝ ∗ ⌜ Tables (now mnemonics) (now forms) (now slots) ⌝ }
-    ensures { λ r. ⌜ LineIs (now (source .entry)) at (contextFor config) r ⌝ }
+    ensures { λ r. ⌜ LineIs present (now (source .entry)) at (contextFor config) r ⌝ }
 {
     match crate::fast::read_fast(source, at, mnemonics, forms, slots) {
         Fast::Instruction {

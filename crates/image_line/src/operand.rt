@@ -4,6 +4,7 @@ ghost use mathlib.Core.Path.{_≡_};
 ghost use mathlib.Core.Logic.{_⊎_};
 ghost use Prim.Native.Nat.{_≤_, _<_};
 ghost use lib.ListN.{length};
+ghost use Rattle.text_lexical.specs.Names.{present};
 ghost use Rattle.image_line.specs.Contracts.{upTo, RegisterIs, NumberIs, IsMark, MarkIs, Behind, EndIs};
 use text::lexer::Kind;
 use text::lexer::Scan;
@@ -40,7 +41,7 @@ fn up_to(name: RegisterName, next: usize) -> RegisterAt
 // A register, past blanks.
 pub(crate) fn register_at(text: &[u8], from: usize) -> RegisterAt
     requires { ⌜ from ≤ length (now text) ⌝ }
-    ensures { λ r. ⌜ RegisterIs (now (text .entry)) from r ⌝ }
+    ensures { λ r. ⌜ RegisterIs present (now (text .entry)) from r ⌝ }
 {
     let at = text_lexical::bytes::run_end(text, from, Class::Blank);
     let left = text.len() - at;
@@ -72,7 +73,7 @@ pub(crate) fn register_at(text: &[u8], from: usize) -> RegisterAt
 // The token at a number's place, past blanks; its number is read of its kind.
 pub(crate) fn number_at(text: &[u8], from: usize) -> NumberAt
     requires { ⌜ from ≤ length (now text) ⌝ }
-    ensures { λ r. ⌜ NumberIs (now (text .entry)) from r ⌝ }
+    ensures { λ r. ⌜ NumberIs present (now (text .entry)) from r ⌝ }
 {
     let at = text_lexical::bytes::run_end(text, from, Class::Blank);
     if text.len() <= at {
@@ -93,7 +94,7 @@ pub(crate) fn number_at(text: &[u8], from: usize) -> NumberAt
 // The place behind a mark, past blanks; 0 if another byte stands there.
 fn mark_at(text: &[u8], from: usize, mark: u8) -> usize
     requires { ⌜ from ≤ length (now text) ⌝ ∗ ⌜ IsMark mark ⌝ }
-    ensures { λ r. ⌜ MarkIs (now (text .entry)) from mark r ⌝ }
+    ensures { λ r. ⌜ MarkIs present (now (text .entry)) from mark r ⌝ }
 {
     let at = text_lexical::bytes::run_end(text, from, Class::Blank);
     if text.len() <= at {
@@ -108,7 +109,7 @@ fn mark_at(text: &[u8], from: usize, mark: u8) -> usize
 // The place behind a mark, or the place itself where none is asked for (0).
 pub(crate) fn behind_mark(text: &[u8], at: usize, mark: u8) -> usize
     requires { ⌜ at ≤ length (now text) ⌝ ∗ ⌜ (mark ≡ 0) ⊎ IsMark mark ⌝ }
-    ensures { λ r. ⌜ Behind (now (text .entry)) at mark r ⌝ }
+    ensures { λ r. ⌜ Behind present (now (text .entry)) at mark r ⌝ }
 {
     if mark == 0 {
         return at;
@@ -119,7 +120,7 @@ pub(crate) fn behind_mark(text: &[u8], at: usize, mark: u8) -> usize
 // Where the line ends, if nothing is left to read of it.
 pub(crate) fn end_at(text: &[u8], from: usize) -> EndAt
     requires { ⌜ from ≤ length (now text) ⌝ }
-    ensures { λ r. ⌜ EndIs (now (text .entry)) from r ⌝ }
+    ensures { λ r. ⌜ EndIs present (now (text .entry)) from r ⌝ }
 {
     let stop = text_lexical::bytes::run_end(text, from, Class::Margin);
     if text.len() <= stop {

@@ -3,6 +3,7 @@ ghost use mathlib.Core.Path.{_≡_};
 ghost use mathlib.Core.Bool.{false};
 ghost use Prim.Native.Nat.{_≤_};
 ghost use lib.ListN.{length, getD};
+ghost use Rattle.text_lexical.specs.Names.{present};
 ghost use Rattle.text.specs.Contracts.{firsts, filler};
 ghost use Rattle.instruction.specs.Operands.{readInstruction, behind};
 ghost use Rattle.image.specs.Settings.{configured};
@@ -161,7 +162,7 @@ pub(crate) fn read_record(
     slots: &[u8; 293],
 ) -> Read
     requires { ⌜ at ≤ length (now source) ⌝ ∗ ⌜ Tables (now mnemonics) (now forms) (now slots) ⌝ }
-    ensures { λ r. ⌜ LineIs (now (source .entry)) at (contextFor config) r ⌝ }
+    ensures { λ r. ⌜ LineIs present (now (source .entry)) at (contextFor config) r ⌝ }
 {
     let start = text_lexical::bytes::run_end(source, at, Class::Margin);
     let line = text::parser::tokenize(source, at);

@@ -7,13 +7,15 @@ use lib.ListN.{length, getD}
 use borrow.Author.Needs.{needs}
 use borrow.Author.Tests.{not-false}
 use Rattle.text_lexical.specs.Bytes.{nameStart}
+use Rattle.text_lexical.specs.Names.{present}
+use Rattle.text.proofs.NameSets.{present-naming}
 use Rattle.image_line.specs.Contracts.{Labels, OptionalLabel, WordAfter, NoWordAfter}
 use Rattle.image_line.proofs.Lines.{word-some, word-in, is-label-reads, before-label, after-label, label-in}
 use Rattle.image_line.proofs.fast.first_word.Statement.{statement}
 use Rattle.image_line.proofs.fast.first_word.Tie as tie
 
 abbrev Inv-loop : tie.InvT-loop
-Inv-loop source start label₀ at₀ label at = OptionalLabel source start label at
+Inv-loop source start label₀ at₀ label at = OptionalLabel present source start label at
 
 abbrev μ-loop : tie.MeasureT-loop
 μ-loop source start label₀ at₀ label at = length source - at
@@ -22,7 +24,7 @@ loop-holds : tie.Need-loop-holds Inv-loop μ-loop
 loop-holds c = before-label
 
 -- no word begins
-missing : (k : tie.At-loop Inv-loop μ-loop) → let a = k .before .before .args in NoWordAfter (a .source .now) (a .start) (k .loop .label) (k .loop .at)
+missing : (k : tie.At-loop Inv-loop μ-loop) → let a = k .before .before .args in NoWordAfter present (a .source .now) (a .start) (k .loop .label) (k .loop .at)
 missing k = record { label = k .loop .inv; in-text = label-in (k .before .before .pre) (k .loop .inv) }
 
 returns : tie.Need-returns Inv-loop μ-loop
@@ -46,7 +48,7 @@ lower-word-requires : tie.Need-lower-word-requires Inv-loop μ-loop
 lower-word-requires c κs = omega (arith, begins c .0)
 
 word : (c : tie.After-lower-word Inv-loop μ-loop) → let k = c .before .before .before .before .before in let a = k .before .before .args in let w = c .lower-word .result in
-    WordAfter (a .source .now) (a .start) (k .loop .label) (w .key) (w .end)
+    WordAfter present (a .source .now) (a .start) (k .loop .label) (w .key) (w .end)
 word c =
     let k = c .before .before .before .before .before in
     let (inside-text, start) = begins (c .before) in
@@ -72,12 +74,12 @@ returns-4 c = word (c .before .before .before)
 
 -- it is a label
 label : (c : tie.Else4 Inv-loop μ-loop) → let w = c .before .before .before in let k = w .before .before .before .before .before in let s = k .before .before .args .source .now in let end = w .lower-word .result .end in
-    (end < length s) × Labels s (k .loop .at) end (end + 1)
+    (end < length s) × Labels present s (k .loop .at) end (end + 1)
 label c =
     let w = c .before .before .before in
     let k = w .before .before .before .before .before in
     let (inside-text, start) = begins (w .before) in
-    is-label-reads (k .before .before .args .source .now) (k .loop .at) (w .lower-word .result .end) inside-text start (w .lower-word .ensures .ends) (sym (c .before .is-label .ensures) ∙ not-false _ (c .if4 .left))
+    is-label-reads present present-naming (k .before .before .args .source .now) (k .loop .at) (w .lower-word .result .end) inside-text start (w .lower-word .ensures .ends) (sym (c .before .is-label .ensures) ∙ not-false _ (c .if4 .left))
 
 sub-run-end : tie.Need-sub-run-end Inv-loop μ-loop
 sub-run-end c = let (h, l) = bounds (c .before .before .before) in omega (arith, h)
@@ -102,7 +104,7 @@ loop-again c =
     let k = w .before .before .before .before .before in
     let a = k .before .before .args in
     let (inside-text, is) = label e in
-    after-label (a .source .now) (a .start) (k .loop .at) (w .lower-word .result .end) (c .run-end .result) (k .loop .label) (k .loop .inv) (f .if3 .left) (bounds w .0) inside-text is (c .run-end .ensures)
+    after-label present (a .source .now) (a .start) (k .loop .at) (w .lower-word .result .end) (c .run-end .result) (k .loop .label) (k .loop .inv) (f .if3 .left) (bounds w .0) inside-text is (c .run-end .ensures)
 
 pub first-word-spec : {M : Type 1} → statement M
 first-word-spec =

@@ -14,19 +14,19 @@ use Rattle.text_lexical.specs.declared.name.RegisterName.the-variants.{Is, NoSu
 use Rattle.text_lexical.proofs.name.RegisterName as register-name-type
 use Rattle.text_lexical.specs.Words.{part}
 use Rattle.image_line.specs.Contracts.{isLabel}
-use Rattle.image_line.proofs.Lines.{no-byte, no-colon, no-name, a-name, long-name}
+use Rattle.image_line.proofs.Lines.{no-byte, no-colon, no-name, a-name, names-short, long-name}
 use borrow.Author.Needs.{needs}
 use Rattle.image_line.proofs.fast.is_label.Statement.{statement}
 use Rattle.image_line.proofs.fast.is_label.Tie as tie
 
 returns : tie.Need-returns
-returns c = let a = c .before .before .args in no-byte (a .source .now) (a .at) (a .end) (c .if1 .taken)
+returns c = let a = c .before .before .args in no-byte present (a .source .now) (a .at) (a .end) (c .if1 .taken)
 
 shared-slice-read-if2 : tie.Need-shared-slice-read-if2
 shared-slice-read-if2 c = search needs
 
 returns-2 : tie.Need-returns-2
-returns-2 c = let a = c .before .before .before .before .args in no-colon (a .source .now) (a .at) (a .end) (c .if2 .taken)
+returns-2 c = let a = c .before .before .before .before .args in no-colon present (a .source .now) (a .at) (a .end) (c .if2 .taken)
 
 sub-if3 : tie.Need-sub-if3
 sub-if3 c = search needs
@@ -51,16 +51,16 @@ returns-3 c =
     let p = c .before .before in
     let e = p .before .before .before in
     let a = e .before .before .before .before .args in
-    no-name (a .source .now) (a .at) (a .end) (e .if2 .left) (sym (rw (c .enum-told .given .1) at (p .parse-register .ensures)))
+    no-name present (a .source .now) (a .at) (a .end) (e .if2 .left) (sym (rw (c .enum-told .given .1) at (p .parse-register .ensures)))
 
 -- The places of the answers that name a register, whether it exists or not.
 abbrev names : List ℕ
 names = 0 ∷ 1 ∷ []
 
 register-named : (s : List ℕ) (at end : ℕ) (r : RegisterName) → OneOf names (tagOf register-name-type.the-type r) → getD s end 0 ≡ 58
-    → nameMeant r ≡ nameNumber (named present (part s at (end - at))) → false ≡ isLabel s at end
-register-named s at end (Is r) h c e = a-name s at end _ c (sym e)
-register-named s at end NoSuch h c e = a-name s at end _ c (sym e)
+    → nameMeant r ≡ nameNumber (named present (part s at (end - at))) → false ≡ isLabel present s at end
+register-named s at end (Is r) h c e = a-name present s at end _ c (sym e)
+register-named s at end NoSuch h c e = a-name present s at end _ c (sym e)
 register-named s at end Other h c e = absurd (miss names 2 tt h)
 
 returns-4 : tie.Need-returns-4
@@ -75,7 +75,7 @@ returns-5 c =
     let e = c .before in
     let b = e .before .before .before .before in
     let a = b .args in
-    no-name (a .source .now) (a .at) (a .end) (e .if2 .left) (long-name (a .source .now) (a .at) (a .end) (b .pre .1) (omega (arith, c .if3 .left)))
+    no-name present (a .source .now) (a .at) (a .end) (e .if2 .left) (long-name present (a .source .now) (a .at) (a .end) names-short (b .pre .1) (omega (arith, c .if3 .left)))
 
 pub is-label-spec : {M : Type 1} → statement M
 is-label-spec =

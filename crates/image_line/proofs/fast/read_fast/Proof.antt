@@ -4,7 +4,9 @@ use native.Mathlib.Omega.{arith}
 use Rattle.text_lexical.proofs.Keys.{Below}
 use Rattle.instruction.specs.Contracts.{formNumbers}
 use Rattle.instruction.proofs.Columns.{form-column}
-use Rattle.image_line.proofs.Lines.{word-row, word-ends, content-starts, bare-line, word-line}
+use Rattle.text_lexical.specs.Names.{present}
+use Rattle.text.proofs.NameSets.{present-naming}
+use Rattle.image_line.proofs.Lines.{no-mnemonics, word-row, word-ends, content-starts, bare-line, word-line}
 use borrow.Author.Needs.{needs}
 use Rattle.image_line.proofs.fast.read_fast.Statement.{statement}
 use Rattle.image_line.proofs.fast.read_fast.Tie as tie
@@ -47,7 +49,7 @@ looked c =
     let f = c .before .before .before in
     let m = f .before .before in
     let w = m .before .before in
-    word-row (rw (m .label2 .given .1) at (w .first-word .ensures)) (below (w .before)) (f .find-mnemonic .result) _ (f .find-mnemonic .ensures) (c .before .row .given .1) .0
+    word-row (rw (m .label2 .given .1) at (w .first-word .ensures)) present-naming no-mnemonics (below (w .before)) (f .find-mnemonic .result) _ (f .find-mnemonic .ensures) (c .before .row .given .1) .0
 
 element-copy-out-read-tail : tie.Need-element-copy-out-read-tail
 element-copy-out-read-tail c = looked c
@@ -71,7 +73,7 @@ returns-2 c =
     let g = m .before .before .before in
     let b = g .before .before in
     let (n, k) = rw (e .end .given .1) at (e .before .before .end-at .ensures) in
-    bare-line (b .args .source .now) (b .args .from) (g .run-end .result) (b .pre .0) (g .run-end .ensures) _ _ _ ((rw (m .label .given .1) at (m .before .before .first-word .ensures)) .label) n k
+    bare-line present (b .args .source .now) (b .args .from) (g .run-end .result) (b .pre .0) (g .run-end .ensures) _ _ _ ((rw (m .label .given .1) at (m .before .before .first-word .ensures)) .label) n k
 
 returns-3 : tie.Need-returns-3
 returns-3 c = search needs
@@ -90,7 +92,7 @@ returns-5 c =
     let w = m .before .before in
     let g = w .before in
     let b = g .before .before in
-    word-line (b .args .source .now) (b .args .from) (g .run-end .result) (b .pre .0) (g .run-end .ensures) (rw (m .label2 .given .1) at (w .first-word .ensures)) (below g) (f .find-mnemonic .result) _ _
+    word-line present (b .args .source .now) (b .args .from) (g .run-end .result) (b .pre .0) (g .run-end .ensures) (rw (m .label2 .given .1) at (w .first-word .ensures)) present-naming no-mnemonics (below g) (f .find-mnemonic .result) _ _
     (f .find-mnemonic .ensures) (k .before .row .given .1) (rw (b .pre .1 .form-column) (form-column (k .before .row .given .0 .0) (looked k))) _ _ (rw (o .operands .given .1) at (t .read-tail .ensures))
 
 pub read-fast-spec : {M : Type 1} → statement M

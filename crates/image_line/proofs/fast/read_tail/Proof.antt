@@ -3,13 +3,14 @@ use mathlib.Core.Path.{sym, _∙_}
 use mathlib.Core.Logic.{⊎-elim}
 use native.Mathlib.Omega.{arith}
 use borrow.Author.Needs.{needs}
+use Rattle.text_lexical.specs.Names.{present}
 use Rattle.image_line.proofs.Operands.{Reading, reading-begin, reading-register, reading-number, room-ahead, reading-tail, mark-any}
 use Rattle.image_line.proofs.fast.read_tail.Statement.{statement}
 use Rattle.image_line.proofs.fast.read_tail.Tie as tie
 
 abbrev Inv-loop : tie.InvT-loop
 Inv-loop source from form registers₀ count₀ number₀ at₀ left₀ registers count number at left =
-    Reading source from form at left count registers (number .negative) (number .magnitude)
+    Reading present source from form at left count registers (number .negative) (number .magnitude)
 
 abbrev μ-loop : tie.MeasureT-loop
 μ-loop source from form registers₀ count₀ number₀ at₀ left₀ registers count number at left = left
@@ -18,7 +19,7 @@ operands-of-requires : tie.Need-operands-of-requires Inv-loop μ-loop
 operands-of-requires c κs = search needs
 
 loop-holds : tie.Need-loop-holds Inv-loop μ-loop
-loop-holds c = let b = c .before .before in reading-begin (b .args .source .now) (b .args .from) (b .args .form) (c .operands-of .result) (b .pre) (c .operands-of .ensures)
+loop-holds c = let b = c .before .before in reading-begin present (b .args .source .now) (b .args .from) (b .args .form) (c .operands-of .result) (b .pre) (c .operands-of .ensures)
 
 is-number-requires : tie.Need-is-number-requires Inv-loop μ-loop
 is-number-requires c κs = search needs
@@ -45,7 +46,7 @@ array-set-from-registers c =
     let k = i .before .before in
     let b = k .before .before .before in
     let (letter, rd) = rw (c .before .register .given .1) at (o .operand-at .ensures) in
-    room-ahead (b .args .source .now) (b .args .from) (b .args .form) (k .loop .at) (k .loop .left) (k .loop .count) (k .loop .registers) (k .loop .number .negative) (k .loop .number .magnitude) (k .loop .inv)
+    room-ahead present (b .args .source .now) (b .args .from) (b .args .form) (k .loop .at) (k .loop .left) (k .loop .count) (k .loop .registers) (k .loop .number .negative) (k .loop .number .magnitude) (k .loop .inv)
     (i .before .loop-test .taken) (sym (i .is-number .ensures) ∙ letter)
 
 add-count : tie.Need-add-count Inv-loop μ-loop
@@ -81,11 +82,11 @@ loop-again c =
     ⊎-elim
     (λ w. let (digit, (t, (v, rd))) = rw (w .1 .given .1) at (o .operand-at .ensures) in
     rw (w .3, w .4, w .5)
-    (reading-number (b .args .source .now) (b .args .from) (b .args .form) (k .loop .at) (k .loop .left) (k .loop .count) (k .loop .registers) (k .loop .number .negative) (k .loop .number .magnitude) (k .loop .inv)
+    (reading-number present (b .args .source .now) (b .args .from) (b .args .form) (k .loop .at) (k .loop .left) (k .loop .count) (k .loop .registers) (k .loop .number .negative) (k .loop .number .magnitude) (k .loop .inv)
     (l .loop-test .taken) (sym (i .is-number .ensures) ∙ digit) t _ _ _ (c .before .behind-mark .result) v rd (rw (w .6) at after) (c .if1 .left)))
     (λ w. let (letter, rd) = rw (w .1 .given .1) at (o .operand-at .ensures) in
     rw (w .3, w .4, w .5)
-    (reading-register (b .args .source .now) (b .args .from) (b .args .form) (k .loop .at) (k .loop .left) (k .loop .count) (k .loop .registers) (k .loop .number .negative) (k .loop .number .magnitude) (k .loop .inv)
+    (reading-register present (b .args .source .now) (b .args .from) (b .args .form) (k .loop .at) (k .loop .left) (k .loop .count) (k .loop .registers) (k .loop .number .negative) (k .loop .number .magnitude) (k .loop .inv)
     (l .loop-test .taken) (sym (i .is-number .ensures) ∙ letter) (w .1 .given .0 .0) _ (c .before .behind-mark .result) rd (rw (w .6) at after) (c .if1 .left)))
     (j .match .came)
 
@@ -97,7 +98,7 @@ returns-3 c =
     let l = c .before in
     let k = l .before in
     let b = k .before .before .before in
-    reading-tail (b .args .source .now) (b .args .from) (b .args .form) (k .loop .at) (k .loop .left) (k .loop .count) (k .loop .registers) (k .loop .number) (k .loop .inv)
+    reading-tail present (b .args .source .now) (b .args .from) (b .args .form) (k .loop .at) (k .loop .left) (k .loop .count) (k .loop .registers) (k .loop .number) (k .loop .inv)
     (λ p. omega (arith, l .loop-test .left)) (c .tail-at .result) (c .tail-at .ensures)
 
 pub read-tail-spec : {M : Type 1} → statement M

@@ -2,6 +2,7 @@
 use mathlib.Core.Logic.{inl, inr}
 use native.Mathlib.Omega.{arith}
 use borrow.Author.Needs.{needs}
+use Rattle.text_lexical.specs.Names.{present}
 use Rattle.image_line.proofs.Places.{end-reads, stops-here}
 use Rattle.image_line.proofs.operand.end_at.Statement.{statement}
 use Rattle.image_line.proofs.operand.end_at.Tie as tie
@@ -14,7 +15,7 @@ returns c =
     let r = c .before in
     let b = r .before .before in
     let s = b .args .text .now in
-    end-reads s (b .args .from) (r .run-end .result) (r .run-end .result) (b .pre) (r .run-end .ensures) (λ l. absurd (omega arith)) (stops-here s (r .run-end .result) (λ l. absurd (omega arith)))
+    end-reads present s (b .args .from) (r .run-end .result) (r .run-end .result) (b .pre) (r .run-end .ensures) (λ l. absurd (omega arith)) (stops-here s (r .run-end .result) (λ l. absurd (omega arith)))
 
 shared-slice-read-match : tie.Need-shared-slice-read-match
 shared-slice-read-match c = search needs
@@ -27,14 +28,14 @@ returns-2 c =
     let r = c .before .before .before in
     let b = r .before .before in
     let s = b .args .text .now in
-    end-reads s (b .args .from) (r .run-end .result) (r .run-end .result) (b .pre) (r .run-end .ensures) (λ l. inl (c .match .keys1)) (stops-here s (r .run-end .result) (λ l. c .match .keys1))
+    end-reads present s (b .args .from) (r .run-end .result) (r .run-end .result) (b .pre) (r .run-end .ensures) (λ l. inl (c .match .keys1)) (stops-here s (r .run-end .result) (λ l. c .match .keys1))
 
 returns-3 : tie.Need-returns-3
 returns-3 c =
     let m = c .before in
     let r = m .before .before .before in
     let b = r .before .before in
-    end-reads (b .args .text .now) (b .args .from) (r .run-end .result) (c .line-end .result) (b .pre) (r .run-end .ensures) (λ l. inr (m .match .keys2)) (c .line-end .ensures)
+    end-reads present (b .args .text .now) (b .args .from) (r .run-end .result) (c .line-end .result) (b .pre) (r .run-end .ensures) (λ l. inr (m .match .keys2)) (c .line-end .ensures)
 
 returns-4 : tie.Need-returns-4
 returns-4 c = search needs

@@ -7,6 +7,8 @@ use borrow.Author.Needs.{needs}
 use borrow.Author.Tests.{not-false}
 use Rattle.text.specs.Contracts.{spelling, numberStart}
 use Rattle.text.proofs.Stepping.{number-step, blank-step}
+use Rattle.text_lexical.specs.Names.{present}
+use Rattle.text.proofs.NameSets.{present-naming}
 use Rattle.image_line.proofs.Places.{stepped-reads}
 use Rattle.image_line.proofs.operand.number_at.Statement.{statement}
 use Rattle.image_line.proofs.operand.number_at.Tie as tie
@@ -46,9 +48,9 @@ returns-3 c =
     let b = r .before .before in
     let s = b .args .text .now in (
       spelling s (t .token .given .0 .0),
-      stepped-reads s (b .args .from) (t .token .given .0 .0) (t .token .given .0 .1 .0)
-          (blank-step s (b .args .from) (r .run-end .result) _ (b .pre) (r .run-end .ensures) (omega (arith, o .if1 .left))
-          (number-step s (r .run-end .result) _ (omega (arith, o .if1 .left)) (begins e) (rw (t .token .given .1) at (n .number .ensures)))),
+      stepped-reads present present-naming s (b .args .from) (t .token .given .0 .0) (t .token .given .0 .1 .0)
+          (blank-step present s (b .args .from) (r .run-end .result) _ (b .pre) (r .run-end .ensures) (omega (arith, o .if1 .left))
+          (number-step present s (r .run-end .result) _ (omega (arith, o .if1 .left)) (begins e) (rw (t .token .given .1) at (n .number .ensures)))),
     )
 
 returns-4 : tie.Need-returns-4

@@ -6,6 +6,8 @@ use lib.ListN.{length}
 use borrow.Author.Tests.{not-true}
 use Rattle.text_lexical.specs.Bytes.{blank}
 use Rattle.text.proofs.Fronts.{run-in}
+use Rattle.text_lexical.specs.Names.{present}
+use Rattle.text.proofs.NameSets.{present-naming}
 use Rattle.image_line.proofs.Places.{two-bytes, three-bytes, four-bytes, register-case}
 use borrow.Author.Needs.{needs}
 use Rattle.image_line.proofs.operand.register_at.Statement.{statement}
@@ -61,7 +63,7 @@ returns-2 c =
     let at = r .run-end .result in
     let z : at + 2 - at ≡ 2 = omega arith in
     let o = past r in
-    rw (c .up-to .ensures) (register-case s (b .args .from) at (at + 2) (c .before .two-bytes .result) (b .pre) (r .run-end .ensures) (omega arith) (omega arith)
+    rw (c .up-to .ensures) (register-case present present-naming s (b .args .from) at (at + 2) (c .before .two-bytes .result) (b .pre) (r .run-end .ensures) (omega arith) (omega arith)
     (sym (t .is-name-part .ensures) ∙ not-true _ (c .before .before .if2 .taken)) (rw (z, two-bytes s at (omega arith)) (c .before .two-bytes .ensures)))
 
 add-fourth : tie.Need-add-fourth
@@ -92,7 +94,7 @@ returns-3 c =
     let at = r .run-end .result in
     let z : at + 3 - at ≡ 3 = omega arith in
     let o = past r in
-    rw (c .up-to2 .ensures) (register-case s (b .args .from) at (at + 3) (c .before .three-bytes .result) (b .pre) (r .run-end .ensures) (omega arith) (omega arith)
+    rw (c .up-to2 .ensures) (register-case present present-naming s (b .args .from) at (at + 3) (c .before .three-bytes .result) (b .pre) (r .run-end .ensures) (omega arith) (omega arith)
     (sym (t .is-name-part2 .ensures) ∙ not-true _ (c .before .before .if3 .taken)) (rw (z, three-bytes s at (omega arith)) (c .before .three-bytes .ensures)))
 
 add-is-name-part : tie.Need-add-is-name-part
@@ -123,7 +125,7 @@ returns-4 c =
     let at = r .run-end .result in
     let z : at + 4 - at ≡ 4 = omega arith in
     let o = past r in
-    rw (c .up-to3 .ensures) (register-case s (b .args .from) at (at + 4) (c .before .four-bytes .result) (b .pre) (r .run-end .ensures) (omega arith) (omega arith)
+    rw (c .up-to3 .ensures) (register-case present present-naming s (b .args .from) at (at + 4) (c .before .four-bytes .result) (b .pre) (r .run-end .ensures) (omega arith) (omega arith)
     (sym (t .is-name-part3 .ensures) ∙ not-true _ (c .before .before .if4 .taken)) (rw (z, four-bytes s at (omega arith)) (c .before .four-bytes .ensures)))
 
 returns-5 : tie.Need-returns-5

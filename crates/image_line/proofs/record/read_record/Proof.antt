@@ -13,6 +13,8 @@ use Rattle.text.specs.Contracts.{firsts}
 use Rattle.text.specs.declared.parser.Line.{Line}
 use Rattle.instruction.specs.Kinds.{kindOf}
 use Rattle.image.specs.Assembling.{Context}
+use Rattle.text_lexical.specs.Names.{present}
+use Rattle.text.proofs.NameSets.{present-naming}
 use Rattle.image_line.specs.Contracts.{kindMeant, contextFor, RecordIs}
 use Rattle.image_line.specs.declared.line.Effect.the-variants.{Nothing}
 use Rattle.image_line.specs.declared.record.LineKind.{LineKind}
@@ -42,10 +44,10 @@ returns c =
     let t = c .before .before in
     let g = t .before in
     let a = g .before .before .args in
-    rw (c .unlabelled .ensures) (line-bad (a .source .now) (a .at) (t .tokenize .result) (t .tokenize .ensures) (contextFor (a .config)) (g .run-end .result) (c .before .if1 .taken) (begins g .0) (begins g .1))
+    rw (c .unlabelled .ensures) (line-bad present present-naming (a .source .now) (a .at) (t .tokenize .result) (t .tokenize .ensures) (contextFor (a .config)) (g .run-end .result) (c .before .if1 .taken) (begins g .0) (begins g .1))
 
 line-kind-requires : tie.Need-line-kind-requires
-line-kind-requires c κs = recorded _ _ _ (c .before .tokenize .ensures)
+line-kind-requires c κs = recorded present present-naming _ _ _ (c .before .tokenize .ensures)
 
 unlabelled-requires-2 : tie.Need-unlabelled-requires-2
 unlabelled-requires-2 c κs = search needs
@@ -54,7 +56,7 @@ enum-told : tie.Need-enum-told
 enum-told c = search needs
 
 read-config-requires : tie.Need-read-config-requires
-read-config-requires c κs = recorded _ _ _ (c .before .before .before .before .tokenize .ensures)
+read-config-requires c κs = recorded present present-naming _ _ _ (c .before .before .before .before .tokenize .ensures)
 
 unlabelled-requires-3 : tie.Need-unlabelled-requires-3
 unlabelled-requires-3 c κs = search needs
@@ -66,7 +68,7 @@ read-label-requires : tie.Need-read-label-requires
 read-label-requires c κs =
     let k = c .before .before in
     let t = k .before .before in
-    (record { recorded = recorded _ _ _ (t .tokenize .ensures); is-label = rw (c .enum-told2 .given .1) at (k .line-kind .ensures) }, t .before .before .before .pre .1)
+    (record { recorded = recorded present present-naming _ _ _ (t .tokenize .ensures); is-label = rw (c .enum-told2 .given .1) at (k .line-kind .ensures) }, t .before .before .before .pre .1)
 
 enum-told-3 : tie.Need-enum-told-3
 enum-told-3 c = search needs
@@ -74,7 +76,7 @@ enum-told-3 c = search needs
 read-instruction-requires : tie.Need-read-instruction-requires
 read-instruction-requires c κs =
     let t = c .before .before .before .before in
-    (recorded _ _ _ (t .tokenize .ensures), (omega arith, t .before .before .before .pre .1))
+    (recorded present present-naming _ _ _ (t .tokenize .ensures), (omega arith, t .before .before .before .pre .1))
 
 unlabelled-requires-4 : tie.Need-unlabelled-requires-4
 unlabelled-requires-4 c κs = search needs
@@ -99,7 +101,7 @@ returns-2 c =
     let a = g .before .before .args in
     let x = contextFor (a .config) in
     rw (c .unlabelled2 .ensures)
-    (line-record (a .source .now) (a .at) (t .tokenize .result) (t .tokenize .ensures) x (g .run-end .result) _ (k .before .if1 .left) (begins g .0)
+    (line-record present present-naming (a .source .now) (a .at) (t .tokenize .result) (t .tokenize .ensures) x (g .run-end .result) _ (k .before .if1 .left) (begins g .0)
     (record-quiet (a .source .now) (t .tokenize .result) x (g .run-end .result) (begins g .1) (k .line-kind .result) (c .before .match .keys1) (k .line-kind .ensures)))
 
 returns-3 : tie.Need-returns-3
@@ -112,7 +114,7 @@ returns-3 c =
     let a = g .before .before .args in
     let x = contextFor (a .config) in
     rw (c .unlabelled3 .ensures)
-    (line-record (a .source .now) (a .at) (t .tokenize .result) (t .tokenize .ensures) x (g .run-end .result) _ (k .before .if1 .left) (begins g .0)
+    (line-record present present-naming (a .source .now) (a .at) (t .tokenize .result) (t .tokenize .ensures) x (g .run-end .result) _ (k .before .if1 .left) (begins g .0)
     (record-config (a .source .now) (t .tokenize .result) x (g .run-end .result) (begins g .1) (f .read-config .result) (rw (e .enum-told .given .1) at (k .line-kind .ensures)) (f .read-config .ensures)))
 
 returns-4 : tie.Need-returns-4
@@ -124,7 +126,7 @@ returns-4 c =
     let x = contextFor (a .config) in
     let l = t .tokenize .result in
     let two = two-tokens (a .source .now) (l .tokens) (l .count) _ (rw (c .before .enum-told2 .given .1) at (k .line-kind .ensures)) in
-    line-record (a .source .now) (a .at) l (t .tokenize .ensures) x _ _ (k .before .if1 .left) (first-starts (a .source .now) (a .at) l (t .tokenize .ensures) x (omega (arith, two))) (c .read-label .ensures x)
+    line-record present present-naming (a .source .now) (a .at) l (t .tokenize .ensures) x _ _ (k .before .if1 .left) (first-starts present present-naming (a .source .now) (a .at) l (t .tokenize .ensures) x (omega (arith, two))) (c .read-label .ensures x)
 
 returns-5 : tie.Need-returns-5
 returns-5 c =
@@ -136,7 +138,7 @@ returns-5 c =
     let a = g .before .before .args in
     let x = contextFor (a .config) in
     rw (c .unlabelled4 .ensures)
-    (line-record (a .source .now) (a .at) (t .tokenize .result) (t .tokenize .ensures) x (g .run-end .result) _ (k .before .if1 .left) (begins g .0)
+    (line-record present present-naming (a .source .now) (a .at) (t .tokenize .result) (t .tokenize .ensures) x (g .run-end .result) _ (k .before .if1 .left) (begins g .0)
     (record-plain (a .source .now) (t .tokenize .result) x (g .run-end .result) (begins g .1) (f .read-instruction .result) (rw (e .enum-told3 .given .1) at (k .line-kind .ensures)) (f .read-instruction .ensures)))
 
 pub read-record-spec : {M : Type 1} → statement M
