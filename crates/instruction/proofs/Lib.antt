@@ -9,3 +9,4 @@ pub mod Decoding
 pub mod Meaning
 pub mod Reading
 pub mod Text
+pub mod Forms

@@ -5,3 +5,4 @@ pub mod Words
 pub mod Fits
 pub mod Text
 pub mod Contracts
+pub mod Forms

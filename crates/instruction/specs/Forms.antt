@@ -1,0 +1,41 @@
+-- The operands of a form as the code describes them: a digit each. These definitions follow the code; what a form's operands are is
+-- `places` of Table.
+use Prim.Native.Nat.{ℕ, _/_, _%_, _<_}
+use mathlib.Core.Path.{_≡_}
+use mathlib.Core.Bool.{Bool, true, false, _||_}
+use mathlib.Core.List.{List, [], _∷_, _++_}
+use lib.ListN.{getD}
+use lib.Dec.{eqb}
+use Rattle.instruction.specs.Table.{Place, reg, num, comma-place, opening-place, closing-place}
+use Rattle.instruction.specs.declared.form.Mark.{Mark}
+use Rattle.instruction.specs.declared.form.Mark.the-variants.{Nothing, Is}
+
+-- The digits: 1 a register and a comma, 2 a number and an opening, 3 a register and a closing, 4 a register, 5 a number. Whether a
+-- digit is a number's, and the mark after its operand.
+unfoldable pub isNumber : ℕ → Bool
+isNumber d = eqb d 2 || eqb d 5
+
+unfoldable pub markOf : ℕ → Mark
+markOf d = getD (Nothing ∷ Is 44 19 ∷ Is 40 20 ∷ Is 41 21 ∷ []) d Nothing
+
+-- A place for a number, or for a register.
+pub data OperandPlace : Bool → Place → Type 0 where
+  number-place : {bit width : ℕ} {signed : Bool} → OperandPlace true (num bit width signed)
+  register-place : {bit : ℕ} → OperandPlace false (reg bit)
+
+-- A place for the mark of a byte, and the number by which it refuses another token.
+pub data MarkPlace : Place → ℕ → ℕ → Type 0 where
+  a-comma : MarkPlace comma-place 44 19
+  an-opening : MarkPlace opening-place 40 20
+  a-closing : MarkPlace closing-place 41 21
+
+-- The place of a mark that follows an operand, if one does.
+pub data MarkPlaces : Mark → List Place → Type 0 where
+  no-mark : MarkPlaces Nothing []
+  one-mark : {p : Place} {byte refusal : ℕ} → MarkPlace p byte refusal → MarkPlaces (Is byte refusal) (p ∷ [])
+
+-- The places of a form from an operand on, and the digits for them: the next is the lowest.
+pub data Ahead : List Place → ℕ → Type 0 where
+  no-more : {left : ℕ} → left ≡ 0 → Ahead [] left
+  operand : {left : ℕ} {p : Place} {ms ps qs : List Place} → 0 < left → OperandPlace (isNumber (left % 8)) p → MarkPlaces (markOf (left % 8)) ms
+      → Ahead ps (left / 8) → qs ≡ p ∷ (ms ++ ps) → Ahead qs left
