@@ -1,3 +1,4 @@
+pub mod Reaching
 pub mod Steps
 pub mod Passes
 pub mod Scanning

@@ -10,7 +10,7 @@ use lib.Dec.{eqb}
 use borrow.Author.Tests.{eq-eqb, ne-eqb}
 use native.Mathlib.Numerals.{add-one}
 use Rattle.text_lexical.specs.Numbers.{little}
-use Rattle.text_lexical.specs.Names.{present}
+use Rattle.text_lexical.specs.Names.{Name}
 use Rattle.text.specs.Lines.{extended, lines, readLine}
 use Rattle.text.specs.Lines.{Line as Record}
 use Rattle.text.specs.Places.{restAt, endAt}
@@ -87,61 +87,61 @@ flat-append f [] ys = refl
 flat-append f (x ∷ xs) ys = ap (λ (l : List ℕ). f x ++ l) (flat-append f xs ys) ∙ sym (append-assoc (f x) (flatMap f xs) (flatMap f ys))
 
 -- The bytes of the words of some lines, where the settings are these.
-unfoldable pub lineBytes : Settings → List (List ℕ) → List ℕ
-lineBytes setup ls = flatMap (little 4) (map wordOf (codedIn (readsFrom present (record { setup = setup }) ls)))
+unfoldable pub lineBytes : List Name → Settings → List (List ℕ) → List ℕ
+lineBytes names setup ls = flatMap (little 4) (map wordOf (codedIn (readsFrom names (record { setup = setup }) ls)))
 
 -- The effect of the first of them, and the settings after it.
-abbrev firstEffect : Settings → List ℕ → Effect
-firstEffect setup l = readOn (record { setup = setup }) (readLine present l) .effect
+abbrev firstEffect : List Name → Settings → List ℕ → Effect
+firstEffect names setup l = readOn (record { setup = setup }) (readLine names l) .effect
 
-bytes-cons : (setup : Settings) (l : List ℕ) (ls : List (List ℕ))
-    → lineBytes setup (l ∷ ls) ≡ flatMap (little 4) (map wordOf (codedBy (firstEffect setup l))) ++ lineBytes (changedBy setup (firstEffect setup l)) ls
+bytes-cons : (names : List Name) (setup : Settings) (l : List ℕ) (ls : List (List ℕ))
+    → lineBytes names setup (l ∷ ls) ≡ flatMap (little 4) (map wordOf (codedBy (firstEffect names setup l))) ++ lineBytes names (changedBy setup (firstEffect names setup l)) ls
 unfolding lineBytes codedIn readsFrom contextAfter flatMap
-bytes-cons setup l ls =
-    let rest = codedIn (readsFrom present (record { setup = changedBy setup (firstEffect setup l) }) ls) in
-    ap (flatMap (little 4)) (map-append wordOf (codedBy (firstEffect setup l)) rest)
-    ∙ flat-append (little 4) (map wordOf (codedBy (firstEffect setup l))) (map wordOf rest)
+bytes-cons names setup l ls =
+    let rest = codedIn (readsFrom names (record { setup = changedBy setup (firstEffect names setup l) }) ls) in
+    ap (flatMap (little 4)) (map-append wordOf (codedBy (firstEffect names setup l)) rest)
+    ∙ flat-append (little 4) (map wordOf (codedBy (firstEffect names setup l))) (map wordOf rest)
 
 -- The words of the lines before a place are written, and the settings there are these.
-pub record Worded (old s m : List ℕ) (place at : ℕ) (c : Config) : Type 0 where
+pub record Worded (names : List Name) (old s m : List ℕ) (place at : ℕ) (c : Config) : Type 0 where
   pub in-text : at ≤ length s
-  pub readable : allRead (lines (drop at s)) ≡ true
+  pub readable : allRead names (lines (drop at s)) ≡ true
   pub front : List ℕ
-  pub whole : codeBytes s ≡ front ++ lineBytes (settingsMeant c) (lines (drop at s))
+  pub whole : codeBytes names s ≡ front ++ lineBytes names (settingsMeant c) (lines (drop at s))
   pub so-far : Written old 32 front place m
 
-pub worded-none : (old s : List ℕ) (c : Config) → settingsMeant c ≡ begin → Readable s → Worded old s old 32 0 c
+pub worded-none : (names : List Name) (old s : List ℕ) (c : Config) → settingsMeant c ≡ begin → Readable names s → Worded names old s old 32 0 c
 unfolding codeBytes lineBytes instructionsOf reads
-worded-none old s c e h = record { in-text = omega arith; readable = h; front = []; whole = rw e; so-far = written-none old 32 }
+worded-none names old s c e h = record { in-text = omega arith; readable = h; front = []; whole = rw e; so-far = written-none old 32 }
 
 -- A line and those behind it.
 pub line-split : (s : List ℕ) (at : ℕ) → at ≤ length s → (rest : List (List ℕ)) × (lines (drop at s) ≡ restAt s at ∷ rest)
 line-split s at h = split (endAt s at) (length s) (λ l. (_, line-at s at h l)) (λ l. (_, last-line s at h l))
 
 -- A line that can be read has no bad token, and others behind it can be read too.
-read-on : (l : List ℕ) (ls : List (List ℕ)) → allRead (l ∷ ls) ≡ true → (readLine present l ≡ none → ⊥) × (allRead ls ≡ true)
+read-on : (names : List Name) (l : List ℕ) (ls : List (List ℕ)) → allRead names (l ∷ ls) ≡ true → (readLine names l ≡ none → ⊥) × (allRead names ls ≡ true)
 unfolding allRead
-read-on l ls h = go (readLine present l) h
+read-on names l ls h = go (readLine names l) h
   where
-    go : (o : Option Record) → elim o [ none ↦ false | some _ ↦ allRead ls ] ≡ true → (o ≡ none → ⊥) × (allRead ls ≡ true)
+    go : (o : Option Record) → elim o [ none ↦ false | some _ ↦ allRead names ls ] ≡ true → (o ≡ none → ⊥) × (allRead names ls ≡ true)
     go none e = absurd (true≢false (sym e))
     go (some r) e = (λ z. no-record z, e)
       where
         no-record : {r : Record} → _≡_ {A = Option Record} (some r) none → ⊥
         no-record z = let y : _≡_ {A = ℕ} 0 1 = cc in absurd (omega arith)
 
-module _ {old s m : List ℕ} {place at : ℕ} {c : Config} (d : Worded old s m place at c) (room : 32 + length (codeBytes s) ≤ length old) where
-  module _ (r : CodedLine) (h : CodesLine s at (settingsMeant c) r) where
+module _ {names : List Name} {old s m : List ℕ} {place at : ℕ} {c : Config} (d : Worded names old s m place at c) (room : 32 + length (codeBytes names s) ≤ length old) where
+  module _ (r : CodedLine) (h : CodesLine names s at (settingsMeant c) r) where
     -- its word, and the settings after it
     abbrev word : List ℕ
     word = flatMap (little 4) (codedMeant (r .coded))
 
-    here : readLine present (restAt s at) ≡ none → ⊥
-    here = let (rest, q) = line-split s at (d .in-text) in read-on (restAt s at) rest (rw q at (d .readable)) .0
+    here : readLine names (restAt s at) ≡ none → ⊥
+    here = let (rest, q) = line-split s at (d .in-text) in read-on names (restAt s at) rest (rw q at (d .readable)) .0
 
     ends : r .end ≡ endAt s at
     unfolding endOf
-    ends = h .ends ∙ go (readLine present (restAt s at)) here
+    ends = h .ends ∙ go (readLine names (restAt s at)) here
       where
         go : (o : Option Record) → (o ≡ none → ⊥) → elim o [ none ↦ at | some x ↦ endAt s at ] ≡ endAt s at
         go none k = absurd (k refl)
@@ -153,39 +153,39 @@ module _ {old s m : List ℕ} {place at : ℕ} {c : Config} (d : Worded old s m 
     ends-behind = omega (arith, ends)
 
     -- what is written, the line's word and the rest
-    parted : (rest : List (List ℕ)) → lines (drop at s) ≡ restAt s at ∷ rest → codeBytes s ≡ d .front ++ (word ++ lineBytes (settingsMeant (r .config)) rest)
+    parted : (rest : List (List ℕ)) → lines (drop at s) ≡ restAt s at ∷ rest → codeBytes names s ≡ d .front ++ (word ++ lineBytes names (settingsMeant (r .config)) rest)
     parted rest q =
-        let w : flatMap (little 4) (map wordOf (codedBy (effectAt s at (settingsMeant c)))) ≡ word = ap (flatMap (little 4)) (sym (h .words)) in
-        d .whole ∙ ap (λ (ls : List (List ℕ)). d .front ++ lineBytes (settingsMeant c) ls) q ∙ ap (λ (x : List ℕ). d .front ++ x) (bytes-cons (settingsMeant c) (restAt s at) rest)
-        ∙ ap (λ (x : List ℕ). d .front ++ (x ++ lineBytes (changedBy (settingsMeant c) (effectAt s at (settingsMeant c))) rest)) w
-        ∙ ap (λ (x : Settings). d .front ++ (word ++ lineBytes x rest)) (sym (h .settings))
+        let w : flatMap (little 4) (map wordOf (codedBy (effectAt names s at (settingsMeant c)))) ≡ word = ap (flatMap (little 4)) (sym (h .words)) in
+        d .whole ∙ ap (λ (ls : List (List ℕ)). d .front ++ lineBytes names (settingsMeant c) ls) q ∙ ap (λ (x : List ℕ). d .front ++ x) (bytes-cons names (settingsMeant c) (restAt s at) rest)
+        ∙ ap (λ (x : List ℕ). d .front ++ (x ++ lineBytes names (changedBy (settingsMeant c) (effectAt names s at (settingsMeant c))) rest)) w
+        ∙ ap (λ (x : Settings). d .front ++ (word ++ lineBytes names x rest)) (sym (h .settings))
 
     -- the word has room
     pub worded-room : place + length word ≤ length m
     worded-room =
         let (rest, q) = line-split s at (d .in-text) in
         room-before m place word _
-        (room-behind (d .so-far) (word ++ lineBytes (settingsMeant (r .config)) rest) (omega (arith, ap length (parted rest q))))
+        (room-behind (d .so-far) (word ++ lineBytes names (settingsMeant (r .config)) rest) (omega (arith, ap length (parted rest q))))
 
     module _ {m′ : List ℕ} {q : ℕ} (w : Written m place word q m′) where
       -- and is written behind the others
-      pub worded-more : r .end < length s → Worded old s m′ q (r .end + 1) (r .config)
+      pub worded-more : r .end < length s → Worded names old s m′ q (r .end + 1) (r .config)
       worded-more k =
           let v = line-at s at (d .in-text) (rw (← ends) k) in
           let n : suc (endAt s at) ≡ r .end + 1 = omega (arith, ends) in
           let v′ : lines (drop at s) ≡ restAt s at ∷ lines (drop (r .end + 1) s) = v ∙ ap (λ (x : ℕ). restAt s at ∷ lines (drop x s)) n in
           record {
             in-text = omega arith;
-            readable = read-on (restAt s at) (lines (drop (r .end + 1) s)) (rw v′ at (d .readable)) .1;
+            readable = read-on names (restAt s at) (lines (drop (r .end + 1) s)) (rw v′ at (d .readable)) .1;
             front = d .front ++ word;
             whole = parted (lines (drop (r .end + 1) s)) v′ ∙ sym (append-assoc (d .front) word _);
-            so-far = written-append (d .so-far) (omega (arith, ap length (d .whole), length-append (d .front) (lineBytes (settingsMeant c) (lines (drop at s))))) w;
+            so-far = written-append (d .so-far) (omega (arith, ap length (d .whole), length-append (d .front) (lineBytes names (settingsMeant c) (lines (drop at s))))) w;
           }
 
       -- behind the last line all are written
-      pub worded-all : length s ≤ r .end → Written old 32 (codeBytes s) q m′
+      pub worded-all : length s ≤ r .end → Written old 32 (codeBytes names s) q m′
       unfolding lineBytes codedIn readsFrom flatMap
       worded-all k =
           let v = last-line s at (d .in-text) (rw (← ends) k) in
-          let t : codeBytes s ≡ d .front ++ word = parted [] v ∙ ap (λ (x : List ℕ). d .front ++ x) (append-nil word) in
-          rw t (written-append (d .so-far) (omega (arith, ap length (d .whole), length-append (d .front) (lineBytes (settingsMeant c) (lines (drop at s))))) w)
+          let t : codeBytes names s ≡ d .front ++ word = parted [] v ∙ ap (λ (x : List ℕ). d .front ++ x) (append-nil word) in
+          rw t (written-append (d .so-far) (omega (arith, ap length (d .whole), length-append (d .front) (lineBytes names (settingsMeant c) (lines (drop at s))))) w)

@@ -1,97 +1,111 @@
--- Laws of the first walk: what a line that has been reached leads to, and what a label leads to that is entered or refused.
-use Prim.Native.Nat.{ℕ, suc, _+_, _*_, _≤_, _<_}
-use mathlib.Core.Path.{_≡_, refl, sym, ap, ap₂, _∙_}
+-- Laws of the first walk. First what document 01's walk does at a line that has been reached and at a label that is entered or refused;
+-- then that the pieces of the first walk do the same; last, that the code's loop follows the pieces.
+use Prim.Native.Nat.{ℕ, zero, suc, _+_, _*_, _≤_, _<_}
+use mathlib.Core.Path.{_≡_, refl, sym, ap, ap₂, subst, _∙_}
 use native.Mathlib.Omega.{arith}
 use native.Mathlib.Numerals.{add-one}
 use mathlib.Core.Bool.{Bool, true, false}
 use mathlib.Core.Option.{Option, none, some}
 use mathlib.Core.List.{List, [], _∷_, _++_}
-use lib.ListN.{length, take, drop, length-append}
+use lib.ListN.{length, take, drop, length-append, length-take, length-drop}
 use lib.Dec.{ltb}
 use borrow.Author.Tests.{lt-ltb, le-ltb}
-use Rattle.text_lexical.specs.Names.{present}
+use Rattle.text_lexical.specs.Names.{Name}
 use Rattle.text_lexical.proofs.Tests.{split}
 use Rattle.text.specs.Lines.{lines, indent, readLine}
 use Rattle.text.specs.Places.{restAt, endAt}
 use Rattle.text.proofs.Lines.{line-at, last-line}
 use Rattle.image.specs.Settings.{Settings}
 use Rattle.image.specs.Program.{entry}
-use Rattle.image.specs.Assembling.{State, Step, next, stop, isKnown, withLabel, enter, Read as MeantRead, readOn, changedBy, entering, doing, step, contextOf, Walk, finished, stopped, walk, rustLine, refusing, readTo}
+use Rattle.image.specs.Assembling.{State, Step, next, stop, isKnown, withLabel, enter, Effect as MeantEffect, Read as MeantRead, readOn, changedBy, entering, doing, step, contextOf, Walk, finished, stopped, walk, rustLine, refusing, readTo}
 use Rattle.image.specs.Assembling.{Label as Meant}
 use Rattle.image.specs.Meaning.{codedBy}
 use Rattle.image.specs.Contracts.{settingsMeant}
 use Rattle.image.specs.declared.config.Config.{Config}
-use Rattle.image_labels.specs.Contracts.{spelled, entryFault}
+use Rattle.image_labels.specs.Contracts.{spelled, entryFault, enteredMeant}
+use Rattle.image_labels.specs.declared.label.Entered.{Entered}
 use Rattle.image_labels.specs.declared.label.Entered.the-variants.{New, Duplicate, Full}
-use Rattle.image_line.specs.Contracts.{contextFor, labelIf, LineIs}
+use Rattle.image_line.specs.Contracts.{contextFor, effectMeant, labelIf, LineIs}
 use Rattle.image_line.specs.declared.line.Read.{Read}
-use Rattle.image_passes.specs.Contracts.{effectAt, grown, RestDone, RestIs, whole, Clean, Reached, LabelNext, WalkEnds, LineNext, refusedAt, finishedWith, labelPass, RestFits, Sound, Scannable, ReadsOn, labelAt, GoesOn}
+use Rattle.image_passes.specs.Contracts.{readAt, effectAt, restFor, WalkEnds, lineRefused, finishedWith, labelPass, scanned, scannedFrom, resumed, lineAfter, followed, RestFits, Sound, ScannableNext, Scannable, ReadsOn, GoesOn}
+use Rattle.image_passes.specs.declared.first_pass.Next.{Next}
 use Rattle.image_passes.specs.declared.first_pass.Next.the-variants.{From, Ended as NextEnded}
 use Rattle.image_passes.specs.declared.first_pass.Cursor.{Cursor}
+use Rattle.image_passes.specs.declared.first_pass.Pass.{Pass}
 use Rattle.image_passes.specs.declared.first_pass.Pass.the-variants.{Ended as PassEnded}
 use Rattle.image_passes.specs.declared.first_pass.Outcome.{Outcome}
 use Rattle.image_passes.specs.declared.first_pass.LabelLine.{LabelLine}
 use Rattle.image_passes.specs.declared.first_pass.Rest.{Rest}
 use Rattle.image_passes.specs.declared.first_pass.Rest.the-variants.{Refused, Done}
-use Rattle.image_passes.proofs.Steps.{rest-is, rest-fits}
+use Rattle.image_passes.proofs.Reaching.{comesTo, whole, Clean, Reached, LabelNext, Progress, LineNext, Resumes, withEntry, labelAt}
+use Rattle.image_passes.proofs.Passes.{line-split}
+use Rattle.image_passes.proofs.Steps.{grown, RestDone, rest-is, rest-fits, comes-to}
 
 -- ---- after a line
 
 -- What is after a line that ends at a place, by what it leads to: the next line, if there is one.
-unfoldable afterLine : List ℕ → ℕ → ℕ → ℕ → Step → Walk
-afterLine s room line end (stop n st) = stopped n line st
-afterLine s room line end (next st) =
-    elim (ltb end (length s)) [ true ↦ walk present room (suc line) (suc end) st (lines (drop (suc end) s)) | false ↦ finished st ]
+unfoldable afterLine : List Name → List ℕ → ℕ → ℕ → ℕ → Step → Walk
+afterLine names s room line end (stop n st) = stopped n line st
+afterLine names s room line end (next st) =
+    elim (ltb end (length s)) [ true ↦ walk names room (suc line) (suc end) st (lines (drop (suc end) s)) | false ↦ finished st ]
 
 -- A line whose label, if it has one, is entered: what is left is what it does.
-record Doing (s : List ℕ) (room line at : ℕ) (labels : List Meant) (words : ℕ) (setup : Settings) : Type 0 where
-  pub clean : Clean s room
+record Doing (names : List Name) (s : List ℕ) (room line at : ℕ) (labels : List Meant) (words : ℕ) (c : Config) : Type 0 where
+  pub clean : Clean names s room
   pub state : State
-  pub comes : whole s room ≡ afterLine s room line (endAt s at) (doing (effectAt s at setup) (next state))
+  pub comes : whole names s room ≡ afterLine names s room line (endAt s at) (doing (effectAt names s at (settingsMeant c)) (next state))
   pub labels-are : state .labels ≡ labels
   pub words-are : length (state .instructions) ≡ words
-  pub setup-is : state .setup ≡ setup
+  pub setup-is : state .setup ≡ settingsMeant c
 
 -- The walk has ended with the refusal of a line.
-ends-refused : {s : List ℕ} {room line n labels : ℕ} {ls : List Meant} → labels ≡ length ls → Clean s room → (st : State) → whole s room ≡ stopped n line st → st .labels ≡ ls
-    → WalkEnds s room ls (refusedAt n (rustLine n line) line labels)
+ends-refused : {names : List Name} {s : List ℕ} {room line n labels : ℕ} {ls : List Meant} → labels ≡ length ls → Clean names s room → (st : State) → whole names s room ≡ stopped n line st
+    → st .labels ≡ ls → WalkEnds names s room ls (lineRefused n line labels)
 unfolding readTo
-ends-refused {s} {room} {line} {n} count c st e l =
+ends-refused {line = line} {n = n} count c st e l =
     record { count = count; judges = c ∙ ap readTo e ∙ ap (λ (x : List Meant). refusing n (rustLine n line) line x none) l }
 
-module _ {s : List ℕ} {room line at : ℕ} {ls : List Meant} {words : ℕ} {setup : Settings} (d : Doing s room line at ls words setup) where
+module _ {names : List Name} {s : List ℕ} {room line at : ℕ} {ls : List Meant} {words : ℕ} {c : Config} (d : Doing names s room line at ls words c) where
   -- The line is refused.
-  doing-refused : {n labels : ℕ} → RestIs s at words setup (Refused n) → labels ≡ length ls → WalkEnds s room ls (refusedAt n (rustLine n line) line labels)
+  doing-refused : {n labels : ℕ} → comesTo names s at words c ≡ Refused n → labels ≡ length ls → WalkEnds names s room ls (lineRefused n line labels)
   unfolding afterLine
-  doing-refused h count =
-      ends-refused count (d .clean) (d .state) (d .comes ∙ ap (afterLine s room line (endAt s at)) (h (d .state) (d .words-are))) (d .labels-are)
+  doing-refused e count =
+      let h = rw e at (rest-is words c (endAt s at) (effectAt names s at (settingsMeant c))) in
+      ends-refused count (d .clean) (d .state) (d .comes ∙ ap (afterLine names s room line (endAt s at)) (h (d .state) (d .words-are))) (d .labels-are)
 
   -- It is not.
-  module _ {words′ end : ℕ} {c : Config} (h : RestDone s at words setup words′ c end) where
-    abbrev after : State
-    after = grown (d .state) (effectAt s at setup)
+  module _ {words′ end : ℕ} {c′ : Config} (e : comesTo names s at words c ≡ Done words′ c′ end) where
+    abbrev effect : MeantEffect
+    effect = effectAt names s at (settingsMeant c)
 
-    comes-after : whole s room ≡ afterLine s room line end (next after)
+    done : RestDone effect words c (endAt s at) words′ c′ end
+    done = rw e at (rest-is words c (endAt s at) effect)
+
+    abbrev after : State
+    after = grown (d .state) effect
+
+    comes-after : whole names s room ≡ afterLine names s room line end (next after)
     comes-after =
-        d .comes ∙ ap (afterLine s room line (endAt s at)) (h .does (d .state) (d .words-are)) ∙ ap (λ (e : ℕ). afterLine s room line e (next after)) (sym (h .ends))
+        d .comes ∙ ap (afterLine names s room line (endAt s at)) (done .does (d .state) (d .words-are))
+        ∙ ap (λ (n : ℕ). afterLine names s room line n (next after)) (sym (done .ends))
 
     after-words : length (after .instructions) ≡ words′
-    after-words = length-append (d .state .instructions) (codedBy (effectAt s at setup)) ∙ omega (arith, h .counts, d .words-are)
+    after-words = length-append (d .state .instructions) (codedBy effect) ∙ omega (arith, done .counts, d .words-are)
 
-    after-setup : after .setup ≡ settingsMeant c
-    after-setup = ap (λ (x : Settings). changedBy x (effectAt s at setup)) (d .setup-is) ∙ sym (h .settings)
+    after-setup : after .setup ≡ settingsMeant c′
+    after-setup = ap (λ (x : Settings). changedBy x effect) (d .setup-is) ∙ sym (done .settings)
 
     -- It is the last line,
-    doing-last : {labels : ℕ} → length s ≤ end → labels ≡ length ls → WalkEnds s room ls (finishedWith labels words′ c)
+    doing-last : {labels : ℕ} → length s ≤ end → labels ≡ length ls → WalkEnds names s room ls (finishedWith labels words′ c′)
     unfolding afterLine readTo
     doing-last z count =
-        let e : whole s room ≡ finished after = comes-after ∙ rw (afterLine, le-ltb end (length s) z) in
+        let q : whole names s room ≡ finished after = comes-after ∙ rw (afterLine, le-ltb end (length s) z) in
         record {
           count = count;
           judges =
               record {
                 state = after;
-                accepts = d .clean ∙ ap readTo e;
+                accepts = d .clean ∙ ap readTo q;
                 labels-are = d .labels-are;
                 words-are = after-words;
                 setup-is = after-setup;
@@ -99,13 +113,13 @@ module _ {s : List ℕ} {room line at : ℕ} {ls : List Meant} {words : ℕ} {se
         }
 
     -- or there is another after it.
-    doing-on : end < length s → Reached s room (line + 1) (end + 1) ls words′ (settingsMeant c)
+    doing-on : end < length s → Reached names s room (suc line) (suc end) ls words′ c′
     unfolding afterLine
     doing-on z =
         record {
           clean = d .clean;
           state = after;
-          on = rw (add-one line, add-one end) (sym (comes-after ∙ rw (afterLine, lt-ltb end (length s) z)));
+          on = sym (comes-after ∙ rw (afterLine, lt-ltb end (length s) z));
           labels-are = d .labels-are;
           words-are = after-words;
           setup-is = after-setup;
@@ -113,149 +127,134 @@ module _ {s : List ℕ} {room line at : ℕ} {ls : List Meant} {words : ℕ} {se
 
 -- ---- a line that has been reached
 
-module _ {s : List ℕ} {room line at : ℕ} {ls : List Meant} {words : ℕ} {setup : Settings} (q : Reached s room line at ls words setup) (inside : at ≤ length s) where
+module _ {names : List Name} {s : List ℕ} {room line at : ℕ} {ls : List Meant} {words : ℕ} {c : Config} (q : Reached names s room line at ls words c) (inside : at ≤ length s) where
   abbrev place : ℕ
   place = at + indent (restAt s at)
 
   abbrev reads : MeantRead
-  reads = readOn (record { setup = setup }) (readLine present (restAt s at))
+  reads = readAt names s at (settingsMeant c)
 
   abbrev stepped : Step
-  stepped = step room (q .state) place (readOn (contextOf (q .state)) (readLine present (restAt s at)))
+  stepped = step room (q .state) place (readOn (contextOf (q .state)) (readLine names (restAt s at)))
 
   next-place : at + suc (length (restAt s at)) ≡ suc (endAt s at)
   unfolding endAt
   next-place = omega arith
 
   -- what it leads to, if it is not the last one,
-  there : endAt s at < length s → walk present room line at (q .state) (lines (drop at s)) ≡ afterLine s room line (endAt s at) stepped
+  there : endAt s at < length s → walk names room line at (q .state) (lines (drop at s)) ≡ afterLine names s room line (endAt s at) stepped
   unfolding walk afterLine
-  there b = ap (walk present room line at (q .state)) (line-at s at inside b) ∙ go stepped
+  there b = ap (walk names room line at (q .state)) (line-at s at inside b) ∙ go stepped
     where
-      go : (d : Step) → elim d [ next st ↦ walk present room (suc line) (at + suc (length (restAt s at))) st (lines (drop (suc (endAt s at)) s)) | stop n st ↦ stopped n line st ]
-          ≡ afterLine s room line (endAt s at) d
+      go : (d : Step) → elim d [ next st ↦ walk names room (suc line) (at + suc (length (restAt s at))) st (lines (drop (suc (endAt s at)) s)) | stop n st ↦ stopped n line st ]
+          ≡ afterLine names s room line (endAt s at) d
       go (stop n st) = refl
       go (next st) = rw (afterLine, lt-ltb (endAt s at) (length s) b, next-place)
 
   -- and if it is
-  at-last : length s ≤ endAt s at → walk present room line at (q .state) (lines (drop at s)) ≡ afterLine s room line (endAt s at) stepped
+  at-last : length s ≤ endAt s at → walk names room line at (q .state) (lines (drop at s)) ≡ afterLine names s room line (endAt s at) stepped
   unfolding walk afterLine
-  at-last b = ap (walk present room line at (q .state)) (last-line s at inside b) ∙ go stepped
+  at-last b = ap (walk names room line at (q .state)) (last-line s at inside b) ∙ go stepped
     where
-      go : (d : Step) → elim d [ next st ↦ walk present room (suc line) (at + suc (length (restAt s at))) st [] | stop n st ↦ stopped n line st ] ≡ afterLine s room line (endAt s at) d
+      go : (d : Step) → elim d [ next st ↦ walk names room (suc line) (at + suc (length (restAt s at))) st [] | stop n st ↦ stopped n line st ] ≡ afterLine names s room line (endAt s at) d
       go (stop n st) = refl
       go (next st) = rw (afterLine, le-ltb (endAt s at) (length s) b)
 
-  line-comes : whole s room ≡ afterLine s room line (endAt s at) (step room (q .state) place reads)
+  line-comes : whole names s room ≡ afterLine names s room line (endAt s at) (step room (q .state) place reads)
   unfolding contextOf
   line-comes =
       sym (q .on) ∙ split (endAt s at) (length s) there at-last
-      ∙ ap (λ (x : Settings). afterLine s room line (endAt s at) (step room (q .state) place (readOn (record { setup = x }) (readLine present (restAt s at))))) (q .setup-is)
+      ∙ ap (λ (x : Settings). afterLine names s room line (endAt s at) (step room (q .state) place (readOn (record { setup = x }) (readLine names (restAt s at))))) (q .setup-is)
+
+  label-comes : {o : Option (List ℕ)} → reads .label ≡ o → whole names s room ≡ afterLine names s room line (endAt s at) (doing (reads .effect) (entering room (q .state) place o))
+  unfolding step
+  label-comes e = line-comes ∙ ap (λ (o : Option (List ℕ)). afterLine names s room line (endAt s at) (doing (reads .effect) (entering room (q .state) place o))) e
 
   -- A line without a label.
-  plain-doing : reads .label ≡ none → Doing s room line at ls words setup
-  unfolding step entering
+  plain-doing : reads .label ≡ none → Doing names s room line at ls words c
+  unfolding entering
   plain-doing e =
-      record {
-        clean = q .clean;
-        state = q .state;
-        comes = line-comes ∙ ap (λ (o : Option (List ℕ)). afterLine s room line (endAt s at) (doing (effectAt s at setup) (entering room (q .state) place o))) e;
-        labels-are = q .labels-are;
-        words-are = q .words-are;
-        setup-is = q .setup-is;
-      }
+      record { clean = q .clean; state = q .state; comes = label-comes e; labels-are = q .labels-are; words-are = q .words-are; setup-is = q .setup-is }
 
-  -- A line with one.
-  label-comes : {u : List ℕ} → reads .label ≡ some u → whole s room ≡ afterLine s room line (endAt s at) (doing (effectAt s at setup) (enter room (q .state) place u))
-  unfolding step entering
-  label-comes e = line-comes ∙ ap (λ (o : Option (List ℕ)). afterLine s room line (endAt s at) (doing (effectAt s at setup) (entering room (q .state) place o))) e
+-- ---- reading on
 
--- ---- from line to line
+-- A label is spelled as the part of the source that its line's content begins with.
+pub record Spells (names : List Name) (s : List ℕ) : Type 0 where
+  pub part : (at : ℕ) (setup : Settings) (u : List ℕ) → readAt names s at setup .label ≡ some u → u ≡ take (length u) (drop (at + indent (restAt s at)) s)
 
--- What the lines from a place on have come to.
-pub record Scanning (s : List ℕ) (from : Cursor) (at line words : ℕ) (c : Config) : Type 0 where
-  pub safe : Scannable s (record { at = at; line = line; labels = from .labels; words = words; config = c })
-  pub reached : (room : ℕ) (ls : List Meant) → LineNext s room ls from → Reached s room line at ls words (settingsMeant c)
-  pub after : from .line ≤ line
+module _ {names : List Name} {s : List ℕ} (spells : Spells names s) (room : ℕ) (ls : List Meant) (labels : ℕ) (count : labels ≡ length ls) where
+  -- Where reading on from a line comes to is where document 01's walk stands.
+  abbrev Stands : ℕ → ℕ → Config → ℕ → List (List ℕ) → Type 0
+  Stands line words c at ls′ = Progress names s room ls (scanned names labels line words c at ls′)
 
-pub scanning-none : {s : List ℕ} {from : Cursor} → Scannable s from → Scanning s from (from .at) (from .line) (from .words) (from .config)
-scanning-none h =
-    record {
-      safe = record { short = h .short; in-text = h .in-text; few-lines = h .few-lines; few-labels = h .few-labels; few-words = h .few-words };
-      reached = λ room ls n. n .reached;
-      after = omega arith;
-    }
+  module _ (line words : ℕ) (c : Config) (at : ℕ) (inside : at ≤ length s) (q : Reached names s room line at ls words c) where
+    abbrev comes : Rest
+    comes = comesTo names s at words c
 
--- A line that is not refused ends where it begins, or after that.
-pub ends-after : {s : List ℕ} {at words : ℕ} {setup : Settings} {words′ end : ℕ} {c : Config} → RestDone s at words setup words′ c end → at ≤ end
-unfolding endAt
-ends-after h = omega (arith, h .ends)
-
-module _ {s : List ℕ} {from : Cursor} {at line words : ℕ} {c : Config} (w : Scanning s from at line words c)
-    (r : Read) (h : LineIs s at (contextFor c) r) where
-  -- its label
-  label-is : {b : Bool} → r .labelled ≡ b → readOn (contextFor c) (readLine present (restAt s at)) .label ≡ labelIf b (take (r .length) (drop (r .start) s))
-  label-is b = ap (λ (x : MeantRead). x .label) (sym (h .reads)) ∙ ap (λ (x : Bool). labelIf x (take (r .length) (drop (r .start) s))) b
-
-  -- A label.
-  pub scans-label : {rest : Rest} → r .labelled ≡ true → RestIs s at words (settingsMeant c) rest → RestFits line rest
-      → ReadsOn s (From from) (labelPass (r .start) (r .length) words line (from .labels) rest)
-  unfolding entry
-  scans-label b k f =
-      record {
-        stands = λ room ls n.
+    -- A line that has been reached, by what follows it where it is not refused.
+    line-stands : (ls′ : List (List ℕ)) → (readAt names s at (settingsMeant c) .label ≡ none → (words′ end : ℕ) (c′ : Config) → comes ≡ Done words′ c′ end → Stands (suc line) words′ c′ (suc end) ls′)
+        → Stands line words c at (restAt s at ∷ ls′)
+    unfolding scanned endAt entry
+    line-stands ls′ more = go (readAt names s at (settingsMeant c) .label) refl
+      where
+        go : (o : Option (List ℕ)) → readAt names s at (settingsMeant c) .label ≡ o
+            → Progress names s room ls (elim o [
+              | some u ↦ labelPass (at + indent (restAt s at)) (length u) words line labels comes
+              | none ↦ elim comes [ Refused n ↦ PassEnded (lineRefused n line labels) | Done words′ c′ end ↦ scanned names labels (suc line) words′ c′ (suc end) ls′ ]
+            ])
+        go (some u) e =
             record {
-              count = n .count;
+              count = count;
               at = at;
-              in-text = w .safe .in-text;
+              in-text = inside;
               words = words;
-              setup = settingsMeant c;
-              reached = w .reached room ls n;
-              reads = label-is b;
-              starts = h .starts;
+              config = c;
+              reached = q;
+              reads = e ∙ ap (λ (v : List ℕ). some v) (spells .part at (settingsMeant c) u e);
+              starts = refl;
               address-is = refl;
-              rest-is = k;
-            };
-        sound =
-            record {
-              short = w .safe .short;
-              in-text = h .in-text;
-              near = omega (arith, w .safe .few-words);
-              line-fits = omega (arith, w .safe .few-lines, w .safe .in-text);
-              few-labels = w .safe .few-labels;
-              rest-fits = f;
-            };
-        after = w .after;
-      }
+              rest-is = refl;
+            }
+        go none e = on comes refl
+          where
+            on : (x : Rest) → comes ≡ x → Progress names s room ls (elim x [ Refused n ↦ PassEnded (lineRefused n line labels) | Done words′ c′ end ↦ scanned names labels (suc line) words′ c′ (suc end) ls′ ])
+            on (Refused n) k = doing-refused (plain-doing q inside e) k count
+            on (Done words′ c′ end) k = more e words′ end c′ k
 
-  module _ (b : r .labelled ≡ false) where
-    what-is-left : (room : ℕ) (ls : List Meant) → LineNext s room ls from → Doing s room line at ls words (settingsMeant c)
-    what-is-left room ls n = plain-doing (w .reached room ls n) (w .safe .in-text) (label-is b)
+    ended : {words′ end : ℕ} {c′ : Config} → comes ≡ Done words′ c′ end → endAt s at ≡ end
+    ended k = sym ((rw k at (rest-is words c (endAt s at) (effectAt names s at (settingsMeant c)))) .ends)
 
-    -- A refusal.
-    pub scans-refused : {n : ℕ} → RestIs s at words (settingsMeant c) (Refused n) → ReadsOn s (From from) (PassEnded (refusedAt n (rustLine n line) line (from .labels)))
-    scans-refused k = record { stands = λ room ls n. doing-refused (what-is-left room ls n) k (n .count); sound = tt; after = tt }
+    lines-stand : ((words′ : ℕ) (c′ : Config) → endAt s at < length s → Reached names s room (suc line) (suc (endAt s at)) ls words′ c′
+        → Stands (suc line) words′ c′ (suc (endAt s at)) (lines (drop (suc (endAt s at)) s)))
+        → Stands line words c at (lines (drop at s))
+    unfolding scanned
+    lines-stand more = split (endAt s at) (length s) another last
+      where
+        last : length s ≤ endAt s at → Stands line words c at (lines (drop at s))
+        last b = rw (last-line s at inside b) (line-stands [] (λ e words′ end c′ k. doing-last (plain-doing q inside e) k (omega (arith, ended k, b)) count))
 
-    module _ {words′ end : ℕ} {d : Config} (k : RestDone s at words (settingsMeant c) words′ d end) where
-      -- The last line.
-      pub scans-last : length s ≤ end → ReadsOn s (From from) (PassEnded (finishedWith (from .labels) words′ d))
-      scans-last z = record { stands = λ room ls n. doing-last (what-is-left room ls n) k z (n .count); sound = tt; after = tt }
+        another : endAt s at < length s → Stands line words c at (lines (drop at s))
+        another b =
+            rw (line-at s at inside b)
+            (line-stands (lines (drop (suc (endAt s at)) s)) (λ e words′ end c′ k.
+            subst (λ (x : ℕ). Stands (suc line) words′ c′ (suc x) (lines (drop (suc (endAt s at)) s))) (ended k)
+            (more words′ c′ b (subst (λ (x : ℕ). Reached names s room (suc line) (suc x) ls words′ c′) (sym (ended k)) (doing-on (plain-doing q inside e) k (omega (arith, ended k, b)))))))
 
-      -- The next line.
-      pub scans-on : RestFits line (Done words′ d end) → end < length s → Scanning s from (end + 1) (line + 1) words′ d
-      scans-on f z =
-          record {
-            safe =
-                record {
-                  short = w .safe .short;
-                  in-text = omega arith;
-                  few-lines = omega (arith, f .0);
-                  few-labels = omega (arith, w .safe .few-labels);
-                  few-words = f .1;
-                };
-            reached = λ room ls n. doing-on (what-is-left room ls n) k z;
-            after = omega (arith, w .after);
-          }
+  -- From a line that has been reached, with so many bytes left at most.
+  stands-from : (left line words : ℕ) (c : Config) (at : ℕ) → length s ≤ at + left → at ≤ length s → Reached names s room line at ls words c → Stands line words c at (lines (drop at s))
+  unfolding endAt
+  stands-from zero line words c at few inside q = lines-stand line words c at inside q (λ words′ c′ b _. absurd (omega (arith, b, few)))
+  stands-from (suc left) line words c at few inside q =
+      lines-stand line words c at inside q (λ words′ c′ b r. stands-from left (suc line) words′ c′ (suc (endAt s at)) (omega (arith, few)) (omega (arith, b)) r)
+
+-- Where the walk comes to as it reads on.
+pub reads-stand : {names : List Name} {s : List ℕ} {n : Next} {p : Pass} → Spells names s → ReadsOn names s n p → ScannableNext s n → (room : ℕ) (ls : List Meant) → Resumes names s room ls n
+    → Progress names s room ls p
+reads-stand {names} {s} {n} {p} spells r safe room ls h = rw (r .answer) (go n safe h)
+  where
+    go : (n : Next) → ScannableNext s n → Resumes names s room ls n → Progress names s room ls (resumed names s n)
+    go (NextEnded o) z k = k
+    go (From c) z k = stands-from spells room ls (c .labels) (k .count) (length s) (c .line) (c .words) (c .config) (c .at) (omega arith) (z .in-text) (k .reached)
 
 -- ---- after a label
 
@@ -279,7 +278,7 @@ module _ (room : ℕ) (st : State) (at : ℕ) (u : List ℕ) where
       go false true e = refl
       go false false e = let y : _≡_ {A = ℕ} 0 1 = cc in absurd (omega arith)
 
-module _ {s : List ℕ} {p : LabelLine} {room : ℕ} {ls : List Meant} (a : LabelNext s room ls p) where
+module _ {names : List Name} {s : List ℕ} {p : LabelLine} {room : ℕ} {ls : List Meant} (a : LabelNext names s room ls p) where
   abbrev name : List ℕ
   name = spelled s (p .label)
 
@@ -289,13 +288,17 @@ module _ {s : List ℕ} {p : LabelLine} {room : ℕ} {ls : List Meant} (a : Labe
   abbrev st : State
   st = a .reached .state
 
-  comes-there : whole s room ≡ afterLine s room (p .line) (endAt s (a .at)) (doing (effectAt s (a .at) (a .setup)) (enter room st (p .label .start) name))
+  abbrev does : MeantEffect
+  does = effectAt names s (a .at) (settingsMeant (a .config))
+
+  comes-there : whole names s room ≡ afterLine names s room (p .line) (endAt s (a .at)) (doing does (enter room st (p .label .start) name))
+  unfolding entering
   comes-there =
       label-comes (a .reached) (a .in-text) (a .reads)
-      ∙ ap (λ (n : ℕ). afterLine s room (p .line) (endAt s (a .at)) (doing (effectAt s (a .at) (a .setup)) (enter room st n name))) (sym (a .starts))
+      ∙ ap (λ (n : ℕ). afterLine names s room (p .line) (endAt s (a .at)) (doing does (enter room st n name))) (sym (a .starts))
 
   -- The label is refused.
-  pub label-refused : {n : ℕ} → some n ≡ entryFault known (ltb (length ls) room) → WalkEnds s room ls (refusedAt n (rustLine n (p .line)) (p .line) (p .labels))
+  label-refused : {n : ℕ} → some n ≡ entryFault known (ltb (length ls) room) → WalkEnds names s room ls (lineRefused n (p .line) (p .labels))
   unfolding afterLine doing
   label-refused {n} e =
       let x : enter room st (p .label .start) name ≡ stop n st = enter-refused room st (p .label .start) name n (rw (a .reached .labels-are) e) in
@@ -309,7 +312,7 @@ module _ {s : List ℕ} {p : LabelLine} {room : ℕ} {ls : List Meant} (a : Labe
     named-count : p .labels + 1 ≡ length (ls ++ (labelAt s p ∷ []))
     named-count = sym (length-append ls (labelAt s p ∷ []) ∙ ap (λ (n : ℕ). n + 1) (sym (a .count)))
 
-    label-doing : Doing s room (p .line) (a .at) (ls ++ (labelAt s p ∷ [])) (a .words) (a .setup)
+    label-doing : Doing names s room (p .line) (a .at) (ls ++ (labelAt s p ∷ [])) (a .words) (a .config)
     unfolding withLabel
     label-doing =
         let x : enter room st (p .label .start) name ≡ next named = enter-good room st (p .label .start) name (rw (a .reached .labels-are) e) in
@@ -317,37 +320,183 @@ module _ {s : List ℕ} {p : LabelLine} {room : ℕ} {ls : List Meant} (a : Labe
         record {
           clean = a .reached .clean;
           state = named;
-          comes = comes-there ∙ ap (λ (d : Step). afterLine s room (p .line) (endAt s (a .at)) (doing (effectAt s (a .at) (a .setup)) d)) x;
+          comes = comes-there ∙ ap (λ (d : Step). afterLine names s room (p .line) (endAt s (a .at)) (doing does d)) x;
           labels-are = ap₂ (λ (l : List Meant) (n : ℕ). l ++ (record { spelling = name; start = p .label .start; address = n } ∷ [])) (a .reached .labels-are) at-address;
           words-are = a .reached .words-are;
           setup-is = a .reached .setup-is;
         }
 
+    -- What follows the line.
+    label-on : Resumes names s room (ls ++ (labelAt s p ∷ [])) (lineAfter (length s) (p .line) (p .labels + 1) (p .rest))
+    unfolding lineAfter
+    label-on = go (p .rest) (sym (a .rest-is))
+      where
+        go : (x : Rest) → comesTo names s (a .at) (a .words) (a .config) ≡ x → Resumes names s room (ls ++ (labelAt s p ∷ [])) (lineAfter (length s) (p .line) (p .labels + 1) x)
+        go (Refused n) k = doing-refused label-doing k named-count
+        go (Done words c end) k =
+            split end (length s)
+            (λ b. rw (lineAfter, lt-ltb end (length s) b) (record { count = named-count; reached = rw (add-one (p .line), add-one end) (doing-on label-doing k b) }))
+            (λ b. rw (lineAfter, le-ltb end (length s) b) (doing-last label-doing k b named-count))
+
+-- What follows a label that has been entered, or refused, as document 01 has it.
+pub goes-stand : {names : List Name} {s : List ℕ} {p : LabelLine} {e : Entered} {n : Next} → GoesOn s p e n → (room : ℕ) (ls : List Meant) → LabelNext names s room ls p
+    → enteredMeant e ≡ entryFault (isKnown ls (spelled s (p .label))) (ltb (length ls) room) → Resumes names s room (withEntry e ls (labelAt s p)) n
+goes-stand {names} {s} {p} {e} {n} g room ls a k = rw (g .answer) (go e k)
+  where
+    go : (e : Entered) → enteredMeant e ≡ entryFault (isKnown ls (spelled s (p .label))) (ltb (length ls) room) → Resumes names s room (withEntry e ls (labelAt s p)) (followed s p e)
+    go New k = label-on a k
+    go Duplicate k = label-refused a k
+    go Full k = label-refused a k
+
+-- ---- the code's loop
+
+-- A line and those after it, by its label and what it comes to.
+module _ (names : List Name) (s : List ℕ) (labels line words : ℕ) (c : Config) (at : ℕ) (rest : List (List ℕ)) where
+  scanned-label : (u : List ℕ) → readAt names s at (settingsMeant c) .label ≡ some u
+      → scanned names labels line words c at (restAt s at ∷ rest) ≡ labelPass (at + indent (restAt s at)) (length u) words line labels (comesTo names s at words c)
+  unfolding scanned endAt
+  scanned-label u e = rw (scanned, e)
+
+  module _ (e : readAt names s at (settingsMeant c) .label ≡ none) where
+    scanned-refused : (n : ℕ) → comesTo names s at words c ≡ Refused n → scanned names labels line words c at (restAt s at ∷ rest) ≡ PassEnded (lineRefused n line labels)
+    unfolding scanned endAt
+    scanned-refused n k = rw (scanned, e, k)
+
+    scanned-done : (words′ end : ℕ) (c′ : Config) → comesTo names s at words c ≡ Done words′ c′ end
+        → scanned names labels line words c at (restAt s at ∷ rest) ≡ scanned names labels (suc line) words′ c′ (suc end) rest
+    unfolding scanned endAt
+    scanned-done words′ end c′ k = rw (scanned, e, k)
+
+-- What the lines from a place on come to is what those from the cursor on do.
+pub record Scanning (names : List Name) (s : List ℕ) (from : Cursor) (at line words : ℕ) (c : Config) : Type 0 where
+  pub safe : Scannable s (record { at = at; line = line; labels = from .labels; words = words; config = c })
+  pub same : scanned names (from .labels) line words c at (lines (drop at s)) ≡ scannedFrom names s from
+  pub after : from .line ≤ line
+
+pub scanning-none : {names : List Name} {s : List ℕ} {from : Cursor} → Scannable s from → Scanning names s from (from .at) (from .line) (from .words) (from .config)
+scanning-none h =
+    record {
+      safe = record { short = h .short; in-text = h .in-text; few-lines = h .few-lines; few-labels = h .few-labels; few-words = h .few-words };
+      same = refl;
+      after = omega arith;
+    }
+
+module _ {names : List Name} {s : List ℕ} {from : Cursor} {at line words : ℕ} {c : Config} (w : Scanning names s from at line words c) (r : Read) (h : LineIs names s at (contextFor c) r) where
+  -- its label
+  label-is : {b : Bool} → r .labelled ≡ b → readAt names s at (settingsMeant c) .label ≡ labelIf b (take (r .length) (drop (r .start) s))
+  label-is b = ap (λ (x : MeantRead). x .label) (sym (h .reads)) ∙ ap (λ (x : Bool). labelIf x (take (r .length) (drop (r .start) s))) b
+
+  -- what the line comes to, its label aside
+  abbrev pub comes-here : Rest
+  comes-here = restFor (effectMeant (r .effect)) words c (r .end)
+
+  came : comes-here ≡ comesTo names s at words c
+  came = comes-to s at words c r h
+
+  -- A label.
+  label-long : length (take (r .length) (drop (r .start) s)) ≡ r .length
+  label-long = length-take (r .length) (drop (r .start) s) ∙ omega (arith, length-drop (r .start) s, h .in-text)
+
+  -- It leaves room.
+  pub scans-fits : RestFits line comes-here
+  unfolding endAt
+  scans-fits = rw came (rest-fits words c (endAt s at) line (omega (arith, w .safe .few-lines)) (w .safe .few-words) (effectAt names s at (settingsMeant c)))
+
+  pub scans-label : r .labelled ≡ true → ReadsOn names s (From from) (labelPass (r .start) (r .length) words line (from .labels) comes-here)
+  scans-label b =
+      let (rest, q) = line-split s at (w .safe .in-text) in
+      let u = take (r .length) (drop (r .start) s) in
+      record {
+        answer =
+            ap₂ (λ (n : ℕ) (x : Rest). labelPass n (r .length) words line (from .labels) x) (h .starts) came
+            ∙ ap (λ (n : ℕ). labelPass (at + indent (restAt s at)) n words line (from .labels) (comesTo names s at words c)) (sym label-long)
+            ∙ sym (scanned-label names s (from .labels) line words c at rest u (label-is b)) ∙ ap (scanned names (from .labels) line words c at) (sym q) ∙ w .same;
+        sound =
+            record {
+              short = w .safe .short;
+              in-text = h .in-text;
+              near = omega (arith, w .safe .few-words);
+              line-fits = omega (arith, w .safe .few-lines, w .safe .in-text);
+              few-labels = w .safe .few-labels;
+              rest-fits = scans-fits;
+            };
+        after = w .after;
+      }
+
+  module _ (b : r .labelled ≡ false) where
+    -- A refusal.
+    pub scans-refused : {n : ℕ} → comes-here ≡ Refused n → ReadsOn names s (From from) (PassEnded (lineRefused n line (from .labels)))
+    scans-refused {n} k =
+        let (rest, q) = line-split s at (w .safe .in-text) in
+        record {
+          answer =
+              sym (scanned-refused names s (from .labels) line words c at rest (label-is b) n (sym came ∙ k)) ∙ ap (scanned names (from .labels) line words c at) (sym q) ∙ w .same;
+          sound = tt;
+          after = tt;
+        }
+
+    module _ {words′ end : ℕ} {d : Config} (k : comes-here ≡ Done words′ d end) where
+      -- where it ends
+      pub scans-end : end ≡ endAt s at
+      scans-end = (rw (sym came ∙ k) at (rest-is words c (endAt s at) (effectAt names s at (settingsMeant c)))) .ends
+
+      -- what follows the line
+      follows-on : (rest : List (List ℕ)) → lines (drop at s) ≡ restAt s at ∷ rest → scanned names (from .labels) (suc line) words′ d (suc end) rest ≡ scannedFrom names s from
+      follows-on rest q =
+          sym (scanned-done names s (from .labels) line words c at rest (label-is b) words′ end d (sym came ∙ k)) ∙ ap (scanned names (from .labels) line words c at) (sym q) ∙ w .same
+
+      -- The last line.
+      pub scans-last : length s ≤ end → ReadsOn names s (From from) (PassEnded (finishedWith (from .labels) words′ d))
+      unfolding scanned
+      scans-last z = record { answer = follows-on [] (last-line s at (w .safe .in-text) (omega (arith, scans-end, z))); sound = tt; after = tt }
+
+      -- The next line.
+      pub scans-on : end < length s → Scanning names s from (end + 1) (line + 1) words′ d
+      scans-on z =
+          let f = rw k at scans-fits in
+          record {
+            safe =
+                record {
+                  short = w .safe .short;
+                  in-text = omega arith;
+                  few-lines = omega (arith, f .0);
+                  few-labels = omega (arith, w .safe .few-labels);
+                  few-words = f .1;
+                };
+            same =
+                rw (add-one line, add-one end)
+                (follows-on (lines (drop (suc end) s)) (line-at s at (w .safe .in-text) (omega (arith, scans-end, z)) ∙ ap (λ (n : ℕ). restAt s at ∷ lines (drop (suc n) s)) (sym scans-end)));
+            after = omega (arith, w .after);
+          }
+
 -- ---- going on
 
 -- A walk that has ended stays so.
-pub reads-end : {s : List ℕ} {o : Outcome} → ReadsOn s (NextEnded o) (PassEnded o)
-reads-end = record { stands = λ room ls n. n; sound = tt; after = tt }
+pub reads-end : {names : List Name} {s : List ℕ} {o : Outcome} → ReadsOn names s (NextEnded o) (PassEnded o)
+reads-end = record { answer = refl; sound = tt; after = tt }
 
 module _ {s : List ℕ} {p : LabelLine} where
-  pub goes-duplicate : GoesOn s p Duplicate (NextEnded (refusedAt 4 (rustLine 4 (p .line)) (p .line) (p .labels)))
-  goes-duplicate = record { stands = λ room ls a e. label-refused a e; sound = tt; follows = tt }
+  pub goes-duplicate : GoesOn s p Duplicate (NextEnded (lineRefused 4 (p .line) (p .labels)))
+  goes-duplicate = record { answer = refl; sound = tt; follows = tt }
 
-  pub goes-full : GoesOn s p Full (NextEnded (refusedAt 5 (rustLine 5 (p .line)) (p .line) (p .labels)))
-  goes-full = record { stands = λ room ls a e. label-refused a e; sound = tt; follows = tt }
+  pub goes-full : GoesOn s p Full (NextEnded (lineRefused 5 (p .line) (p .labels)))
+  goes-full = record { answer = refl; sound = tt; follows = tt }
 
-  pub goes-refused : {n : ℕ} → p .rest ≡ Refused n → GoesOn s p New (NextEnded (refusedAt n (rustLine n (p .line)) (p .line) (p .labels + 1)))
-  goes-refused k = record { stands = λ room ls a e. doing-refused (label-doing a e) (rw k at (a .rest-is)) (named-count a e); sound = tt; follows = tt }
+  pub goes-refused : {n : ℕ} → p .rest ≡ Refused n → GoesOn s p New (NextEnded (lineRefused n (p .line) (p .labels + 1)))
+  unfolding lineAfter
+  goes-refused k = record { answer = rw k; sound = tt; follows = tt }
 
   module _ {words end : ℕ} {c : Config} (k : p .rest ≡ Done words c end) where
     pub goes-last : length s ≤ end → GoesOn s p New (NextEnded (finishedWith (p .labels + 1) words c))
-    goes-last z = record { stands = λ room ls a e. doing-last (label-doing a e) (rw k at (a .rest-is)) z (named-count a e); sound = tt; follows = tt }
+    unfolding lineAfter
+    goes-last z = record { answer = rw (k, lineAfter, le-ltb end (length s) z); sound = tt; follows = tt }
 
     pub goes-line : Sound s p → end < length s → GoesOn s p New (From (record { at = end + 1; line = p .line + 1; labels = p .labels + 1; words = words; config = c }))
+    unfolding lineAfter
     goes-line d z =
         let f = rw k at (d .rest-fits) in
         record {
-          stands = λ room ls a e. record { count = named-count a e; reached = doing-on (label-doing a e) (rw k at (a .rest-is)) z };
+          answer = rw (k, lineAfter, lt-ltb end (length s) z);
           sound =
               record {
                 short = d .short;

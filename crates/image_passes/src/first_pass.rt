@@ -6,8 +6,9 @@ ghost use lib.ListN.{length, take};
 ghost use lib.Dec.{ltb};
 ghost use Rattle.text.specs.Lines.{lines};
 ghost use Rattle.image.specs.Assembling.{rustLine, most-bytes};
-ghost use Rattle.image_line.specs.Contracts.{Tables};
-ghost use Rattle.image_passes.specs.Contracts.{refusedAt, finishedWith, oneMore, restOf, labelPass, Sound, Scannable, ScannableNext, ReadsOn, Begins, GoesOn};
+ghost use Rattle.text_lexical.specs.Names.{present};
+ghost use Rattle.image_line.specs.Contracts.{Tables, effectMeant};
+ghost use Rattle.image_passes.specs.Contracts.{refusedAt, lineRefused, finishedWith, oneMore, restFor, labelPass, Sound, Scannable, ScannableNext, ReadsOn, Begins, GoesOn};
 ghost use Rattle.image_passes.specs.declared.first_pass.Next.the-variants.{From};
 use image::config::Config;
 use image_labels::label::Entered;
@@ -117,7 +118,7 @@ fn stopped(number: u8, rust_line: usize, line: usize, labels: usize) -> Outcome
 
 // The walk ends with the refusal of a line.
 fn stopped_at(number: u8, line: usize, labels: usize) -> Outcome
-    ensures { λ r. ⌜ r ≡ refusedAt number (rustLine number line) line labels ⌝ }
+    ensures { λ r. ⌜ r ≡ lineRefused number line labels ⌝ }
 {
     stopped(number, rust_line(number, line), line, labels)
 }
@@ -148,7 +149,7 @@ fn counted(words: usize, config: Config, end: usize) -> Rest
 
 // What a line comes to after so many words and with settings, by what it does and where it ends.
 fn rest_of(effect: Effect, words: usize, config: Config, end: usize) -> Rest
-    ensures { λ r. ⌜ r ≡ restOf effect words config end ⌝ }
+    ensures { λ r. ⌜ r ≡ restFor (effectMeant effect) words config end ⌝ }
 {
     match effect {
         Effect::Nothing => Rest::Done { words, config, end },
@@ -199,7 +200,7 @@ fn scan(
     slots: &[u8; 293],
 ) -> Pass
     requires { ⌜ Scannable (now source) from ⌝ ∗ ⌜ Tables (now mnemonics) (now forms) (now slots) ⌝ }
-    ensures { λ r. ⌜ ReadsOn (now (source .entry)) (From from) r ⌝ }
+    ensures { λ r. ⌜ ReadsOn present (now (source .entry)) (From from) r ⌝ }
 {
     let mut at = from.at;
     let mut line = from.line;
@@ -241,7 +242,7 @@ pub fn read_on(
     slots: &[u8; 293],
 ) -> Pass
     requires { ⌜ ScannableNext (now source) next ⌝ ∗ ⌜ Tables (now mnemonics) (now forms) (now slots) ⌝ }
-    ensures { λ r. ⌜ ReadsOn (now (source .entry)) next r ⌝ }
+    ensures { λ r. ⌜ ReadsOn present (now (source .entry)) next r ⌝ }
 {
     match next {
         Next::Ended(outcome) => Pass::Ended(outcome),

@@ -8,6 +8,7 @@ ghost use Rattle.text_writer.specs.Contracts.{Written};
 ghost use Rattle.instruction.specs.Words.{wordOf};
 ghost use Rattle.instruction.specs.Contracts.{opcodeNumbers, partsMeant};
 ghost use Rattle.image.specs.Contracts.{settingsMeant};
+ghost use Rattle.text_lexical.specs.Names.{present};
 ghost use Rattle.image_line.specs.Contracts.{Tables};
 ghost use Rattle.image_passes.specs.Contracts.{codedMeant, CodesLine, Readable, codeBytes, Ready, Fills};
 use image::config::Config;
@@ -54,7 +55,7 @@ fn code_line(
     slots: &[u8; 293],
 ) -> CodedLine
     requires { ⌜ at ≤ length (now source) ⌝ ∗ ⌜ Tables (now mnemonics) (now forms) (now slots) ⌝ ∗ ⌜ now opcodes ≡ opcodeNumbers ⌝ }
-    ensures { λ r. ⌜ CodesLine (now (source .entry)) at (settingsMeant config) r ⌝ }
+    ensures { λ r. ⌜ CodesLine present (now (source .entry)) at (settingsMeant config) r ⌝ }
 {
     let read = image_line::line::read_line(source, at, config, mnemonics, forms, slots);
     let end = read.end;
@@ -98,8 +99,8 @@ fn second_pass(
     forms: &[u8; 50],
     slots: &[u8; 293],
 ) -> usize
-    requires { ⌜ Readable (now source) ⌝ ∗ ⌜ 32 + length (codeBytes (now source)) ≤ length (now image) ⌝ ∗ ⌜ Tables (now mnemonics) (now forms) (now slots) ⌝ ∗ ⌜ now opcodes ≡ opcodeNumbers ⌝ }
-    ensures { λ r. ⌜ Written (now (image .entry)) 32 (codeBytes (now (source .entry))) r (now (image .exit)) ⌝ }
+    requires { ⌜ Readable present (now source) ⌝ ∗ ⌜ 32 + length (codeBytes present (now source)) ≤ length (now image) ⌝ ∗ ⌜ Tables (now mnemonics) (now forms) (now slots) ⌝ ∗ ⌜ now opcodes ≡ opcodeNumbers ⌝ }
+    ensures { λ r. ⌜ Written (now (image .entry)) 32 (codeBytes present (now (source .entry))) r (now (image .exit)) ⌝ }
 {
     let mut place: usize = 32;
     let mut at: usize = 0;
@@ -127,8 +128,8 @@ pub fn write_image(
     forms: &[u8; 50],
     slots: &[u8; 293],
 ) -> Fill
-    requires { ⌜ Ready (now source) words (settingsMeant config) ⌝ ∗ ⌜ Tables (now mnemonics) (now forms) (now slots) ⌝ }
-    ensures { λ r. ⌜ Fills (now (source .entry)) words (now (image .entry)) (now (image .exit)) r ⌝ }
+    requires { ⌜ Ready present (now source) words (settingsMeant config) ⌝ ∗ ⌜ Tables (now mnemonics) (now forms) (now slots) ⌝ }
+    ensures { λ r. ⌜ Fills present (now (source .entry)) words (now (image .entry)) (now (image .exit)) r ⌝ }
 {
     let needed = 32 + 4 * words;
     if image.len() < needed {

@@ -1,5 +1,6 @@
 -- `image_passes::first_pass::rest_of` meets its contract.
 use borrow.Author.Needs.{needs}
+use Rattle.image.specs.Settings.{settings}
 use Rattle.image_passes.proofs.first_pass.rest_of.Statement.{statement}
 use Rattle.image_passes.proofs.first_pass.rest_of.Tie as tie
 
@@ -22,6 +23,7 @@ returns : tie.Need-returns
 returns c = rw (c .enum-told .given .1)
 
 returns-2 : tie.Need-returns-2
+unfolding settings
 returns-2 c = rw (c .before .effect .given .1)
 
 returns-3 : tie.Need-returns-3

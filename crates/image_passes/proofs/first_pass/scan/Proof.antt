@@ -1,19 +1,21 @@
 -- `image_passes::first_pass::scan` meets its contract. The loop's invariant: what the lines before `at` have come to.
 use Prim.Native.Nat.{_-_}
+use mathlib.Core.Path.{_≡_, sym, _∙_}
 use native.Mathlib.Omega.{arith}
 use lib.ListN.{length}
 use borrow.Author.Needs.{needs}
+use Rattle.text_lexical.specs.Names.{present}
+use Rattle.text.specs.Places.{endAt}
 use Rattle.image.specs.Assembling.{most-bytes}
-use Rattle.image.specs.Contracts.{settingsMeant}
-use Rattle.image_passes.specs.Contracts.{RestIs, RestFits}
-use Rattle.image_passes.proofs.Steps.{rest-is, rest-fits}
-use Rattle.image_passes.proofs.Scanning.{Scanning, scanning-none, ends-after, scans-label, scans-refused, scans-last, scans-on}
+use Rattle.image_line.specs.Contracts.{effectMeant}
+use Rattle.image_passes.specs.Contracts.{restFor}
+use Rattle.image_passes.proofs.Scanning.{Scanning, scanning-none, scans-end, scans-label, scans-refused, scans-last, scans-on}
 use Rattle.image_passes.proofs.first_pass.scan.Statement.{statement}
 use Rattle.image_passes.proofs.first_pass.scan.Tie as tie
 
 abbrev Inv-loop : tie.InvT-loop
 Inv-loop source from mnemonics forms slots at₀ line₀ words₀ config₀ at line words config =
-    Scanning source from at line words config
+    Scanning present source from at line words config
 
 abbrev μ-loop : tie.MeasureT-loop
 μ-loop source from mnemonics forms slots at₀ line₀ words₀ config₀ at line words config =
@@ -30,20 +32,9 @@ rest-of-requires : tie.Need-rest-of-requires Inv-loop μ-loop
 rest-of-requires c κs = search needs
 
 -- what the line comes to, its label aside
-came : (c : tie.After-rest-of Inv-loop μ-loop) → let l = c .before .before .loop in let a = c .before .before .before .before .before .args in
-    RestIs (a .source .now) (l .at) (l .words) (settingsMeant (l .config)) (c .rest-of .result)
-came c =
-    let r = c .before in
-    let l = r .before .loop in
-    rw (c .rest-of .ensures) (rest-is (r .before .before .before .before .args .source .now) (l .at) (l .words) (l .config) (r .read-line .result) (r .read-line .ensures))
-
--- and that it leaves room
-fits : (c : tie.After-rest-of Inv-loop μ-loop) → RestFits (c .before .before .loop .line) (c .rest-of .result)
-fits c =
-    let r = c .before in
-    let l = r .before .loop in
-    rw (c .rest-of .ensures)
-    (rest-fits (r .before .before .before .before .args .source .now) (l .at) (l .words) (l .config) (r .read-line .result) (r .read-line .ensures) (l .line) (l .inv .safe .few-lines) (l .inv .safe .few-words))
+came : (c : tie.After-rest-of Inv-loop μ-loop) → let r = c .before in let l = r .before .loop in
+    c .rest-of .result ≡ restFor (effectMeant (r .read-line .result .effect)) (l .words) (l .config) (r .read-line .result .end)
+came c = c .rest-of .ensures
 
 at-label-requires : tie.Need-at-label-requires Inv-loop μ-loop
 at-label-requires c κs = c .before .before .before .loop .inv .safe .few-words
@@ -52,7 +43,7 @@ returns : tie.Need-returns Inv-loop μ-loop
 returns c =
     let l = c .before .before in
     let r = l .before in
-    rw (c .at-label .ensures) (scans-label (r .before .loop .inv) (r .read-line .result) (r .read-line .ensures) (c .before .if1 .taken) (came l) (fits l))
+    rw (c .at-label .ensures, l .rest-of .ensures) (scans-label (r .before .loop .inv) (r .read-line .result) (r .read-line .ensures) (c .before .if1 .taken))
 
 enum-known-rest : tie.Need-enum-known-rest Inv-loop μ-loop
 enum-known-rest c = search needs
@@ -66,7 +57,7 @@ returns-2 c =
     let e = f .before .before in
     let l = e .before in
     let r = l .before in
-    rw (c .stopped-at .ensures) (scans-refused (r .before .loop .inv) (r .read-line .result) (r .read-line .ensures) (e .if1 .left) (rw (f .rest .given .1) at (came l)))
+    rw (c .stopped-at .ensures) (scans-refused (r .before .loop .inv) (r .read-line .result) (r .read-line .ensures) (e .if1 .left) (sym (came l) ∙ f .rest .given .1))
 
 enum-known-rest-2 : tie.Need-enum-known-rest-2 Inv-loop μ-loop
 enum-known-rest-2 c = search needs
@@ -81,7 +72,7 @@ returns-3 c =
     let l = e .before in
     let r = l .before in
     rw (c .finished .ensures)
-    (scans-last (r .before .loop .inv) (r .read-line .result) (r .read-line .ensures) (e .if1 .left) (rw (f .rest2 .given .1) at (came l)) (c .before .if2 .taken))
+    (scans-last (r .before .loop .inv) (r .read-line .result) (r .read-line .ensures) (e .if1 .left) (sym (came l) ∙ f .rest2 .given .1) (c .before .if2 .taken))
 
 add-at : tie.Need-add-at Inv-loop μ-loop
 unfolding most-bytes
@@ -97,10 +88,13 @@ add-line c =
     omega (arith, s .few-lines, s .in-text, s .short)
 
 loop-less : tie.Need-loop-less Inv-loop μ-loop
+unfolding endAt
 loop-less c =
     let f = c .before .before in
-    let l = f .before .before .before in
-    omega (arith, ends-after (rw (f .rest2 .given .1) at (came l)), c .if2 .left)
+    let e = f .before .before in
+    let l = e .before in
+    let r = l .before in
+    omega (arith, scans-end (r .before .loop .inv) (r .read-line .result) (r .read-line .ensures) (e .if1 .left) (sym (came l) ∙ f .rest2 .given .1), c .if2 .left)
 
 loop-again : tie.Need-loop-again Inv-loop μ-loop
 loop-again c =
@@ -108,7 +102,7 @@ loop-again c =
     let e = f .before .before in
     let l = e .before in
     let r = l .before in
-    scans-on (r .before .loop .inv) (r .read-line .result) (r .read-line .ensures) (e .if1 .left) (rw (f .rest2 .given .1) at (came l)) (rw (f .rest2 .given .1) at (fits l)) (omega (arith, c .if2 .left))
+    scans-on (r .before .loop .inv) (r .read-line .result) (r .read-line .ensures) (e .if1 .left) (sym (came l) ∙ f .rest2 .given .1) (omega (arith, c .if2 .left))
 
 pub scan-spec : {M : Type 1} → statement M
 scan-spec =

@@ -4,6 +4,7 @@ use Prim.Native.Nat.{_-_}
 use native.Mathlib.Omega.{arith}
 use lib.ListN.{length}
 use borrow.Author.Needs.{needs}
+use Rattle.text_lexical.specs.Names.{present}
 use Rattle.text_writer.specs.Contracts.{Written}
 use Rattle.text_writer.proofs.Writing.{written-length}
 use Rattle.image_passes.specs.Contracts.{codeBytes}
@@ -12,7 +13,7 @@ use Rattle.image_passes.proofs.second_pass.second_pass.Statement.{state
 use Rattle.image_passes.proofs.second_pass.second_pass.Tie as tie
 
 abbrev Inv-loop : tie.InvT-loop
-Inv-loop source image₀ mnemonics opcodes forms slots place₀ at₀ config₀ image place at config = Worded image₀ source image place at config
+Inv-loop source image₀ mnemonics opcodes forms slots place₀ at₀ config₀ image place at config = Worded present image₀ source image place at config
 
 abbrev μ-loop : tie.MeasureT-loop
 μ-loop source image₀ mnemonics opcodes forms slots place₀ at₀ config₀ image place at config = length source - at
@@ -21,7 +22,7 @@ begin-requires : tie.Need-begin-requires Inv-loop μ-loop
 begin-requires c κs = search needs
 
 loop-holds : tie.Need-loop-holds Inv-loop μ-loop
-loop-holds c = let s = c .before .before .before in worded-none (s .args .image .now) (s .args .source .now) (c .begin .result) (c .begin .ensures) (s .pre .0)
+loop-holds c = let s = c .before .before .before in worded-none present (s .args .image .now) (s .args .source .now) (c .begin .result) (c .begin .ensures) (s .pre .0)
 
 code-line-requires : tie.Need-code-line-requires Inv-loop μ-loop
 code-line-requires c κs = (c .loop .inv .in-text, c .before .before .before .before .pre .1 .1)
@@ -36,7 +37,7 @@ write-coded-requires c κs =
 -- all are written at the end
 all-written : (c : tie.Then1 Inv-loop μ-loop) → let u = c .before .before .before in
     let a = u .before .before .before .before .before .before .before .before .args in
-    Written (a .image .now) 32 (codeBytes (a .source .now)) (u .write-coded .result) (u .write-coded .last .0)
+    Written (a .image .now) 32 (codeBytes present (a .source .now)) (u .write-coded .result) (u .write-coded .last .0)
 all-written c =
     let u = c .before .before .before in
     let t = u .before .before .before in

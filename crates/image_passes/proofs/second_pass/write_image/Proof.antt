@@ -4,6 +4,7 @@ use mathlib.Core.Path.{_≡_, _∙_}
 use native.Mathlib.Omega.{arith}
 use lib.ListN.{length}
 use borrow.Author.Needs.{needs}
+use Rattle.text_lexical.specs.Names.{present}
 use Rattle.text_writer.proofs.Writing.{written-length}
 use Rattle.image.specs.Program.{headerFor}
 use Rattle.image.specs.Contracts.{settingsMeant}
@@ -38,7 +39,7 @@ write-header-requires c κs = let i = c .before .before in omega (arith, i .if1 
 
 -- the words have room behind the header
 room : (c : tie.After-write-header) → let b = c .before .before .before .before .before .before in
-    (length (c .write-header .last .0) ≡ length (b .args .image .now)) × (32 + length (codeBytes (b .args .source .now)) ≤ length (c .write-header .last .0))
+    (length (c .write-header .last .0) ≡ length (b .args .image .now)) × (32 + length (codeBytes present (b .args .source .now)) ≤ length (c .write-header .last .0))
 room c =
     let i = c .before .before .before in
     let b = i .before .before .before in
