@@ -30,6 +30,7 @@ use denote.Triple.Statement.{Contract, Triple}
 use denote.Steps.{nothing, heard}
 use Rattle.walking.proofs.Again.{lends, ends, LentAgain}
 use Rattle.walking.proofs.Calls.{Known, calls-to}
+use Rattle.text_lexical.specs.Names.{present}
 use Rattle.image_labels.specs.declared.label.Label.{Label}
 use Rattle.image_labels.proofs.label.Label as L
 use Rattle.image_labels.proofs.Owned.{TableIs, In, Away, lends-front, front-back}
@@ -81,13 +82,13 @@ module _ {M : Type 1} (𝓤 : URA M) (H : Heap 𝓤) (A : Atoms 𝓤) (at-mem : 
 
     calls-lent : {K : Type 0} {W : Given 𝓤 H A} {Γ : List (Item 𝓤)} {E : Env 𝓤 H} {C : Calls 𝓤 H} {Λ : Loops 𝓤 H} {p : Post 𝓤 H} {f : Name} {os : List Operand} {d : Place} {rest : Body}
         → K → FmC 𝓤 H (W .laws) C → Triple 𝓤 (C f) Assemble → Opds K W (raw (Assemble .pre to-assemble) ∷ Γ) E os (s₁ ∷ s₂ ∷ s₃ ∷ [])
-        → ((r : Assembled) (l : List Label) (i : List ℕ) → Assembles (src .now) (x .now) (y .now) l i r → length l ≡ length (x .now) → length i ≡ length (y .now) → Is R.the-row r (rval r ∷ [])
+        → ((r : Assembled) (l : List Label) (i : List ℕ) → Assembles present (src .now) (x .now) (y .now) l i r → length l ≡ length (x .now) → length i ≡ length (y .now) → Is R.the-row r (rval r ∷ [])
         → Seq K W (‵ (flft (ν′ ∷ []) fullShare) ∷ ‵ (flft (ν ∷ []) fullShare) ∷ ‵ (flft κ q) ∷ ‵ (finally L.the-row (x .name) l) ∷ ‵ (finally u8 (y .name) i) ∷ Γ) (lands C Λ E d (rval r) rest p))
         → Seq K W (OfSource ∷ OfTable ∷ OfImage ∷ Γ) (runs C Λ E (seq (call f os d) rest) p)
     calls-lent {W = W} t fm met operands h =
         use3 W (raw (Assemble .pre to-assemble)) (goes W) $
         calls-to t fm assemble.ended (assemble.clauses 𝓤 H A at-mem run) met to-assemble rval (EL.tells R.the-type R′.the-laws) operands (λ r ws ir.
-        heard t (Assembles (src .now) (x .now) (y .now) (ws .1 .0) (ws .1 .1 .0) r) (λ a.
+        heard t (Assembles present (src .now) (x .now) (y .now) (ws .1 .0) (ws .1 .1 .0) r) (λ a.
         -- what is left of each parameter, and the tokens
         fsplit t $ drop t $ fsplit t $ move t (1 ∷ []) $ fsplit t $ move t (1 ∷ []) $ drop t $ fsplit t $ move t (1 ∷ []) $ feqL t (λ g. move t (1 ∷ []) $ fsplit t $ move t (1 ∷ []) $ feqL t (λ e.
         -- [the last entries; the last image; the tokens]
@@ -121,7 +122,7 @@ module _ {M : Type 1} (𝓤 : URA M) (H : Heap 𝓤) (A : Atoms 𝓤) (at-mem : 
         → ((ν : ℕ) (δ : GName) (ν′ : ℕ) (δ′ : GName)
         → Opds K W (raw (Assemble .pre (to-assemble (κs .0) (qs .0) src (front δ) k (y δ′ zs) ν ν′)) ∷ ‵ (Kept ν′ δ′) ∷ ‵ (Away n b k ys ν δ) ∷ Γ) E os
         (sliceVal (src .ptr) (length (src .now)) ∷ sliceVal (b, 0) k ∷ sliceVal (b′, o′) (length zs) ∷ []))
-        → ((r : Assembled) (l : List Label) (i : List ℕ) → Assembles (src .now) (take k ys) zs l i r → length i ≡ length zs → TableIs n (l ++ behind k ys) → Is R.the-row r (rval r ∷ [])
+        → ((r : Assembled) (l : List Label) (i : List ℕ) → Assembles present (src .now) (take k ys) zs l i r → length i ≡ length zs → TableIs n (l ++ behind k ys) → Is R.the-row r (rval r ∷ [])
         → Seq K W (token₁ ∷ ‵ (In n b (l ++ behind k ys)) ∷ ‵ (Image i) ∷ token₃ ∷ Γ) (lands C Λ E d (rval r) rest q))
         → Seq K W (‵ (Source (κs .0) src) ∷ token₁ ∷ ‵ (In n b ys) ∷ ‵ (Image zs) ∷ token₃ ∷ Γ) (runs C Λ E (seq (call f os d) rest) q)
     calls-assemble t fm met is le room gm operands h =

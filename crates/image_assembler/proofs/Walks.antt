@@ -10,7 +10,9 @@ use lib.Seq.{set-out}
 use lib.Dec.{ltb}
 use borrow.Author.Tests.{ltb-true, ltb-false}
 use Rattle.text_lexical.specs.Bytes.{same, find, isSome}
+use Rattle.text_lexical.specs.Names.{Name}
 use Rattle.text_lexical.proofs.Tests.{by-test}
+use Rattle.text.specs.NameSets.{Naming}
 use Rattle.image.specs.Assembling.{isKnown, most-bytes}
 use Rattle.image.specs.Assembling.{Label as Meant}
 use Rattle.image.specs.Lent.{over}
@@ -21,7 +23,10 @@ use Rattle.image_labels.proofs.Finding.{unlinked-long}
 use Rattle.image_labels.specs.declared.label.Label.{Label}
 use Rattle.image_labels.specs.declared.label.Entered.{Entered}
 use Rattle.image_labels.specs.declared.label.Entered.the-variants.{New, Duplicate, Full}
-use Rattle.image_passes.specs.Contracts.{LabelNext, Progress, SoundPass, Resumes, ScannableNext, After, ReadsOn, Begins, Follows, withEntry, labelAt, GoesOn}
+use Rattle.image_passes.specs.Contracts.{SoundPass, ScannableNext, After, ReadsOn, Begins, Follows, GoesOn}
+use Rattle.image_passes.proofs.Reaching.{LabelNext, Progress, Resumes, withEntry, labelAt}
+use Rattle.image_passes.proofs.Answers.{begins-stand}
+use Rattle.image_passes.proofs.Scanning.{reads-stand, goes-stand}
 use Rattle.image_passes.specs.declared.first_pass.Pass.{Pass}
 use Rattle.image_passes.specs.declared.first_pass.Pass.the-variants.{AtLabel, Ended as PassEnded}
 use Rattle.image_passes.specs.declared.first_pass.Next.{Next}
@@ -80,38 +85,39 @@ labelsAt (AtLabel p) = p .labels
 labelsAt (PassEnded o) = o .labels
 
 -- Where it reads on: the labels so far, and their trees.
-pub record Walking (s : List ℕ) (old table : List Label) (roots : List ℕ) (n : Next) : Type 0 where
+pub record Walking (names : List Name) (s : List ℕ) (old table : List Label) (roots : List ℕ) (n : Next) : Type 0 where
   pub labels : List Meant
-  pub stands : Resumes s (length old) labels n
+  pub stands : Resumes names s (length old) labels n
   pub sound : ScannableNext s n
   pub holds : Holds s old (unlinked (labelsBefore n) table) labels
   pub tree : Tree s table roots (labelsBefore n)
 
 -- Where it has come to.
-pub record Stopping (s : List ℕ) (old table : List Label) (roots : List ℕ) (p : Pass) : Type 0 where
+pub record Stopping (names : List Name) (s : List ℕ) (old table : List Label) (roots : List ℕ) (p : Pass) : Type 0 where
   pub labels : List Meant
-  pub stands : Progress s (length old) labels p
+  pub stands : Progress names s (length old) labels p
   pub sound : SoundPass s p
   pub holds : Holds s old (unlinked (labelsAt p) table) labels
   pub tree : Tree s table roots (labelsAt p)
 
 -- The labels are counted.
-counted-before : (s : List ℕ) (room : ℕ) (ls : List Meant) (n : Next) → Resumes s room ls n → labelsBefore n ≡ length ls
-counted-before s room ls (From c) h = h .count
-counted-before s room ls (NextEnded o) h = h .count
+counted-before : (names : List Name) (s : List ℕ) (room : ℕ) (ls : List Meant) (n : Next) → Resumes names s room ls n → labelsBefore n ≡ length ls
+counted-before names s room ls (From c) h = h .count
+counted-before names s room ls (NextEnded o) h = h .count
 
-counted-at : (s : List ℕ) (room : ℕ) (ls : List Meant) (p : Pass) → Progress s room ls p → labelsAt p ≡ length ls
-counted-at s room ls (AtLabel p) h = h .count
-counted-at s room ls (PassEnded o) h = h .count
+counted-at : (names : List Name) (s : List ℕ) (room : ℕ) (ls : List Meant) (p : Pass) → Progress names s room ls p → labelsAt p ≡ length ls
+counted-at names s room ls (AtLabel p) h = h .count
+counted-at names s room ls (PassEnded o) h = h .count
 
 -- How it begins.
-pub walking-begin : {s : List ℕ} {n : Next} {roots : List ℕ} (old : List Label) → Begins s n → Bare roots → Walking s old old roots n
+pub walking-begin : (names : List Name) {s : List ℕ} {n : Next} {roots : List ℕ} (old : List Label) → length s ≤ most-bytes → Begins s n → Bare roots → Walking names s old old roots n
 unfolding unlinked over
-walking-begin {s} {n} {roots} old b bare =
-    let none : labelsBefore n ≡ 0 = counted-before s (length old) [] n (b .stands (length old)) in
+walking-begin names {s} {n} {roots} old short b bare =
+    let on : Resumes names s (length old) [] n = begins-stand short names b (length old) in
+    let none : labelsBefore n ≡ 0 = counted-before names s (length old) [] n on in
     record {
       labels = [];
-      stands = b .stands (length old);
+      stands = on;
       sound = b .sound;
       holds = subst (λ (k : ℕ). Holds s old (unlinked k old) []) (sym none) (record { table-is = refl; fits = omega arith; spelled = tt });
       tree = record {
@@ -128,14 +134,14 @@ walking-begin {s} {n} {roots} old b bare =
 holds-long : {s : List ℕ} {old table : List Label} {ls : List Meant} → Holds s old table ls → length table ≡ length old
 holds-long {s} {old} {table} {ls} h = table-long s old table ls (h .table-is) (h .fits)
 
-pub walking-long : {s : List ℕ} {old table : List Label} {roots : List ℕ} {n : Next} → Walking s old table roots n → length table ≡ length old
+pub walking-long : {names : List Name} {s : List ℕ} {old table : List Label} {roots : List ℕ} {n : Next} → Walking names s old table roots n → length table ≡ length old
 walking-long {table = table} {n = n} w = sym (unlinked-long (labelsBefore n) table) ∙ holds-long (w .holds)
 
 -- It reads on.
-pub walking-reads : {s : List ℕ} {old table : List Label} {roots : List ℕ} {n : Next} {p : Pass} → Walking s old table roots n → ReadsOn s n p → Stopping s old table roots p
-walking-reads {s} {old} {table} {roots} {n} {p} w r =
-    let on : Progress s (length old) (w .labels) p = r .stands (length old) (w .labels) (w .stands) in
-    let e : labelsBefore n ≡ labelsAt p = counted-before s (length old) (w .labels) n (w .stands) ∙ sym (counted-at s (length old) (w .labels) p on) in
+pub walking-reads : {names : List Name} {s : List ℕ} {old table : List Label} {roots : List ℕ} {n : Next} {p : Pass} → Naming names → Walking names s old table roots n → ReadsOn names s n p → Stopping names s old table roots p
+walking-reads {names} {s} {old} {table} {roots} {n} {p} ok w r =
+    let on : Progress names s (length old) (w .labels) p = reads-stand ok r (w .sound) (length old) (w .labels) (w .stands) in
+    let e : labelsBefore n ≡ labelsAt p = counted-before names s (length old) (w .labels) n (w .stands) ∙ sym (counted-at names s (length old) (w .labels) p on) in
     record {
       labels = w .labels;
       stands = on;
@@ -145,7 +151,7 @@ walking-reads {s} {old} {table} {roots} {n} {p} w r =
     }
 
 -- A label is entered, or refused.
-module _ {s : List ℕ} {old table : List Label} {p : LabelLine} {ls : List Meant} (n : LabelNext s (length old) ls p) (inside : InText s (p .label)) (h : Holds s old table ls) where
+module _ {names : List Name} {s : List ℕ} {old table : List Label} {p : LabelLine} {ls : List Meant} (n : LabelNext names s (length old) ls p) (inside : InText s (p .label)) (h : Holds s old table ls) where
   abbrev name : List ℕ
   name = spelled s (p .label)
 
@@ -193,7 +199,7 @@ module _ {s : List ℕ} {old table : List Label} {p : LabelLine} {ls : List Mean
         go false false l New q k = let y : _≡_ {A = ℕ} 0 1 = cc in absurd (omega arith)
 
 -- It stands at a label.
-module _ {s : List ℕ} {old table : List Label} {roots : List ℕ} {p : LabelLine} (w : Stopping s old table roots (AtLabel p)) where
+module _ {names : List Name} {s : List ℕ} {old table : List Label} {roots : List ℕ} {p : LabelLine} (w : Stopping names s old table roots (AtLabel p)) where
   -- What entering the label asks for.
   pub walking-enterable : Enterable s (p .labels) (p .label)
   unfolding most-bytes
@@ -204,10 +210,10 @@ module _ {s : List ℕ} {old table : List Label} {roots : List ℕ} {p : LabelLi
   -- It goes on.
   pub walking-on : {table′ : List Label} {roots′ : List ℕ} {e : Entered} {r : Next}
       → Enters s (unlinked (p .labels) table) (p .labels) (p .label) (unlinked (countBehind (p .labels) e) table′) e
-      → TreeBehind s table roots (p .labels) (p .label) table′ roots′ e → GoesOn s p e r → Walking s old table′ roots′ r
+      → TreeBehind s table roots (p .labels) (p .label) table′ roots′ e → GoesOn s p e r → Walking names s old table′ roots′ r
   walking-on {table′} {roots′} {e} {r} x t g =
-      let on : Resumes s (length old) (withEntry e (w .labels) (labelAt s p)) r = g .stands (length old) (w .labels) (w .stands) (fault-is (w .stands) (w .sound .in-text) (w .holds) x) in
-      let n : labelsBefore r ≡ countBehind (p .labels) e = counted-before s (length old) _ r on ∙ counted (w .labels) (labelAt s p) e ∙ ap (λ (m : ℕ). countBehind m e) (sym (w .stands .count)) in
+      let on : Resumes names s (length old) (withEntry e (w .labels) (labelAt s p)) r = goes-stand g (length old) (w .labels) (w .stands) (fault-is (w .stands) (w .sound .in-text) (w .holds) x) in
+      let n : labelsBefore r ≡ countBehind (p .labels) e = counted-before names s (length old) _ r on ∙ counted (w .labels) (labelAt s p) e ∙ ap (λ (m : ℕ). countBehind m e) (sym (w .stands .count)) in
       record {
         labels = withEntry e (w .labels) (labelAt s p);
         stands = on;
@@ -229,8 +235,8 @@ abbrev pub left : List ℕ → Next → ℕ
 left s (From c) = length s + 2 - c .line
 left s (NextEnded o) = 0
 
-pub nearer : {s : List ℕ} {n : Next} {p : LabelLine} {e : Entered} {r : Next} → ReadsOn s n (AtLabel p) → GoesOn s p e r → left s r < left s n
-nearer {s} {n} {p} {e} {r} a g = go n (a .after) r (g .follows)
+pub nearer : {names : List Name} {s : List ℕ} {n : Next} {p : LabelLine} {e : Entered} {r : Next} → ReadsOn names s n (AtLabel p) → GoesOn s p e r → left s r < left s n
+nearer {names} {s} {n} {p} {e} {r} a g = go n (a .after) r (g .follows)
   where
     go : (n : Next) → After n (AtLabel p) → (r : Next) → Follows p e r → left s r < left s n
     go (From c) h (From d) k = omega (arith, a .sound .line-fits, h, k .0)
@@ -238,10 +244,10 @@ nearer {s} {n} {p} {e} {r} a g = go n (a .after) r (g .follows)
     go (NextEnded o) h r k = absurd h
 
 -- It has ended.
-pub walking-ends : {s : List ℕ} {old table : List Label} {roots : List ℕ} {o : Outcome} → Stopping s old table roots (PassEnded o) → Walks s old table roots o
+pub walking-ends : {names : List Name} {s : List ℕ} {old table : List Label} {roots : List ℕ} {o : Outcome} → Stopping names s old table roots (PassEnded o) → Walks names s old table roots o
 walking-ends w = record { labels = w .labels; ends = w .stands; holds = w .holds; tree = w .tree }
 
-module _ {s : List ℕ} {old table : List Label} {roots : List ℕ} {o : Outcome} (w : Walks s old table roots o) where
+module _ {names : List Name} {s : List ℕ} {old table : List Label} {roots : List ℕ} {o : Outcome} (w : Walks names s old table roots o) where
   pub walks-long : length table ≡ length old
   walks-long = sym (unlinked-long (o .labels) table) ∙ holds-long (w .holds)
 
@@ -250,20 +256,20 @@ module _ {s : List ℕ} {old table : List Label} {roots : List ℕ} {o : Outcome
   walks-fits = omega (arith, w .ends .count, w .holds .fits, walks-long)
 
   -- What `finish` asks for.
-  pub walks-ready : Finishable s (o .verdict)
-  walks-ready = ends-ready s (length old) (w .labels) (o .verdict) (w .ends .judges)
+  pub walks-ready : Finishable names s (o .verdict)
+  walks-ready = ends-ready names s (length old) (w .labels) (o .verdict) (w .ends .judges)
 
   -- The second walk has ended too, and the entries are unlinked.
-  pub walks-end : {table′ : List Label} {image image′ : List ℕ} {r : Assembled} → table′ ≡ unlinked (o .labels) table → Finishes s (o .labels) image image′ r (o .verdict)
-      → Assembles s old image table′ image′ r
+  pub walks-end : {table′ : List Label} {image image′ : List ℕ} {r : Assembled} → table′ ≡ unlinked (o .labels) table → Finishes names s (o .labels) image image′ r (o .verdict)
+      → Assembles names s old image table′ image′ r
   walks-end e f =
       let a = ends-answers (w .ends) f in
       record { answer = a .answer; table-holds = e ∙ w .holds .table-is ∙ ap (λ (ls : List Meant). over (map entryOf ls) old) (a .labels-are); image-holds = a .image-holds }
 
 -- ---- a source that is too long
 
-pub overlong-assembles : (s : List ℕ) (table : List Label) (image : List ℕ) → most-bytes < length s → Assembles s table image table image overlong
+pub overlong-assembles : (names : List Name) (s : List ℕ) (table : List Label) (image : List ℕ) → most-bytes < length s → Assembles names s table image table image overlong
 unfolding over
-overlong-assembles s table image h =
-    let a = overlong-answers s (length table) image h in
+overlong-assembles names s table image h =
+    let a = overlong-answers names s (length table) image h in
     record { answer = a .answer; table-holds = ap (λ (ls : List Meant). over (map entryOf ls) table) (a .labels-are); image-holds = a .image-holds }

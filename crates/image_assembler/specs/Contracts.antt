@@ -4,7 +4,7 @@ use mathlib.Core.Path.{_≡_}
 use mathlib.Core.List.{List, map}
 use mathlib.Core.Option.{none, some}
 use lib.ListN.{length}
-use Rattle.text_lexical.specs.Names.{present}
+use Rattle.text_lexical.specs.Names.{Name}
 use Rattle.image.specs.Assembling.{most-bytes, assembling}
 use Rattle.image.specs.Assembling.{Label as Meant}
 use Rattle.image.specs.Lent.{over, Answer, assembled, refusal as refusalAnswer, answerOf, entered, imageAfter}
@@ -39,20 +39,20 @@ answerFor Filled words labels c = Is words labels c
 answerFor (NotFilled needed) words labels c = TooShort labels needed
 
 -- What `finish` asks of a verdict.
-abbrev pub Finishable : List ℕ → Verdict → Type 0
-Finishable s (Rejected n rust line) = Unit {0}
-Finishable s (Finished words c) = Ready s words (settingsMeant c)
+abbrev pub Finishable : List Name → List ℕ → Verdict → Type 0
+Finishable names s (Rejected n rust line) = Unit {0}
+Finishable names s (Finished words c) = Ready names s words (settingsMeant c)
 
 -- What a walk that has been finished comes to, with an image buffer before and after.
-pub record Completes (s : List ℕ) (words labels : ℕ) (c : Config) (old new : List ℕ) (r : Assembled) : Type 0 where
+pub record Completes (names : List Name) (s : List ℕ) (words labels : ℕ) (c : Config) (old new : List ℕ) (r : Assembled) : Type 0 where
   pub fill : Fill
-  pub fills : Fills s words old new fill
+  pub fills : Fills names s words old new fill
   pub answer : r ≡ answerFor fill words labels c
 
 -- What a first walk that has ended comes to, with so many labels, and an image buffer before and after.
-abbrev pub Finishes : List ℕ → ℕ → List ℕ → List ℕ → Assembled → Verdict → Type 0
-Finishes s labels old new r (Rejected n rust line) = (r ≡ Refused n rust line labels) × (new ≡ old)
-Finishes s labels old new r (Finished words c) = Completes s words labels c old new r
+abbrev pub Finishes : List Name → List ℕ → ℕ → List ℕ → List ℕ → Assembled → Verdict → Type 0
+Finishes names s labels old new r (Rejected n rust line) = (r ≡ Refused n rust line labels) × (new ≡ old)
+Finishes names s labels old new r (Finished words c) = Completes names s words labels c old new r
 
 -- ---- assembling
 
@@ -68,14 +68,14 @@ pub record Holds (s : List ℕ) (old table : List Label) (labels : List Meant) :
   pub spelled : Spelled s labels
 
 -- The first walk has ended. The labels stand in the table once their entries are unlinked; until then they can be found.
-pub record Walks (s : List ℕ) (old table : List Label) (roots : List ℕ) (o : Outcome) : Type 0 where
+pub record Walks (names : List Name) (s : List ℕ) (old table : List Label) (roots : List ℕ) (o : Outcome) : Type 0 where
   pub labels : List Meant
-  pub ends : WalkEnds s (length old) labels o
+  pub ends : WalkEnds names s (length old) labels o
   pub holds : Holds s old (unlinked (o .labels) table) labels
   pub tree : Tree s table roots (o .labels)
 
 -- Assembling a source, with a label table and an image buffer before and after.
-pub record Assembles (source : List ℕ) (table : List Label) (image : List ℕ) (table′ : List Label) (image′ : List ℕ) (r : Assembled) : Type 0 where
-  pub answer : answerMeant r ≡ answerOf (assembling present source (length table) (length image))
-  pub table-holds : table′ ≡ over (map entryOf (entered (assembling present source (length table) (length image)))) table
-  pub image-holds : image′ ≡ imageAfter present source (assembling present source (length table) (length image)) image
+pub record Assembles (names : List Name) (source : List ℕ) (table : List Label) (image : List ℕ) (table′ : List Label) (image′ : List ℕ) (r : Assembled) : Type 0 where
+  pub answer : answerMeant r ≡ answerOf (assembling names source (length table) (length image))
+  pub table-holds : table′ ≡ over (map entryOf (entered (assembling names source (length table) (length image)))) table
+  pub image-holds : image′ ≡ imageAfter names source (assembling names source (length table) (length image)) image

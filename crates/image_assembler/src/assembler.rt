@@ -1,5 +1,6 @@
 // Assembling: the first walk enters the labels, the second writes the image.
 ghost use mathlib.Core.Path.{_≡_};
+ghost use Rattle.text_lexical.specs.Names.{present};
 ghost use Rattle.image_labels.specs.Tree.{Bare};
 ghost use Rattle.image_line.specs.Contracts.{Tables};
 ghost use Rattle.image_assembler.specs.Contracts.{overlong as overlongAnswer, answerFor, Finishable, Finishes, Starts, Walks, Assembles};
@@ -65,8 +66,8 @@ fn finish(
     forms: &[u8; 50],
     slots: &[u8; 293],
 ) -> Assembled
-    requires { ⌜ Finishable (now source) (outcome .verdict) ⌝ ∗ ⌜ Tables (now mnemonics) (now forms) (now slots) ⌝ }
-    ensures { λ r. ⌜ Finishes (now (source .entry)) (outcome .labels) (now (image .entry)) (now (image .exit)) r (outcome .verdict) ⌝ }
+    requires { ⌜ Finishable present (now source) (outcome .verdict) ⌝ ∗ ⌜ Tables (now mnemonics) (now forms) (now slots) ⌝ }
+    ensures { λ r. ⌜ Finishes present (now (source .entry)) (outcome .labels) (now (image .entry)) (now (image .exit)) r (outcome .verdict) ⌝ }
 {
     let labels = outcome.labels;
     let verdict = outcome.verdict;
@@ -106,7 +107,7 @@ fn walk(
     slots: &[u8; 293],
 ) -> Outcome
     requires { ⌜ Tables (now mnemonics) (now forms) (now slots) ⌝ ∗ ⌜ Starts (now source) (now roots) ⌝ }
-    ensures { λ r. ⌜ Walks (now (source .entry)) (now (table .entry)) (now (table .exit)) (now (roots .exit)) r ⌝ }
+    ensures { λ r. ⌜ Walks present (now (source .entry)) (now (table .entry)) (now (table .exit)) (now (roots .exit)) r ⌝ }
 {
     let mut next = image_passes::first_pass::begin(source);
     loop {
@@ -131,7 +132,7 @@ fn rooted(
     slots: &[u8; 293],
 ) -> Assembled
     requires { ⌜ Tables (now mnemonics) (now forms) (now slots) ⌝ ∗ ⌜ Starts (now source) (now roots) ⌝ }
-    ensures { λ r. ⌜ Assembles (now (source .entry)) (now (table .entry)) (now (image .entry)) (now (table .exit)) (now (image .exit)) r ⌝ }
+    ensures { λ r. ⌜ Assembles present (now (source .entry)) (now (table .entry)) (now (image .entry)) (now (table .exit)) (now (image .exit)) r ⌝ }
 {
     let outcome = walk(source, table, roots, mnemonics, forms, slots);
     let assembled = finish(source, image, outcome, mnemonics, forms, slots);
@@ -148,7 +149,7 @@ fn empty_roots() -> [u32; 4096]
 
 // The image of a source, and its labels. A source that is too long is refused before any bucket is cleared.
 pub fn assemble(source: &[u8], table: &mut [Label], image: &mut [u8]) -> Assembled
-    ensures { λ r. ⌜ Assembles (now (source .entry)) (now (table .entry)) (now (image .entry)) (now (table .exit)) (now (image .exit)) r ⌝ }
+    ensures { λ r. ⌜ Assembles present (now (source .entry)) (now (table .entry)) (now (image .entry)) (now (table .exit)) (now (image .exit)) r ⌝ }
 {
     if image_passes::first_pass::too_long(source) {
         return overlong();

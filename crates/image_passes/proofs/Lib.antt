@@ -1,4 +1,5 @@
 pub mod Reaching
+mod Spelling
 pub mod Steps
 pub mod Passes
 pub mod Scanning

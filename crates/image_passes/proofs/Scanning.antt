@@ -14,6 +14,7 @@ use Rattle.text_lexical.specs.Names.{Name}
 use Rattle.text_lexical.proofs.Tests.{split}
 use Rattle.text.specs.Lines.{lines, indent, readLine}
 use Rattle.text.specs.Places.{restAt, endAt}
+use Rattle.text.specs.NameSets.{Naming}
 use Rattle.text.proofs.Lines.{line-at, last-line}
 use Rattle.image.specs.Settings.{Settings}
 use Rattle.image.specs.Program.{entry}
@@ -39,6 +40,7 @@ use Rattle.image_passes.specs.declared.first_pass.Rest.{Rest}
 use Rattle.image_passes.specs.declared.first_pass.Rest.the-variants.{Refused, Done}
 use Rattle.image_passes.proofs.Reaching.{comesTo, whole, Clean, Reached, LabelNext, Progress, LineNext, Resumes, withEntry, labelAt}
 use Rattle.image_passes.proofs.Passes.{line-split}
+use Rattle.image_passes.proofs.Spelling.{label-part}
 use Rattle.image_passes.proofs.Steps.{grown, RestDone, rest-is, rest-fits, comes-to}
 
 -- ---- after a line
@@ -178,11 +180,7 @@ module _ {names : List Name} {s : List ℕ} {room line at : ℕ} {ls : List Mean
 
 -- ---- reading on
 
--- A label is spelled as the part of the source that its line's content begins with.
-pub record Spells (names : List Name) (s : List ℕ) : Type 0 where
-  pub part : (at : ℕ) (setup : Settings) (u : List ℕ) → readAt names s at setup .label ≡ some u → u ≡ take (length u) (drop (at + indent (restAt s at)) s)
-
-module _ {names : List Name} {s : List ℕ} (spells : Spells names s) (room : ℕ) (ls : List Meant) (labels : ℕ) (count : labels ≡ length ls) where
+module _ {names : List Name} (s : List ℕ) (ok : Naming names) (room : ℕ) (ls : List Meant) (labels : ℕ) (count : labels ≡ length ls) where
   -- Where reading on from a line comes to is where document 01's walk stands.
   abbrev Stands : ℕ → ℕ → Config → ℕ → List (List ℕ) → Type 0
   Stands line words c at ls′ = Progress names s room ls (scanned names labels line words c at ls′)
@@ -210,7 +208,7 @@ module _ {names : List Name} {s : List ℕ} (spells : Spells names s) (room : �
               words = words;
               config = c;
               reached = q;
-              reads = e ∙ ap (λ (v : List ℕ). some v) (spells .part at (settingsMeant c) u e);
+              reads = e ∙ ap (λ (v : List ℕ). some v) (label-part ok s at (settingsMeant c) u e);
               starts = refl;
               address-is = refl;
               rest-is = refl;
@@ -248,13 +246,13 @@ module _ {names : List Name} {s : List ℕ} (spells : Spells names s) (room : �
       lines-stand line words c at inside q (λ words′ c′ b r. stands-from left (suc line) words′ c′ (suc (endAt s at)) (omega (arith, few)) (omega (arith, b)) r)
 
 -- Where the walk comes to as it reads on.
-pub reads-stand : {names : List Name} {s : List ℕ} {n : Next} {p : Pass} → Spells names s → ReadsOn names s n p → ScannableNext s n → (room : ℕ) (ls : List Meant) → Resumes names s room ls n
+pub reads-stand : {names : List Name} {s : List ℕ} {n : Next} {p : Pass} → Naming names → ReadsOn names s n p → ScannableNext s n → (room : ℕ) (ls : List Meant) → Resumes names s room ls n
     → Progress names s room ls p
-reads-stand {names} {s} {n} {p} spells r safe room ls h = rw (r .answer) (go n safe h)
+reads-stand {names} {s} {n} {p} ok r safe room ls h = rw (r .answer) (go n safe h)
   where
     go : (n : Next) → ScannableNext s n → Resumes names s room ls n → Progress names s room ls (resumed names s n)
     go (NextEnded o) z k = k
-    go (From c) z k = stands-from spells room ls (c .labels) (k .count) (length s) (c .line) (c .words) (c .config) (c .at) (omega arith) (z .in-text) (k .reached)
+    go (From c) z k = stands-from s ok room ls (c .labels) (k .count) (length s) (c .line) (c .words) (c .config) (c .at) (omega arith) (z .in-text) (k .reached)
 
 -- ---- after a label
 

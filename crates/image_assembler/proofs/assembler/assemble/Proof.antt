@@ -65,6 +65,7 @@ use Rattle.instruction.proofs.opcode.slots.Symbol as slots-def
 use Rattle.instruction.proofs.opcode.slots.Symbol.{name as #slots}
 use Rattle.instruction.proofs.opcode.slots.Met as slots-thm
 use Rattle.image.specs.Assembling.{most-bytes}
+use Rattle.text_lexical.specs.Names.{present}
 use Rattle.image_labels.specs.Tree.{Bare}
 use Rattle.image_labels.specs.declared.label.Label.{Label}
 use Rattle.image_labels.proofs.label.Label as L
@@ -184,7 +185,7 @@ module _ {M : Type 1} (𝓤 : URA M) (H : Heap 𝓤) (A : Atoms 𝓤) (at-mem : 
     abbrev Has : List Label → List ℕ → List (Item 𝓤)
     Has l i = token₁ ∷ ‵ (Table l) ∷ token₂ ∷ ‵ (Image i) ∷ token₃ ∷ []
 
-    exits : (l : List Label) (i : List ℕ) (r : Assembled) → Assembles xs ys zs l i r → length l ≡ length ys → length i ≡ length zs → Is R.the-row r (rval r ∷ []) → Sq W (Has l i) (prop (Post (rval r)))
+    exits : (l : List Label) (i : List ℕ) (r : Assembled) → Assembles present xs ys zs l i r → length l ≡ length ys → length i ≡ length zs → Is R.the-row r (rval r ∷ []) → Sq W (Has l i) (prop (Post (rval r)))
     exits l i r h e f is =
         suffices ! _ (ends-at 𝓤 H A assemble.ended stayed (assemble.clauses 𝓤 H A at-mem run) W given (rval r) r (tt, (l, (i, tt))) (tt, (e, (f, tt)))) $ says ! h $
         nothing ! $ move ! (5 ∷ 0 ∷ []) $ join ! $ move ! (3 ∷ 0 ∷ []) $ join ! $ move ! (1 ∷ 0 ∷ []) $ join ! $ frame ! $
@@ -285,7 +286,7 @@ module _ {M : Type 1} (𝓤 : URA M) (H : Heap 𝓤) (A : Atoms 𝓤) (at-mem : 
             calls-to ! (fmOf 𝓤 H (W .laws) 𝓣) rooted.ended (rooted.clauses 𝓤 H A at-mem run) rooting (to-rooted νs cs listed short l₇ rs ie bare ν δ ρ ε ν′ δ′) rval (EL.tells R.the-type R′.the-laws)
             (and-then ! (load ! (from ! (stop !)) (look ! 41 refl)) (and-then ! (load ! (from ! (stop !)) (look ! 13 refl)) (and-then ! (load ! (from ! (stop !)) (look ! 9 refl)) (and-then ! (load ! (from ! (stop !)) (look ! 5 refl))
             (and-then ! (load ! (from ! (stop !)) (look ! 35 refl)) (and-then ! (load ! (from ! (stop !)) (look ! 33 refl)) (and-then ! (load ! (from ! (stop !)) (look ! 31 refl)) (no-more !)))))))) (λ r ws ir.
-            heard ! (Assembles xs ys zs (ws .1 .0) (ws .1 .1 .1 .0) r) (λ h. fsplit ! $ drop ! $ fsplit ! $ fsplit ! $ move ! (1 ∷ []) $ feqL ! (λ e. move ! (1 ∷ []) $
+            heard ! (Assembles present xs ys zs (ws .1 .0) (ws .1 .1 .1 .0) r) (λ h. fsplit ! $ drop ! $ fsplit ! $ fsplit ! $ move ! (1 ∷ []) $ feqL ! (λ e. move ! (1 ∷ []) $
             fsplit ! $ fsplit ! $ move ! (1 ∷ []) $ feqL ! (λ _. move ! (1 ∷ []) $ fsplit ! $ fsplit ! $ move ! (1 ∷ []) $ feqL ! (λ f. move ! (1 ∷ []) $ drop ! $
             -- [the last image; the last roots; the last labels; the tokens; what is kept of the image; of the label table; the roots, away; the constant tables, away; _21; …]
             move ! (3 ∷ []) $ use1 W (token₁ ⊛ (‵ (flft (ν ∷ []) fullShare) ⊛ (‵ (flft (ρ ∷ []) fullShare) ⊛ (‵ (flft (ν′ ∷ []) fullShare) ⊛ Others 𝓤 A νs wholes)))) (id⊢ 𝓤 _) $
@@ -341,7 +342,7 @@ module _ {M : Type 1} (𝓤 : URA M) (H : Heap 𝓤) (A : Atoms 𝓤) (at-mem : 
           calls-to ! (fmOf 𝓤 H (W .laws) 𝓣) over-long.ended (over-long.clauses 𝓤 H A at-mem run) refusing ((tt, tt, tt, tt, tt), tt) rval (EL.tells R.the-type R′.the-laws) (no-more !) (λ r _ ir.
           heard ! (r ≡ overlong) (λ o. drop ! $ drop ! $ land ! (from ! (stop !)) (init ! 48 refl (EL.lawful R.the-type R′.the-laws 𝓤 H A W tt .typed r _ ir .0)) $ returns-within ! Post refl (look ! 48 refl) $
           move ! (1 ∷ []) $ drop ! $ frees-all ! E (holds (some (rval r)) (none ∷ none ∷ none ∷ none ∷ some (vbool c) ∷ [])) (Has ys zs) $
-          exits ys zs r (subst (Assembles xs ys zs ys zs) (sym o) (overlong-assembles xs ys zs (ltb-true most-bytes (length xs) (sym e ∙ is-true c long)))) refl refl ir)))
+          exits ys zs r (subst (Assembles present xs ys zs ys zs) (sym o) (overlong-assembles present xs ys zs (ltb-true most-bytes (length xs) (sym e ∙ is-true c long)))) refl refl ir)))
           (λ short. skips ! $ exec ! (𝓣 .C) (𝓣 .Λ) E m.t-3 (atRet E Post) $ move ! (1 ∷ 0 ∷ []) $ builds c (ltb-false most-bytes (length xs) (sym e ∙ is-false c short)))))
 
     walk : (𝓣 : Tables 𝓤 H) → Triple 𝓤 (𝓣 .C #too-long) Test → Triple 𝓤 (𝓣 .C #over-long) Overlong → Triple 𝓤 (𝓣 .C #mnemonics) Mnemonics → Triple 𝓤 (𝓣 .C #forms) Forms → Triple 𝓤 (𝓣 .C #slots) Slots → Triple 𝓤 (𝓣 .C #empty) Empty → Triple 𝓤 (𝓣 .C #rooted) Rooted

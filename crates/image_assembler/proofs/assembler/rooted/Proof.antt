@@ -46,6 +46,7 @@ use Rattle.walking.proofs.Calls.{Known, calls-to}
 use Rattle.walking.proofs.Facts.{says-both, needs-both}
 use Rattle.walking.proofs.Locals.{Locals, frees-all}
 use Rattle.walking.proofs.Numbers.{Numbers, cells}
+use Rattle.text_lexical.specs.Names.{present}
 use Rattle.image_labels.specs.declared.label.Label.{Label}
 use Rattle.image_labels.specs.Tree.{unlinked}
 use Rattle.image_labels.proofs.label.Label as L
@@ -190,7 +191,7 @@ module _ {M : Type 1} (𝓤 : URA M) (H : Heap 𝓤) (A : Atoms 𝓤) (at-mem : 
     twice : ent 𝓤 (sem 𝓤 H A Rest) (sep 𝓤 (sem 𝓤 H A Rest) (sem 𝓤 H A Rest))
     twice = shared-twice (κs .0) src (κs .1 .1 .1 .1) cs 𝓤 H A W
 
-    exits : (l : List Label) (rs i : List ℕ) (r : Assembled) → Assembles xs ys zs l i r → length l ≡ length ys → length rs ≡ length bs → length i ≡ length zs → Is R.the-row r (rval r ∷ [])
+    exits : (l : List Label) (rs i : List ℕ) (r : Assembled) → Assembles present xs ys zs l i r → length l ≡ length ys → length rs ≡ length bs → length i ≡ length zs → Is R.the-row r (rval r ∷ [])
         → Sq W (Has l rs i) (prop (Post (rval r)))
     exits l rs i r h e e₂ f is =
         suffices ! _ (ends-at 𝓤 H A rooted.ended stayed (rooted.clauses 𝓤 H A at-mem run) W given (rval r) r (tt, (l, (rs, (i, (tt, (tt, (tt, tt))))))) (tt, (e, (e₂, (f, (tt, (tt, (tt, tt)))))))) $
@@ -225,7 +226,7 @@ module _ {M : Type 1} (𝓤 : URA M) (H : Heap 𝓤) (A : Atoms 𝓤) (at-mem : 
     abbrev to-finish : ℕ → GName → Outcome → Finish .Ghost
     to-finish ν δ p = (((κs .0, (ν ∷ [], κs .1 .1 .1 .1)), (qs .0, (fullShare, qs .1 .1 .1 .1)), tt, (src, (x₃ δ zs, (p, cs))), (s₁ ∷ [], (s₃ ∷ [], (oval p ∷ [], constantVals cs)))), tt)
 
-    goes-finish : (ν : ℕ) (δ : GName) (p : Outcome) {l : List Label} {rs : List ℕ} → Walks xs ys l rs p → OutcomeIs p
+    goes-finish : (ν : ℕ) (δ : GName) (p : Outcome) {l : List Label} {rs : List ℕ} → Walks present xs ys l rs p → OutcomeIs p
         → ent 𝓤 (sep 𝓤 (sem 𝓤 H A Rest) (sep 𝓤 (mean 𝓤 H A Tokens) (sep 𝓤 (sem 𝓤 H A (LentImage ν δ)) (A .lft (ν ∷ []) fullShare)))) (Finish .pre (to-finish ν δ p))
     goes-finish ν δ p w is =
         qed W (‵ Rest ∷ Tokens ∷ (‵ (LentImage ν δ) ⊛ ‵ (flft (ν ∷ []) fullShare)) ∷ []) ∵ says-both ! (walks-ready w) listed $ move ! (1 ∷ []) $
@@ -267,9 +268,9 @@ module _ {M : Type 1} (𝓤 : URA M) (H : Heap 𝓤) (A : Atoms 𝓤) (at-mem : 
       passed p r vs = some (oval p) ∷ r ∷ some (vptr b o) ∷ some s ∷ some (vptr b₂ o₂) ∷ some s₂ ∷ vs
 
       -- behind the call of `walk`
-      module _ (l : List Label) (rs : List ℕ) (p : Outcome) (w : Walks xs ys l rs p) (ip : OutcomeIs p) (e : length l ≡ length ys) (e₂ : length rs ≡ length bs) where
+      module _ (l : List Label) (rs : List ℕ) (p : Outcome) (w : Walks present xs ys l rs p) (ip : OutcomeIs p) (e : length l ≡ length ys) (e₂ : length rs ≡ length bs) where
         -- [the tokens of what is shared; the image; its token; the label table; its token; the roots; their token; _18; …; _17; …; …; _0; …]
-        strips : (i : List ℕ) (r : Assembled) → Finishes xs (p .labels) zs i r (p .verdict) → length i ≡ length zs → Is R.the-row r (rval r ∷ [])
+        strips : (i : List ℕ) (r : Assembled) → Finishes present xs (p .labels) zs i r (p .verdict) → length i ≡ length zs → Is R.the-row r (rval r ∷ [])
             → Sq W (Tokens ∷ ‵ (Image i) ∷ token₃ ∷ ‵ (Table l) ∷ token ∷ ‵ (Roots rs) ∷ token₂ ∷ Locals 𝓤 H E (holds none (passed p (some (rval r)) (some (vptr b₃ o₃) ∷ some s₃ ∷ []))))
             (runs (𝓣 .C) (𝓣 .Λ) E m.t-9 (atRet E Post))
         strips i r h f ir =
@@ -302,7 +303,7 @@ module _ {M : Type 1} (𝓤 : URA M) (H : Heap 𝓤) (A : Atoms 𝓤) (at-mem : 
             calls-to ! (fmOf 𝓤 H (W .laws) 𝓣) finish.ended (finish.clauses 𝓤 H A at-mem run) finishing (to-finish ν δ p) rval (EL.tells R.the-type R′.the-laws)
             (and-then ! (load ! (from ! (stop !)) (look ! 40 refl)) (and-then ! (load ! (from ! (stop !)) (look ! 12 refl)) (and-then ! (load ! (from ! (stop !)) (look ! 26 refl))
             (and-then ! (load ! (from ! (stop !)) (look ! 32 refl)) (and-then ! (load ! (from ! (stop !)) (look ! 30 refl)) (and-then ! (load ! (from ! (stop !)) (look ! 28 refl)) (no-more !))))))) (λ r us ir.
-            heard ! (Finishes xs (p .labels) zs (us .1 .0) r (p .verdict)) (λ h. fsplit ! $ drop ! $ fsplit ! $ fsplit ! $ move ! (1 ∷ []) $ feqL ! (λ f. move ! (1 ∷ []) $ drop ! $ move ! (1 ∷ []) $
+            heard ! (Finishes present xs (p .labels) zs (us .1 .0) r (p .verdict)) (λ h. fsplit ! $ drop ! $ fsplit ! $ fsplit ! $ move ! (1 ∷ []) $ feqL ! (λ f. move ! (1 ∷ []) $ drop ! $ move ! (1 ∷ []) $
             -- [the tokens of what is shared and of ν; the last image; what is kept of it; the label table; its token; the roots; their token; _18; …]
             use1 W (token₁ ⊛ (‵ (flft (ν ∷ []) fullShare) ⊛ others)) (id⊢ 𝓤 _) $ split ! $ move ! (1 ∷ []) $ split ! $ move ! (0 ∷ 4 ∷ 3 ∷ []) $
             ends u8 (κs .1 .1 .1 .0) (qs .1 .1 .1 .0) γ₃ b₃ o₃ zs (named 3) (named 1) ! tt ν δ (us .1 .0) gm f $ move ! (3 ∷ 2 ∷ []) $ use2 W Tokens (id⊢ 𝓤 _) $
@@ -326,7 +327,7 @@ module _ {M : Type 1} (𝓤 : URA M) (H : Heap 𝓤) (A : Atoms 𝓤) (at-mem : 
           calls-to ! (fmOf 𝓤 H (W .laws) 𝓣) walk.ended (walk.clauses 𝓤 H A at-mem run) walking (to-walk ν δ ν₂ δ₂) oval (LL.tells O.the-type O′.the-laws)
           (and-then ! (load ! (from ! (stop !)) (look ! 40 refl)) (and-then ! (load ! (from ! (stop !)) (look ! 20 refl)) (and-then ! (load ! (from ! (stop !)) (look ! 16 refl))
           (and-then ! (load ! (from ! (stop !)) (look ! 32 refl)) (and-then ! (load ! (from ! (stop !)) (look ! 30 refl)) (and-then ! (load ! (from ! (stop !)) (look ! 28 refl)) (no-more !))))))) (λ p ws ip.
-          heard ! (Walks xs ys (ws .1 .0) (ws .1 .1 .0) p) (λ w. fsplit ! $ drop ! $ fsplit ! $ fsplit ! $ move ! (1 ∷ []) $ feqL ! (λ e. move ! (1 ∷ []) $
+          heard ! (Walks present xs ys (ws .1 .0) (ws .1 .1 .0) p) (λ w. fsplit ! $ drop ! $ fsplit ! $ fsplit ! $ move ! (1 ∷ []) $ feqL ! (λ e. move ! (1 ∷ []) $
           fsplit ! $ fsplit ! $ move ! (1 ∷ []) $ feqL ! (λ e₂. move ! (1 ∷ []) $ drop ! $
           -- [the last roots; the last labels; the tokens; what is kept of the roots; of the table; what is shared; the image; its token; _18; …]
           move ! (2 ∷ []) $ use1 W (token₁ ⊛ (‵ (flft (ν ∷ []) fullShare) ⊛ (‵ (flft (ν₂ ∷ []) fullShare) ⊛ others))) (id⊢ 𝓤 _) $ split ! $ move ! (1 ∷ []) $ split ! $ move ! (1 ∷ []) $ split ! $

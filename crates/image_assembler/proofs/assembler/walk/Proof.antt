@@ -52,6 +52,8 @@ use Rattle.walking.proofs.Calls.{Known, calls-to, calls-to-last}
 use Rattle.walking.proofs.Facts.{says-both, needs-both, heard-both}
 use Rattle.walking.proofs.Locals.{Locals, frees-all, behind, arm-of}
 use Rattle.walking.proofs.Numbers.{Numbers, cells}
+use Rattle.text_lexical.specs.Names.{present}
+use Rattle.text.proofs.NameSets.{present-naming}
 use Rattle.image_labels.specs.Contracts.{countBehind, Enters}
 use Rattle.image_labels.specs.Tree.{unlinked, TreeBehind}
 use Rattle.image_labels.specs.declared.label.Label.{Label}
@@ -184,7 +186,7 @@ module _ {M : Type 1} (𝓤 : URA M) (H : Heap 𝓤) (A : Atoms 𝓤) (at-mem : 
     twice : ent 𝓤 (sem 𝓤 H A Rest) (sep 𝓤 (sem 𝓤 H A Rest) (sem 𝓤 H A Rest))
     twice = shared-twice (κs .0) src (κs .1 .1 .1) cs 𝓤 H A W
 
-    exits : (zs : List Label) (rs : List ℕ) (r : Outcome) → Walks xs ys zs rs r → length rs ≡ length bs → OutcomeIs r → Sq W (Has zs rs) (prop (Post (oval r)))
+    exits : (zs : List Label) (rs : List ℕ) (r : Outcome) → Walks present xs ys zs rs r → length rs ≡ length bs → OutcomeIs r → Sq W (Has zs rs) (prop (Post (oval r)))
     exits zs rs r w long is =
         rewrite ! 2 (λ (n : ℕ). ‵ (Table zs n)) (walks-long w) refl $ rewrite ! 4 (λ (n : ℕ). ‵ (Roots rs n)) long refl $
         suffices ! _ (ends-at 𝓤 H A walks.ended stayed (walks.clauses 𝓤 H A at-mem run) W given (oval r) r (tt, (zs, (rs, (tt, (tt, (tt, tt)))))) (tt, (walks-long w, (long, (tt, (tt, (tt, tt))))))) $
@@ -242,7 +244,7 @@ module _ {M : Type 1} (𝓤 : URA M) (H : Heap 𝓤) (A : Atoms 𝓤) (at-mem : 
       abbrev Lent : Item 𝓤
       Lent = (‵ (LentTable ν δ zs) ⊛ ‵ (flft (ν ∷ []) fullShare)) ⊛ (‵ (LentRoots ν₂ δ₂ rs) ⊛ ‵ (flft (ν₂ ∷ []) fullShare))
 
-      goes-enter : Stopping xs ys zs rs (AtLabel p) → LabelLineIs p → ent 𝓤 (sep 𝓤 (sem 𝓤 H A Rest) (sep 𝓤 (A .lft (κs .0) (qs .0)) (mean 𝓤 H A Lent))) (Enter .pre to-enter)
+      goes-enter : Stopping present xs ys zs rs (AtLabel p) → LabelLineIs p → ent 𝓤 (sep 𝓤 (sem 𝓤 H A Rest) (sep 𝓤 (A .lft (κs .0) (qs .0)) (mean 𝓤 H A Lent))) (Enter .pre to-enter)
       goes-enter w is =
           qed W (‵ Rest ∷ ‵ (flft (κs .0) (qs .0)) ∷ Lent ∷ []) ∵ says-both ! (w .tree) (walking-enterable w) $
           nothing ! $ move ! (3 ∷ []) $ split ! $ move ! (1 ∷ []) $ split ! $
@@ -255,7 +257,7 @@ module _ {M : Type 1} (𝓤 : URA M) (H : Heap 𝓤) (A : Atoms 𝓤) (at-mem : 
 
     -- the loop: the label table and the roots as they are, and where the walk reads on
     abbrev St : Type 0
-    St = (zs : List Label) × ((n : Next) × ((rs : List ℕ) × ((length rs ≡ length bs) × (Walking xs ys zs rs n × NextIs n))))
+    St = (zs : List Label) × ((n : Next) × ((rs : List ℕ) × ((length rs ≡ length bs) × (Walking present xs ys zs rs n × NextIs n))))
 
     abbrev Nearer : St → St → Type 0
     Nearer u t = left xs (u .1 .0) < left xs (t .1 .0)
@@ -290,7 +292,7 @@ module _ {M : Type 1} (𝓤 : URA M) (H : Heap 𝓤) (A : Atoms 𝓤) (at-mem : 
       abbrev Turned : St → Kit.Post 𝓤 H
       Turned t = anyQ (afterTurn 𝓤 H (Below 𝓤 H A Nearer Inv t) (afterBlock 𝓤 H (afterSeq 𝓤 H (Wp 𝓤 H (𝓣 .C) (𝓣 .Λ) E m.t-3 (atReturn 𝓤 H E Post)) (atReturn 𝓤 H E Post))))
 
-      onward : (zs₀ : List Label) (n : Next) (rs₀ : List ℕ) (long₀ : length rs₀ ≡ length bs) (w : Walking xs ys zs₀ rs₀ n) (is : NextIs n) (p : LabelLine) → ReadsOn xs n (AtLabel p) → LabelLineIs p
+      onward : (zs₀ : List Label) (n : Next) (rs₀ : List ℕ) (long₀ : length rs₀ ≡ length bs) (w : Walking present xs ys zs₀ rs₀ n) (is : NextIs n) (p : LabelLine) → ReadsOn present xs n (AtLabel p) → LabelLineIs p
           → (e : Entered) (zs : List Label) (rs : List ℕ) → length rs ≡ length bs → Is R.the-row e (eval e ∷ [])
           → Enters xs (unlinked (p .labels) zs₀) (p .labels) (p .label) (unlinked (countBehind (p .labels) e) zs) e → TreeBehind xs zs₀ rs₀ (p .labels) (p .label) zs rs e
           → Sq W (With zs rs (some (nval n) ∷ some (lval p) ∷ some (eval e) ∷ none ∷ some (pval (AtLabel p)) ∷ some (vptr b o) ∷ some (s zs₀) ∷ some (vptr b₂ o₂) ∷ some (s₂ rs₀) ∷ []))
@@ -305,9 +307,9 @@ module _ {M : Type 1} (𝓤 : URA M) (H : Heap 𝓤) (A : Atoms 𝓤) (at-mem : 
           heard ! (GoesOn xs p e r) (λ g. drop ! $ use1 W (‵ (flft (κs .0) (qs .0)) ⊛ ‵ ftrue) (id⊢ 𝓤 _) $ split ! $ move ! (1 ∷ []) $ drop ! $ use2 W Tokens (id⊢ 𝓤 _) $
           land-last ! (from ! (stop !)) (store ! 22 refl (EL.lawful N.the-type N′.the-laws 𝓤 H A W tt .typed r _ ir .0)) $
           move ! (1 ∷ 0 ∷ []) $ forget ! 6 refl $ forget ! 8 refl $ forget ! 10 refl $ forget ! 12 refl $ forget ! 14 refl $ forget ! 18 refl $ forget ! 20 refl $
-          again ! Nearer Inv (zs₀, (n, (rs₀, (long₀, (w, is))))) (zs, (r, (rs, (long, (walking-on (walking-reads w a) x d g, ir))))) (nearer a g)))
+          again ! Nearer Inv (zs₀, (n, (rs₀, (long₀, (w, is))))) (zs, (r, (rs, (long, (walking-on (walking-reads present-naming w a) x d g, ir))))) (nearer a g)))
 
-      enters : (zs : List Label) (n : Next) (rs : List ℕ) (long : length rs ≡ length bs) (w : Walking xs ys zs rs n) (is : NextIs n) (p : LabelLine) → ReadsOn xs n (AtLabel p) → LabelLineIs p
+      enters : (zs : List Label) (n : Next) (rs : List ℕ) (long : length rs ≡ length bs) (w : Walking present xs ys zs rs n) (is : NextIs n) (p : LabelLine) → ReadsOn present xs n (AtLabel p) → LabelLineIs p
           → Sq W (With zs rs (some (nval n) ∷ none ∷ none ∷ none ∷ some (pval (AtLabel p)) ∷ [])) (runs (𝓣 .C) (𝓣 .Λ) E (arm-of 0 (behind 1 m.turn-1)) (Turned (zs, (n, (rs, (long, (w, is)))))))
       enters zs n rs long w is p a ip =
           assigns ! (of-opd ! (load ! (from ! (vrt ! refl (fld ! refl (stop !)))) (look-in ! 14 (in-variant ! 0 0 refl refl (whole !))))) (from ! (stop !)) (init ! 20 refl (LL.lawful Q.the-type Q′.the-laws 𝓤 H A W .typed p _ ip .0)) $
@@ -321,7 +323,7 @@ module _ {M : Type 1} (𝓤 : URA M) (H : Heap 𝓤) (A : Atoms 𝓤) (at-mem : 
           lends L.the-row (κs .1 .0) (qs .1 .0) γ b o zs (named 1) (named 1) ! tt (λ ν δ. join ! $ move ! (6 ∷ 7 ∷ []) $
           lends u32 (κs .1 .1 .0) (qs .1 .1 .0) γ₂ b₂ o₂ rs (named 2) (named 2) ! tt (λ ν₂ δ₂. join ! $
           -- [the lent roots and their token; what is kept of them; the lent table and its token; what is kept of it; the source's token; the other tokens; what is shared, twice; _15; …]
-          move ! (2 ∷ 0 ∷ []) $ join ! $ move ! (5 ∷ 3 ∷ 0 ∷ []) $ use3 W (raw (Enter .pre (to-enter ν δ zs ν₂ δ₂ rs p))) (goes-enter ν δ zs ν₂ δ₂ rs p (walking-reads w a) ip) $
+          move ! (2 ∷ 0 ∷ []) $ join ! $ move ! (5 ∷ 3 ∷ 0 ∷ []) $ use3 W (raw (Enter .pre (to-enter ν δ zs ν₂ δ₂ rs p))) (goes-enter ν δ zs ν₂ δ₂ rs p (walking-reads present-naming w a) ip) $
           -- [what `enter` asks for; what is kept of the roots; of the table; the other tokens; what is shared; _15; …]
           calls-to ! (fmOf 𝓤 H (W .laws) 𝓣) enter-label.ended (enter-label.clauses 𝓤 H A at-mem run) entering (to-enter ν δ zs ν₂ δ₂ rs p) eval (EL.tells R.the-type R′.the-laws)
           (and-then ! (load ! (from ! (stop !)) (look ! 33 refl)) (and-then ! (load ! (from ! (stop !)) (look ! 9 refl)) (and-then ! (load ! (from ! (stop !)) (look ! 5 refl))
@@ -344,16 +346,16 @@ module _ {M : Type 1} (𝓤 : URA M) (H : Heap 𝓤) (A : Atoms 𝓤) (at-mem : 
           here₂ : Room u32 (length rs)
           here₂ = rw long gr
 
-      stops : (zs : List Label) (n : Next) (rs : List ℕ) (long : length rs ≡ length bs) (w : Walking xs ys zs rs n) (is : NextIs n) (r : Outcome) → ReadsOn xs n (Ended r) → OutcomeIs r
+      stops : (zs : List Label) (n : Next) (rs : List ℕ) (long : length rs ≡ length bs) (w : Walking present xs ys zs rs n) (is : NextIs n) (r : Outcome) → ReadsOn present xs n (Ended r) → OutcomeIs r
           → Sq W (With zs rs (some (nval n) ∷ none ∷ none ∷ none ∷ some (pval (Ended r)) ∷ [])) (runs (𝓣 .C) (𝓣 .Λ) E (arm-of 1 (behind 1 m.turn-1)) (Turned (zs, (n, (rs, (long, (w, is)))))))
       unfolding afterTurn
       stops zs n rs long w is r a ir =
           assigns ! (of-opd ! (load ! (from ! (vrt ! refl (fld ! refl (stop !)))) (look-in ! 14 (in-variant ! 1 0 refl refl (whole !))))) (from ! (stop !)) (init ! 16 refl (LL.lawful O.the-type O′.the-laws 𝓤 H A W .typed r _ ir .0)) $
           assigns ! (of-opd ! (load ! (from ! (stop !)) (look ! 16 refl))) (from ! (stop !)) (init ! 36 refl (LL.lawful O.the-type O′.the-laws 𝓤 H A W .typed r _ ir .0)) $
           returns-within ! Post refl (look ! 36 refl) $
-          frees-all ! E (holds (some (oval r)) zs rs (some (nval n) ∷ none ∷ none ∷ some (oval r) ∷ some (pval (Ended r)) ∷ [])) (Has zs rs) $ exits zs rs r (walking-ends (walking-reads w a)) long ir
+          frees-all ! E (holds (some (oval r)) zs rs (some (nval n) ∷ none ∷ none ∷ some (oval r) ∷ some (pval (Ended r)) ∷ [])) (Has zs rs) $ exits zs rs r (walking-ends (walking-reads present-naming w a)) long ir
 
-      matched : (zs : List Label) (n : Next) (rs : List ℕ) (long : length rs ≡ length bs) (w : Walking xs ys zs rs n) (is : NextIs n) (p : Pass) → ReadsOn xs n p → PassIs p
+      matched : (zs : List Label) (n : Next) (rs : List ℕ) (long : length rs ≡ length bs) (w : Walking present xs ys zs rs n) (is : NextIs n) (p : Pass) → ReadsOn present xs n p → PassIs p
           → Sq W (With zs rs (some (nval n) ∷ none ∷ none ∷ none ∷ some (pval p) ∷ [])) (runs (𝓣 .C) (𝓣 .Λ) E (behind 1 m.turn-1) (Turned (zs, (n, (rs, (long, (w, is)))))))
       matched zs n rs long w is (AtLabel p) a ip =
           by-variants ! 14 (whole !) (load ! (from ! (vrt ! refl (fld ! refl (stop !)))) (look-tag ! 14 (whole !))) tt ((λ _. enters zs n rs long w is p a (label-line-is p ip)), ((λ z. absurd (zero-one z)), tt))
@@ -366,7 +368,7 @@ module _ {M : Type 1} (𝓤 : URA M) (H : Heap 𝓤) (A : Atoms 𝓤) (at-mem : 
           calls-to ! (fmOf 𝓤 H (W .laws) 𝓣) read-on.ended (read-on.clauses 𝓤 H A at-mem run) reading (to-read-on n) pval (EL.tells P.the-type P′.the-laws)
           (and-then ! (load ! (from ! (stop !)) (look ! 34 refl)) (and-then ! (load ! (from ! (stop !)) (look ! 22 refl)) (and-then ! (load ! (from ! (stop !)) (look ! 28 refl))
           (and-then ! (load ! (from ! (stop !)) (look ! 26 refl)) (and-then ! (load ! (from ! (stop !)) (look ! 24 refl)) (no-more !)))))) (λ p ws ip.
-          heard ! (ReadsOn xs n p) (λ a. drop ! $ land ! (from ! (stop !)) (init ! 14 refl (EL.lawful P.the-type P′.the-laws 𝓤 H A W tt .typed p _ ip .0)) $
+          heard ! (ReadsOn present xs n p) (λ a. drop ! $ land ! (from ! (stop !)) (init ! 14 refl (EL.lawful P.the-type P′.the-laws 𝓤 H A W tt .typed p _ ip .0)) $
           move ! (1 ∷ 0 ∷ []) $ matched zs n rs long w is p a ip))
 
       starts : Sq W (With ys bs []) (runs (𝓣 .C) (𝓣 .Λ) E m.t-1 (atRet E Post))
@@ -376,7 +378,7 @@ module _ {M : Type 1} (𝓤 : URA M) (H : Heap 𝓤) (A : Atoms 𝓤) (at-mem : 
           calls-to ! (fmOf 𝓤 H (W .laws) 𝓣) begin.ended (begin.clauses 𝓤 H A at-mem run) begins to-begin nval (EL.tells N.the-type N′.the-laws) (and-then ! (load ! (from ! (stop !)) (look ! 35 refl)) (no-more !)) (λ n ws is.
           heard ! (Begins xs n) (λ h. drop ! $ use1 W (‵ (flft (κs .0) (qs .0)) ⊛ ‵ ftrue) (id⊢ 𝓤 _) $ split ! $ move ! (1 ∷ []) $ drop ! $ use2 W Tokens (id⊢ 𝓤 _) $
           land ! (from ! (stop !)) (init ! 22 refl (EL.lawful N.the-type N′.the-laws 𝓤 H A W tt .typed n _ is .0)) $
-          move ! (1 ∷ 0 ∷ []) $ first ! $ blocks ! $ loops ! 𝓣 Nearer Nearer-wf Inv turns (ys, (n, (bs, (refl, (walking-begin ys h (fresh .bare), is)))))))
+          move ! (1 ∷ 0 ∷ []) $ first ! $ blocks ! $ loops ! 𝓣 Nearer Nearer-wf Inv turns (ys, (n, (bs, (refl, (walking-begin present ys (fresh .short) h (fresh .bare), is)))))))
 
     walk : (𝓣 : Tables 𝓤 H) → Triple 𝓤 (𝓣 .C #begin) Begin → Triple 𝓤 (𝓣 .C #read-on) ReadOn → Triple 𝓤 (𝓣 .C #enter) Enter → Triple 𝓤 (𝓣 .C #go-on) GoOn
         → ent 𝓤 (onEntry 𝓤 H A walks.signature κs qs (given .0 .3) (given .0 .4)) (WpFn 𝓤 H (𝓣 .C) (𝓣 .Λ) code.function (s₁ ∷ s ys ∷ s₂ bs ∷ ptr (cs .0) ∷ ptr (cs .1 .0) ∷ ptr (cs .1 .1 .0) ∷ []) Post)
