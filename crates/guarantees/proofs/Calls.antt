@@ -6,7 +6,7 @@ use mathlib.Core.Bool.{true, true≢false}
 use mathlib.Core.List.{List, [], map}
 use native.Mathlib.Omega.{arith}
 use lib.ListN.{length, take}
-use Rattle.text_lexical.specs.Names.{present}
+use Rattle.text_lexical.specs.Names.{Name}
 use Rattle.image.specs.Settings.{Settings, settings}
 use Rattle.image.specs.Assembling.{Assembled as Reading, accepted, rejected, assembling}
 use Rattle.image.specs.Listing.{textOf, Listing as Written, written, rejected as unwritten, listing}
@@ -23,6 +23,7 @@ use Rattle.image_listing.specs.declared.disassembler.Listing.{Listing}
 use Rattle.image.proofs.Lengths.{source-image-length}
 use Rattle.image.proofs.Over.{take-over}
 use Rattle.image.proofs.Walking.{accepted-assembles}
+use Rattle.guarantees.specs.NameSets.{NameSet}
 use Rattle.guarantees.specs.Promises.{AreBytes, HasSource}
 use Rattle.guarantees.specs.Calls.{IsRefusal, IsUnlisted, wordCount, textLength, AcceptedCall, filled, HasCall, Calls}
 use Rattle.guarantees.proofs.NameSets.{present-set}
@@ -40,55 +41,55 @@ unfolding answerOf isAccepted
 not-refused (accepted st) x e h k = subst IsRefusal e k
 not-refused (rejected r) x e h k = true≢false (sym h)
 
-module _ (source : List ℕ) (room : ℕ) (image image′ : List ℕ) (x : Answer) (e : x ≡ answerOf (assembling present source room (length image)))
-    (h : image′ ≡ imageAfter present source (assembling present source room (length image)) image) (k : Accepted present source room (length image)) where
-  answers : x ≡ assembled (length (instructionsOf present source)) (length (entered (assembling present source room (length image)))) (settingsOf present source)
+module _ (names : List Name) (source : List ℕ) (room : ℕ) (image image′ : List ℕ) (x : Answer) (e : x ≡ answerOf (assembling names source room (length image)))
+    (h : image′ ≡ imageAfter names source (assembling names source room (length image)) image) (k : Accepted names source room (length image)) where
+  answers : x ≡ assembled (length (instructionsOf names source)) (length (entered (assembling names source room (length image)))) (settingsOf names source)
   unfolding answerOf entered
   answers =
-      let a = accepted-assembles present source room (length image) k in
+      let a = accepted-assembles names source room (length image) k in
       let n = ap (λ (w : Reading). length (entered w)) (a .answer) in
       e ∙ ap answerOf (a .answer) ∙ (λ i. assembled (length (a .means .instructions i)) (sym n i) (a .means .setup i))
 
-  fills : image′ ≡ over (imageOf present source) image
+  fills : image′ ≡ over (imageOf names source) image
   unfolding imageAfter
-  fills = let a = accepted-assembles present source room (length image) k in h ∙ ap (λ (w : Reading). imageAfter present source w image) (a .answer)
+  fills = let a = accepted-assembles names source room (length image) k in h ∙ ap (λ (w : Reading). imageAfter names source w image) (a .answer)
 
 -- ---- the bytes that a call has filled
 
-module _ {source : List ℕ} (c : AcceptedCall source) where
-  is-accepted : Accepted present source (length (c .table)) (length (c .image))
+module _ {names : List Name} {source : List ℕ} (c : AcceptedCall names source) where
+  is-accepted : Accepted names source (length (c .table)) (length (c .image))
   is-accepted = accepts _ (answerMeant (c .answer)) (c .promised .answer) (c .not-refused)
 
   -- They are the source's image.
-  filled-image : filled c ≡ imageOf present source
+  filled-image : filled c ≡ imageOf names source
   filled-image =
       let room = length (c .table) in
-      let a = answers source room (c .image) (c .image′) (answerMeant (c .answer)) (c .promised .answer) (c .promised .image-holds) is-accepted in
-      let f = fills source room (c .image) (c .image′) (answerMeant (c .answer)) (c .promised .answer) (c .promised .image-holds) is-accepted in
+      let a = answers names source room (c .image) (c .image′) (answerMeant (c .answer)) (c .promised .answer) (c .promised .image-holds) is-accepted in
+      let f = fills names source room (c .image) (c .image′) (answerMeant (c .answer)) (c .promised .answer) (c .promised .image-holds) is-accepted in
       ap₂ (λ (n : ℕ) (x : List ℕ). take (32 + 4 * n) x) (ap wordCount a) f
-      ∙ ap (λ (n : ℕ). take n (over (imageOf present source) (c .image))) (sym (source-image-length present source))
-      ∙ take-over (imageOf present source) (c .image)
+      ∙ ap (λ (n : ℕ). take n (over (imageOf names source) (c .image))) (sym (source-image-length names source))
+      ∙ take-over (imageOf names source) (c .image)
 
 -- Equations of what is filled are those of images.
-filled-tell : {source source′ : List ℕ} {P : Type 0} (c : AcceptedCall source) (c′ : AcceptedCall source′)
-    → (imageOf present source ≡ imageOf present source′) ↔ P → (filled c ≡ filled c′) ↔ P
+filled-tell : {names names′ : List Name} {source source′ : List ℕ} {P : Type 0} (c : AcceptedCall names source) (c′ : AcceptedCall names′ source′)
+    → (imageOf names source ≡ imageOf names′ source′) ↔ P → (filled c ≡ filled c′) ↔ P
 filled-tell c c′ (to, from) = (λ e. to (sym (filled-image c) ∙ e ∙ filled-image c′), λ p. filled-image c ∙ from p ∙ sym (filled-image c′))
 
 -- A source that is accepted with a table and an image buffer has such a call, since what the contract promises of one are equations.
 abbrev configOf : Settings → Config
 configOf s = record { «limb_bits» = s .limb-bits; «data_limbs» = s .data-limbs; «addr_limbs» = s .addr-limbs }
 
-accepted-is-called : (source : List ℕ) (table : List Entry) (image : List ℕ) → Accepted present source (length table) (length image) → AcceptedCall source
+accepted-is-called : (names : List Name) (source : List ℕ) (table : List Entry) (image : List ℕ) → Accepted names source (length table) (length image) → AcceptedCall names source
 unfolding answerOf settings
-accepted-is-called source table image k =
-    let w = assembling present source (length table) (length image) in
-    let a = accepted-assembles present source (length table) (length image) k in
+accepted-is-called names source table image k =
+    let w = assembling names source (length table) (length image) in
+    let a = accepted-assembles names source (length table) (length image) k in
     let st = a .state in
     record {
       table = table;
       image = image;
       table′ = over (map entryOf (entered w)) table;
-      image′ = imageAfter present source w image;
+      image′ = imageAfter names source w image;
       answer = IsAssembled (length (st .instructions)) (length (st .labels)) (configOf (st .setup));
       promised = record { answer = sym (ap answerOf (a .answer)); table-holds = refl; image-holds = refl };
       not-refused = λ r. r;
@@ -106,13 +107,13 @@ unfolding listAnswerOf isWritten
 not-unlisted (written t) x e h k = subst IsUnlisted e k
 not-unlisted (unwritten r) x e h k = true≢false (sym h)
 
-again : (bs : List ℕ) (table : List Entry) (image : List ℕ) (table′ : List Entry) (image′ : List ℕ) (r : Assembled)
-    → Accepted present (textOf bs) (length table) (length image) × (imageOf present (textOf bs) ≡ bs) → Assembles (textOf bs) table image table′ image′ r
+again : (names : List Name) (bs : List ℕ) (table : List Entry) (image : List ℕ) (table′ : List Entry) (image′ : List ℕ) (r : Assembled)
+    → Accepted names (textOf bs) (length table) (length image) × (imageOf names (textOf bs) ≡ bs) → Assembles names (textOf bs) table image table′ image′ r
     → (IsRefusal (answerMeant r) → ⊥) × (image′ ≡ over bs image)
-again bs table image table′ image′ r (k, e) h =
-    let a = assembling present (textOf bs) (length table) (length image) in (
+again names bs table image table′ image′ r (k, e) h =
+    let a = assembling names (textOf bs) (length table) (length image) in (
       not-refused a (answerMeant r) (h .answer) k,
-      fills (textOf bs) (length table) image image′ (answerMeant r) (h .answer) (h .image-holds) k ∙ ap (λ (b : List ℕ). over b image) e,
+      fills names (textOf bs) (length table) image image′ (answerMeant r) (h .answer) (h .image-holds) k ∙ ap (λ (b : List ℕ). over b image) e,
     )
 
 -- ---- what a call has written, and the calls that fill bytes
@@ -134,16 +135,15 @@ module _ (bs text text′ : List ℕ) (r : Listing) (h : Lists bs text text′ r
       ap₂ (λ (n : ℕ) (x : List ℕ). take n x) (ap textLength a) e ∙ take-over (textOf bs) text
 
 -- Bytes that are listed are filled by a call: that of their text, with a label table without entries and an image buffer of their length.
-listed-has-call : (bs : List ℕ) (n : ℕ) → AreBytes bs → Listed bs n → HasCall bs
-unfolding present-set
-listed-has-call bs n b k =
-    let (x, y) = demand-3 .text-assembles present-set bs n 0 (length bs) b k (omega arith) in
-    let c = accepted-is-called (textOf bs) [] bs x in
+listed-has-call : (N : NameSet) (bs : List ℕ) (n : ℕ) → AreBytes bs → Listed bs n → HasCall (N .names) bs
+listed-has-call N bs n b k =
+    let (x, y) = demand-3 .text-assembles N bs n 0 (length bs) b k (omega arith) in
+    let c = accepted-is-called (N .names) (textOf bs) [] bs x in
     record { source = textOf bs; call = c; fills = filled-image c ∙ y }
 
 -- Bytes that a call has filled have a source.
-called-has-source : (bs : List ℕ) → HasCall bs → HasSource present bs
-called-has-source bs h =
+called-has-source : (names : List Name) (bs : List ℕ) → HasCall names bs → HasSource names bs
+called-has-source names bs h =
     let c = h .call in
     record {
       source = h .source;
@@ -158,24 +158,24 @@ unfolding present-set
 calls =
     record {
       present-is = (present-set, refl);
-      accepted-call = λ source table image table′ image′ r h.
-          let a = assembling present source (length table) (length image) in
+      accepted-call = λ names source table image table′ image′ r h.
+          let a = assembling names source (length table) (length image) in
           (accepts a (answerMeant r) (h .answer), not-refused a (answerMeant r) (h .answer));
-      fills-image = λ source table image table′ image′ r h k.
+      fills-image = λ names source table image table′ image′ r h k.
           let room = length table in
-          (answers source room image image′ (answerMeant r) (h .answer) (h .image-holds) k, fills source room image image′ (answerMeant r) (h .answer) (h .image-holds) k);
+          (answers names source room image image′ (answerMeant r) (h .answer) (h .image-holds) k, fills names source room image image′ (answerMeant r) (h .answer) (h .image-holds) k);
       listed-call = λ image text text′ r h. (is-listed image text text′ r h, not-unlisted (listing image (length text)) (listingMeant r) (h .answer));
       fills-text = λ image text text′ r h k. is-written image text text′ r h k;
-      equal-images = λ s s′ c c′.
+      equal-images = λ N N′ s s′ c c′.
           filled-tell c c′
-          (demand-3 .images-tell present-set present-set s s′ (length (c .table)) (length (c′ .table)) (length (c .image)) (length (c′ .image)) (is-accepted c) (is-accepted c′));
-      lists-exactly = λ bs text text′ r b h.
-          let (to, from) = demand-3 .lists-exactly present-set bs (length text) b in (
-            (λ u. let k = is-listed bs text text′ r h u in (listed-has-call bs (length text) b k, to k .1)),
-            (λ (x : HasCall bs × (length (textOf bs) ≤ length text)). not-unlisted (listing bs (length text)) (listingMeant r) (h .answer) (from (called-has-source bs (x .0), x .1))),
+          (demand-3 .images-tell N N′ s s′ (length (c .table)) (length (c′ .table)) (length (c .image)) (length (c′ .image)) (is-accepted c) (is-accepted c′));
+      lists-exactly = λ N bs text text′ r b h.
+          let (to, from) = demand-3 .lists-exactly N bs (length text) b in (
+            (λ u. let k = is-listed bs text text′ r h u in (listed-has-call N bs (length text) b k, to k .1)),
+            (λ (x : HasCall (N .names) bs × (length (textOf bs) ≤ length text)). not-unlisted (listing bs (length text)) (listingMeant r) (h .answer) (from (called-has-source (N .names) bs (x .0), x .1))),
           );
-      text-again = λ bs text text′ r b h u table image table′ image′ r′ l h′.
+      text-again = λ N bs text text′ r b h u table image table′ image′ r′ l h′.
           let k = is-listed bs text text′ r h u in
-          again bs table image table′ image′ r′ (demand-3 .text-assembles present-set bs (length text) (length table) (length image) b k l)
-          (subst (λ (s : List ℕ). Assembles s table image table′ image′ r′) (front-text bs text text′ r h k) h′);
+          again (N .names) bs table image table′ image′ r′ (demand-3 .text-assembles N bs (length text) (length table) (length image) b k l)
+          (subst (λ (s : List ℕ). Assembles (N .names) s table image table′ image′ r′) (front-text bs text text′ r h k) h′);
     }

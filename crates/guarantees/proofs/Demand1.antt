@@ -5,7 +5,7 @@ use mathlib.Core.Path.{_≡_, sym, ap, subst}
 use mathlib.Core.List.{List}
 use lib.ListN.{length}
 use Rattle.text_lexical.specs.Bytes.{Result, value, refused}
-use Rattle.text_lexical.specs.Names.{present}
+use Rattle.text_lexical.specs.Names.{Name}
 use Rattle.image.specs.Program.{header-size, headerOf, codeOf, dataOf}
 use Rattle.image.specs.Opening.{Opened, openingFault, opening}
 use Rattle.image.specs.Assembling.{Assembled as Reading, accepted, rejected, assembling}
@@ -18,10 +18,10 @@ use Rattle.guarantees.specs.Calls.{assemblingNumbers, openingNumbers, On
 use Rattle.guarantees.proofs.Numbered.{OfFault, OfAnswer, OfListing, assembling-numbered, opening-numbered, listing-numbered}
 
 -- An answer that is a refusal is that of a refused source, which leaves the image.
-image-left : (source image image′ : List ℕ) (a : Reading) (x : Answer) → x ≡ answerOf a → image′ ≡ imageAfter present source a image → IsRefusal x → image′ ≡ image
+image-left : (names : List Name) (source image image′ : List ℕ) (a : Reading) (x : Answer) → x ≡ answerOf a → image′ ≡ imageAfter names source a image → IsRefusal x → image′ ≡ image
 unfolding answerOf imageAfter
-image-left source image image′ (rejected r) x e h k = h
-image-left source image image′ (accepted st) x e h k = absurd (subst IsRefusal e k)
+image-left names source image image′ (rejected r) x e h k = h
+image-left names source image image′ (accepted st) x e h k = absurd (subst IsRefusal e k)
 
 labels-entered : (a : Reading) (x : Answer) → x ≡ answerOf a → length (entered a) ≡ labelCount x
 unfolding answerOf entered
@@ -57,15 +57,15 @@ is-listing (unwritten r) x e h = subst IsListing (sym e) h
 pub demand-1 : Demand1
 demand-1 =
     record {
-      numbered = λ source table image table′ image′ r h.
+      numbered = λ names source table image table′ image′ r h.
           let room = length table in
-          is-numbered (assembling present source room (length image)) (answerMeant r) (h .answer) (assembling-numbered present source room (length image));
+          is-numbered (assembling names source room (length image)) (answerMeant r) (h .answer) (assembling-numbered names source room (length image));
       opening-numbered = λ image r h. is-opening image (openedMeant image r) h;
       listing-numbered = λ image text text′ r h. is-listing (listing image (length text)) (listingMeant r) (h .answer) (listing-numbered image (length text));
-      image-kept = λ source table image table′ image′ r h k.
-          image-left source image image′ (assembling present source (length table) (length image)) (answerMeant r) (h .answer) (h .image-holds) k;
-      table-holds = λ source table image table′ image′ r h.
-          let a = assembling present source (length table) (length image) in
+      image-kept = λ names source table image table′ image′ r h k.
+          image-left names source image image′ (assembling names source (length table) (length image)) (answerMeant r) (h .answer) (h .image-holds) k;
+      table-holds = λ names source table image table′ image′ r h.
+          let a = assembling names source (length table) (length image) in
           record {
             as-many = labels-entered a (answerMeant r) (h .answer);
             ahead = h .table-holds;
