@@ -1,10 +1,10 @@
 -- A token at a place of a line, as the fast path finds it.
-use Prim.Native.Nat.{ℕ, suc, _+_, _-_, _≤_, _<_}
+use Prim.Native.Nat.{ℕ, zero, suc, _+_, _-_, _≤_, _<_}
 use mathlib.Core.Path.{_≡_, refl, sym, ap, _∙_}
 use native.Mathlib.Omega.{arith}
 use native.Mathlib.Numerals.{add-one}
 use mathlib.Core.Bool.{Bool, true, false}
-use mathlib.Core.Logic.{_⊎_, inl, inr}
+use mathlib.Core.Logic.{_⊎_}
 use mathlib.Core.Option.{Option, none, some}
 use mathlib.Core.List.{List, [], _∷_, _++_}
 use lib.ListN.{length, take, drop, getD, length-drop}
@@ -14,7 +14,7 @@ use Rattle.text_lexical.specs.Names.{Name, named}
 use Rattle.text_lexical.specs.Contracts.{indexOf, nameMeant, nameNumber}
 use Rattle.text_lexical.specs.declared.register.Register.{Register}
 use Rattle.text_lexical.specs.declared.name.RegisterName.{RegisterName}
-use Rattle.text_lexical.specs.declared.name.RegisterName.the-variants.{Is, NoSuch, Other}
+use Rattle.text_lexical.specs.declared.name.RegisterName.the-variants.{Is as Named, NoSuch, Other}
 use Rattle.text_lexical.proofs.Tests.{split, both}
 use Rattle.text_lexical.proofs.Strings.{every-head, every-tail, every-mono, every-run, take-run, run-past, run-no, run-end, run-le}
 use Rattle.text.specs.Tokens.{Token, isIdentifier, isRegister, register, comma, colon, opening, closing, markToken, infront, tokens}
@@ -28,8 +28,11 @@ use Rattle.text.proofs.Scanning.{register-identifier}
 use Rattle.text.proofs.Left.{start-solid, blank-inside, blanks-at, end-on, nothing-left, none-read}
 use Rattle.text.proofs.Fronts.{part-cons, word-at}
 use Rattle.text.proofs.Stepping.{solid-step, margin-on, mark-step, blank-step, stepped}
+use Rattle.instruction.specs.Table.{Place}
 use Rattle.instruction.specs.Operands.{markByte}
-use Rattle.image_line.specs.Contracts.{Reads, RegisterIs, upTo, IsMark}
+use Rattle.instruction.specs.Forms.{markOf, MarkPlace, a-comma, an-opening, a-closing, MarkPlaces, no-mark, one-mark}
+use Rattle.instruction.specs.declared.form.Mark.the-variants.{Is}
+use Rattle.image_line.specs.Contracts.{Reads, RegisterIs, upTo}
 
 -- ---- what a scan finds
 
@@ -109,23 +112,23 @@ register-reads names ok s from at e r fl q h l g n =
     let i = register-identifier names (ok .identifiers) (take (e - at) (drop at s)) (some-named _ _ n) in
     let (b, f) = identifier-parts (getD s at 0) (take (e - (at + 1)) (drop (at + 1) s)) (rw (part-cons s at e h (omega arith)) at i) in
     let m = run-is namePart s (at + 1) e (omega arith) l f g in
-    let w = word-at names ok s at e (Is r) (omega arith) b m (sym n) in
+    let w = word-at names ok s at e (Named r) (omega arith) b m (sym n) in
     stepped-reads names ok s from (record { kind = RegisterKind r; start = at; length = e - at }) e (blank-step names s from at _ fl q (omega arith) (solid-step names s at _ (omega arith) (start-solid _ b) w))
 
 -- The same by the name that they are.
 pub register-case : (names : List Name) (ok : Naming names) (s : List ℕ) (from at e : ℕ) (r : RegisterName) → from ≤ length s → at ≡ from + run blank (drop from s) → at < e → e < length s
     → namePart (getD s e 0) ≡ false → nameMeant r ≡ nameNumber (named names (take (e - at) (drop at s))) → RegisterIs names s from (upTo r e)
-register-case names ok s from at e (Is r) fl q h l g n = register-reads names ok s from at e r fl q h l g (sym n)
+register-case names ok s from at e (Named r) fl q h l g n = register-reads names ok s from at e r fl q h l g (sym n)
 register-case names ok s from at e NoSuch fl q h l g n = tt
 register-case names ok s from at e Other fl q h l g n = tt
 
 -- ---- marks
 
-mark-plain : (b : ℕ) → IsMark b → NoWord b
+mark-plain : {p : Place} {byte n : ℕ} → MarkPlace p byte n → NoWord byte
 unfolding blank nameStart letter digit between numberStart
-mark-plain b (inl e) = record { no-blank = rw e; no-start = rw e; no-number = rw e; no-dot = λ h. absurd (omega arith) }
-mark-plain b (inr (inl e)) = record { no-blank = rw e; no-start = rw e; no-number = rw e; no-dot = λ h. absurd (omega arith) }
-mark-plain b (inr (inr e)) = record { no-blank = rw e; no-start = rw e; no-number = rw e; no-dot = λ h. absurd (omega arith) }
+mark-plain a-comma = record { no-blank = refl; no-start = refl; no-number = refl; no-dot = λ h. absurd (omega arith) }
+mark-plain an-opening = record { no-blank = refl; no-start = refl; no-number = refl; no-dot = λ h. absurd (omega arith) }
+mark-plain a-closing = record { no-blank = refl; no-start = refl; no-number = refl; no-dot = λ h. absurd (omega arith) }
 
 -- A colon.
 colon-plain : NoWord 58
@@ -136,23 +139,30 @@ pub colon-reads : (names : List Name) (ok : Naming names) (s : List ℕ) (at : �
 unfolding mark markToken
 colon-reads names ok s at l b = stepped-reads names ok s at _ (at + 1) (mark-step names ok s at Colon colon l (rw b colon-plain) (rw b) (rw b) (λ u. refl) (λ u. refl))
 
-pub no-mark : (m : ℕ) → m ≡ 0 → IsMark m → ⊥
-no-mark m z (inl e) = omega arith
-no-mark m z (inr (inl e)) = omega arith
-no-mark m z (inr (inr e)) = omega arith
+-- The mark that follows an operand is one of three.
+marked : (d : ℕ) → (ms : List Place) × MarkPlaces (markOf d) ms
+unfolding markOf
+marked zero = ([], no-mark)
+marked (suc zero) = (_, one-mark a-comma)
+marked (suc (suc zero)) = (_, one-mark an-opening)
+marked (suc (suc (suc zero))) = (_, one-mark a-closing)
+marked (suc (suc (suc (suc d)))) = ([], no-mark)
 
-pub mark-reads : (names : List Name) (ok : Naming names) (s : List ℕ) (from at m : ℕ) → from ≤ length s → at ≡ from + run blank (drop from s) → at < length s → getD s at 0 ≡ m → IsMark m
-    → (t : Token) × ((markByte t ≡ m) × Reads names s from t (at + 1))
-unfolding mark markToken markByte
-mark-reads names ok s from at m fl q l e (inl i) =
-    let b : getD s at 0 ≡ 44 = e ∙ i in
-    (comma, (sym i, stepped-reads names ok s from _ (at + 1) (blank-step names s from at _ fl q l (mark-step names ok s at Comma comma l (mark-plain _ (inl b)) (rw b) (rw b) (λ u. refl) (λ u. refl)))))
-mark-reads names ok s from at m fl q l e (inr (inl i)) =
-    let b : getD s at 0 ≡ 40 = e ∙ i in
-    (opening, (sym i, stepped-reads names ok s from _ (at + 1) (blank-step names s from at _ fl q l (mark-step names ok s at LParen opening l (mark-plain _ (inr (inl b))) (rw b) (rw b) (λ u. refl) (λ u. refl)))))
-mark-reads names ok s from at m fl q l e (inr (inr i)) =
-    let b : getD s at 0 ≡ 41 = e ∙ i in
-    (closing, (sym i, stepped-reads names ok s from _ (at + 1) (blank-step names s from at _ fl q l (mark-step names ok s at RParen closing l (mark-plain _ (inr (inr b))) (rw b) (rw b) (λ u. refl) (λ u. refl)))))
+one-marked : {byte n : ℕ} {ms : List Place} → MarkPlaces (Is byte n) ms → (p : Place) × MarkPlace p byte n
+one-marked (one-mark {p = p} m) = (p, m)
+
+module _ (names : List Name) (ok : Naming names) (s : List ℕ) (from at : ℕ) (fl : from ≤ length s) (q : at ≡ from + run blank (drop from s)) (l : at < length s) where
+  place-reads : {p : Place} {byte n : ℕ} → MarkPlace p byte n → getD s at 0 ≡ byte → (t : Token) × ((markByte t ≡ byte) × Reads names s from t (at + 1))
+  unfolding mark markToken markByte
+  place-reads a-comma b =
+      (comma, (refl, stepped-reads names ok s from _ (at + 1) (blank-step names s from at _ fl q l (mark-step names ok s at Comma comma l (rw b (mark-plain a-comma)) (rw b) (rw b) (λ u. refl) (λ u. refl)))))
+  place-reads an-opening b =
+      (opening, (refl, stepped-reads names ok s from _ (at + 1) (blank-step names s from at _ fl q l (mark-step names ok s at LParen opening l (rw b (mark-plain an-opening)) (rw b) (rw b) (λ u. refl) (λ u. refl)))))
+  place-reads a-closing b =
+      (closing, (refl, stepped-reads names ok s from _ (at + 1) (blank-step names s from at _ fl q l (mark-step names ok s at RParen closing l (rw b (mark-plain a-closing)) (rw b) (rw b) (λ u. refl) (λ u. refl)))))
+
+  pub mark-reads : (d byte n : ℕ) → markOf d ≡ Is byte n → getD s at 0 ≡ byte → (t : Token) × ((markByte t ≡ byte) × Reads names s from t (at + 1))
+  mark-reads d byte n e b = let (ms, h) = marked d in let (p, m) = one-marked (rw e at h) in place-reads m b
 
 -- ---- the line's end
 

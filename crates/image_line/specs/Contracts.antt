@@ -1,17 +1,16 @@
 -- What the line at a place of a source reads as, and what the functions that read it promise. `LineIs` is the promise of the one public
 -- function; the other sections are about the two private ways to it, from the line's bytes at once and by the record of its tokens. Where
 -- the first finds something else at a place, nothing is promised of that answer: the record decides. Quotations are document 01's.
-use Prim.Native.Nat.{ℕ, _+_, _-_, _*_, _≤_, _<_}
+use Prim.Native.Nat.{ℕ, _+_, _-_, _≤_, _<_}
 use mathlib.Core.Path.{_≡_}
-use mathlib.Core.Bool.{Bool, true, false, not, _&&_, _||_}
+use mathlib.Core.Bool.{Bool, true, false, not, _&&_}
 use lib.Dec.{eqb}
-use mathlib.Core.Logic.{_⊎_}
 use mathlib.Core.Option.{Option, none, some}
-use mathlib.Core.List.{List, [], _∷_}
+use mathlib.Core.List.{List, []}
 use lib.ListN.{length, take, drop, getD}
 use Rattle.text_lexical.specs.Bytes.{value, nameStart, isSome}
 use Rattle.text_lexical.specs.Names.{Name, named}
-use Rattle.text_lexical.specs.Contracts.{indexOf, nameNumber, signedMeant}
+use Rattle.text_lexical.specs.Contracts.{indexOf, nameNumber, wholeMeant}
 use Rattle.text_lexical.specs.Words.{part, WordIs}
 use Rattle.text_lexical.specs.declared.name.RegisterName.{RegisterName}
 use Rattle.text_lexical.specs.declared.name.RegisterName.the-variants.{Is as Named, NoSuch, Other as NoName}
@@ -24,10 +23,12 @@ use Rattle.text.specs.Places.{restAt, leftAt, endAt}
 use Rattle.text.specs.Values.{readNumber}
 use Rattle.text.specs.Contracts.{kindMeant as tokenMeant, firsts, filler, spelling}
 use Rattle.text.specs.declared.parser.Line.{Line as Record}
-use Rattle.instruction.specs.Table.{Place, reg, num, comma-place, opening-place, closing-place, places}
+use Rattle.instruction.specs.Table.{places}
 use Rattle.instruction.specs.Operands.{markByte, readOperands}
 use Rattle.instruction.specs.Contracts.{mnemonicKeys, formNumbers, slotRows, formAt, operandsMeant, partsMeant}
 use Rattle.instruction.specs.declared.instruction.Operands.{Operands}
+use Rattle.instruction.specs.declared.form.Mark.{Mark}
+use Rattle.instruction.specs.declared.form.Mark.the-variants.{Nothing as NoMark, Is as IsMark}
 use Rattle.instruction_operands.specs.Contracts.{Kept}
 use Rattle.instruction.specs.Kinds.{Kind, empty, labelled, config, ignored, plain, kindOf}
 use Rattle.image.specs.Assembling.{Context, Effect as MeantEffect, nothing, sets, codes, faulty, Read as MeantRead, readOn}
@@ -37,6 +38,8 @@ use Rattle.image_line.specs.declared.operand.RegisterAt.{RegisterAt}
 use Rattle.image_line.specs.declared.operand.RegisterAt.the-variants.{Is as IsRegister, Other as NoRegister}
 use Rattle.image_line.specs.declared.operand.NumberAt.{NumberAt}
 use Rattle.image_line.specs.declared.operand.NumberAt.the-variants.{Is as IsNumber, Other as NoNumber}
+use Rattle.image_line.specs.declared.operand.AfterMark.{AfterMark}
+use Rattle.image_line.specs.declared.operand.AfterMark.the-variants.{At as AfterAt, Other as NotMarked}
 use Rattle.image_line.specs.declared.operand.EndAt.{EndAt}
 use Rattle.image_line.specs.declared.operand.EndAt.the-variants.{Is as IsEnd, Other as NoEnd}
 use Rattle.image_line.specs.declared.fast.OperandAt.{OperandAt}
@@ -78,13 +81,14 @@ abbrev pub NumberIs : List Name → List ℕ → ℕ → NumberAt → Type 0
 NumberIs names s at (IsNumber k next) = (u : List ℕ) × Reads names s at (tokenMeant k u) next
 NumberIs names s at NoNumber = Unit {0}
 
--- The marks behind an operand: `,`, `(`, `)`.
-abbrev pub IsMark : ℕ → Type 0
-IsMark m = (m ≡ 44) ⊎ ((m ≡ 40) ⊎ (m ≡ 41))
+-- The mark that follows an operand, up to a place.
+abbrev pub MarkUpTo : List Name → List ℕ → ℕ → Mark → ℕ → Type 0
+MarkUpTo names s at NoMark next = next ≡ at
+MarkUpTo names s at (IsMark byte refusal) next = (t : Token) × ((markByte t ≡ byte) × Reads names s at t next)
 
--- The place behind a mark; 0: nothing is said.
-abbrev pub MarkIs : List Name → List ℕ → ℕ → ℕ → ℕ → Type 0
-MarkIs names s at m next = (next ≡ 0 → ⊥) → (t : Token) × ((markByte t ≡ m) × Reads names s at t next)
+abbrev pub AfterMarkIs : List Name → List ℕ → ℕ → Mark → AfterMark → Type 0
+AfterMarkIs names s at m (AfterAt next) = MarkUpTo names s at m next
+AfterMarkIs names s at m NotMarked = Unit {0}
 
 -- Nothing is left of the line, which ends there.
 abbrev pub EndIs : List Name → List ℕ → ℕ → EndAt → Type 0
@@ -93,32 +97,10 @@ EndIs names s at NoEnd = Unit {0}
 
 -- ---- the operands of a form
 
--- The operands of a form from one on, a digit each, the next lowest: 1 a register and a comma, 2 a number and an opening, 3 a register and
--- a closing, 4 a register, 5 a number.
-pub data Ahead : List Place → ℕ → Type 0 where
-  no-more : {left : ℕ} → left ≡ 0 → Ahead [] left
-  register-comma : {bit left n : ℕ} {ps : List Place} → Ahead ps n → left ≡ 1 + 8 * n → Ahead (reg bit ∷ comma-place ∷ ps) left
-  number-opening : {bit width left n : ℕ} {signed : Bool} {ps : List Place} → Ahead ps n → left ≡ 2 + 8 * n → Ahead (num bit width signed ∷ opening-place ∷ ps) left
-  register-closing : {bit left n : ℕ} {ps : List Place} → Ahead ps n → left ≡ 3 + 8 * n → Ahead (reg bit ∷ closing-place ∷ ps) left
-  register-last : {bit left : ℕ} → left ≡ 4 → Ahead (reg bit ∷ []) left
-  number-last : {bit width left : ℕ} {signed : Bool} → left ≡ 5 → Ahead (num bit width signed ∷ []) left
-
--- Whether such a digit is a number's, and the mark after its operand; 0: none.
-unfoldable pub isNumber : ℕ → Bool
-isNumber d = eqb d 2 || eqb d 5
-
-unfoldable pub markOf : ℕ → ℕ
-markOf d = getD (0 ∷ 44 ∷ 40 ∷ 41 ∷ []) d 0
-
--- The place behind the mark that is asked for, if one is; 0: nothing is said.
-pub record Behind (names : List Name) (s : List ℕ) (at m next : ℕ) : Type 0 where
-  pub here : m ≡ 0 → next ≡ at
-  pub there : IsMark m → MarkIs names s at m next
-
 -- An operand at a place: a number where one is asked for, and else a register.
 abbrev pub OperandIs : List Name → List ℕ → ℕ → Bool → OperandAt → Type 0
 OperandIs names s at numeric (NumberOperand w next) =
-    (numeric ≡ true) × ((t : Token) × ((readNumber t ≡ value (signedMeant (w .negative) (w .magnitude))) × Reads names s at t next))
+    (numeric ≡ true) × ((t : Token) × ((readNumber t ≡ value (wholeMeant w)) × Reads names s at t next))
 OperandIs names s at numeric (RegisterOperand r next) = (numeric ≡ false) × Reads names s at (register (some (indexOf r))) next
 OperandIs names s at numeric NoOperand = Unit {0}
 

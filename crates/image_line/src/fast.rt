@@ -4,15 +4,14 @@ ghost use mathlib.Core.Path.{_≡_};
 ghost use Prim.Native.Nat.{_≤_, _<_};
 ghost use lib.ListN.{length};
 ghost use Rattle.text_lexical.specs.Names.{present};
-ghost use Rattle.instruction.specs.Table.{places};
-ghost use Rattle.instruction.specs.Contracts.{formAt};
-ghost use Rattle.image_line.specs.Contracts.{Tables, Ahead, isNumber, markOf, OperandIs, EndsWith, Tails, isLabel, FirstWordIs, FastIs};
+ghost use Rattle.instruction.specs.Forms.{isNumber};
+ghost use Rattle.image_line.specs.Contracts.{Tables, OperandIs, EndsWith, Tails, isLabel, FirstWordIs, FastIs};
+use crate::operand::AfterMark;
 use crate::operand::EndAt;
 use crate::operand::NumberAt;
 use crate::operand::RegisterAt;
 use instruction::instruction::Operands;
 use instruction::opcode::Row;
-use instruction::opcode::SYSTEM;
 use text::parser::Extracted;
 use text_lexical::bytes::Class;
 use text_lexical::name::RegisterName;
@@ -71,42 +70,12 @@ enum Tail {
     Other,
 }
 
-// The operands of a form, a digit each, the first lowest: 1 `r,`, 2 `n(`, 3 `r)`, 4 `r`, 5 `n`. They are looked up: forms follow each
-// other in no order, and a branch for each would often be guessed wrong.
-fn operands_of(form: u8) -> u32
-    ensures { λ r. ⌜ Ahead (places (formAt form)) r ⌝ }
-{
-    let operands = [0o411, 0o511, 0o511, 0o321, 0o321, 0o511, 0o51];
-    if form < SYSTEM {
-        return operands[form as usize];
-    }
-    0
-}
-
-fn is_number(operand: u32) -> bool
-    ensures { λ r. ⌜ r ≡ isNumber operand ⌝ }
-{
-    operand == 2 || operand == 5
-}
-
-// The mark after an operand; 0 if there is none.
-fn mark_of(operand: u32) -> u8
-    ensures { λ r. ⌜ r ≡ markOf operand ⌝ }
-{
-    match operand {
-        1 => b',',
-        2 => b'(',
-        3 => b')',
-        _ => 0,
-    }
-}
-
-// A number or a register, and the place after it.
-fn operand_at(source: &[u8], at: usize, numeric: bool) -> OperandAt
+// The operand that a digit of its form describes, a number or a register, and the place after it.
+fn operand_at(source: &[u8], at: usize, operand: u32) -> OperandAt
     requires { ⌜ at ≤ length (now source) ⌝ }
-    ensures { λ r. ⌜ OperandIs present (now (source .entry)) at numeric r ⌝ }
+    ensures { λ r. ⌜ OperandIs present (now (source .entry)) at (isNumber operand) r ⌝ }
 {
-    if numeric {
+    if instruction::form::is_number(operand) {
         return match crate::operand::number_at(source, at) {
             NumberAt::Other => OperandAt::Other,
             NumberAt::Is { kind, next } => match text::parser::extract_number(kind) {
@@ -154,11 +123,11 @@ fn read_tail(source: &[u8], from: usize, form: u8) -> Tail
         magnitude: 0,
     };
     let mut at = from;
-    let mut left = operands_of(form);
+    let mut left = instruction::form::operands_of(form);
     while 0 < left {
         let operand = left % 8;
         let mut after = 0;
-        match operand_at(source, at, is_number(operand)) {
+        match operand_at(source, at, operand) {
             OperandAt::Other => return Tail::Other,
             OperandAt::Number { number: n, next } => {
                 number = n;
@@ -170,9 +139,9 @@ fn read_tail(source: &[u8], from: usize, form: u8) -> Tail
                 after = next;
             }
         }
-        at = crate::operand::behind_mark(source, after, mark_of(operand));
-        if at == 0 {
-            return Tail::Other;
+        match crate::operand::after_mark(source, after, operand) {
+            AfterMark::Other => return Tail::Other,
+            AfterMark::At(next) => at = next,
         }
         left = left / 8;
     }

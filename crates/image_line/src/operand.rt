@@ -1,11 +1,12 @@
 // What an operand's place is expected to hold, read at once: a register, a number, a mark, the line's end. Anything else is left to the
 // record of the line's tokens.
 ghost use mathlib.Core.Path.{_≡_};
-ghost use mathlib.Core.Logic.{_⊎_};
 ghost use Prim.Native.Nat.{_≤_, _<_};
 ghost use lib.ListN.{length};
 ghost use Rattle.text_lexical.specs.Names.{present};
-ghost use Rattle.image_line.specs.Contracts.{upTo, RegisterIs, NumberIs, IsMark, MarkIs, Behind, EndIs};
+ghost use Rattle.instruction.specs.Forms.{markOf};
+ghost use Rattle.image_line.specs.Contracts.{upTo, RegisterIs, NumberIs, AfterMarkIs, EndIs};
+use instruction::form::Mark;
 use text::lexer::Kind;
 use text::lexer::Scan;
 use text_lexical::bytes::Class;
@@ -20,6 +21,12 @@ pub(crate) enum RegisterAt {
 // A token that may be a number, by its kind.
 pub(crate) enum NumberAt {
     Is { kind: Kind, next: usize },
+    Other,
+}
+
+// The place after the mark that follows an operand.
+pub(crate) enum AfterMark {
+    At(usize),
     Other,
 }
 
@@ -91,30 +98,24 @@ pub(crate) fn number_at(text: &[u8], from: usize) -> NumberAt
     }
 }
 
-// The place behind a mark, past blanks; 0 if another byte stands there.
-fn mark_at(text: &[u8], from: usize, mark: u8) -> usize
-    requires { ⌜ from ≤ length (now text) ⌝ ∗ ⌜ IsMark mark ⌝ }
-    ensures { λ r. ⌜ MarkIs present (now (text .entry)) from mark r ⌝ }
+// The place after the mark that follows an operand, past blanks; the place itself where its form has no mark there.
+pub(crate) fn after_mark(text: &[u8], from: usize, operand: u32) -> AfterMark
+    requires { ⌜ from ≤ length (now text) ⌝ }
+    ensures { λ r. ⌜ AfterMarkIs present (now (text .entry)) from (markOf operand) r ⌝ }
 {
-    let at = text_lexical::bytes::run_end(text, from, Class::Blank);
-    if text.len() <= at {
-        return 0;
+    match instruction::form::mark_of(operand) {
+        Mark::Nothing => AfterMark::At(from),
+        Mark::Is { byte, refusal: _ } => {
+            let at = text_lexical::bytes::run_end(text, from, Class::Blank);
+            if text.len() <= at {
+                return AfterMark::Other;
+            }
+            if text[at] != byte {
+                return AfterMark::Other;
+            }
+            AfterMark::At(at + 1)
+        }
     }
-    if text[at] != mark {
-        return 0;
-    }
-    at + 1
-}
-
-// The place behind a mark, or the place itself where none is asked for (0).
-pub(crate) fn behind_mark(text: &[u8], at: usize, mark: u8) -> usize
-    requires { ⌜ at ≤ length (now text) ⌝ ∗ ⌜ (mark ≡ 0) ⊎ IsMark mark ⌝ }
-    ensures { λ r. ⌜ Behind present (now (text .entry)) at mark r ⌝ }
-{
-    if mark == 0 {
-        return at;
-    }
-    mark_at(text, at, mark)
 }
 
 // Where the line ends, if nothing is left to read of it.

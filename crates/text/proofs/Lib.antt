@@ -2,6 +2,7 @@ pub mod Scanning
 pub mod Tokens
 pub mod Lines
 pub mod Left
+pub mod Endings
 pub mod Meanings
 pub mod Fronts
 pub mod Stepping

@@ -23,7 +23,8 @@ use Rattle.text.specs.declared.lexer.Scan.{Scan}
 use Rattle.text.specs.declared.lexer.Scan.the-variants.{Found, Bad, End}
 use Rattle.text.specs.declared.parser.Line.{Line}
 use Rattle.text.proofs.Left.{blank-margin, left-byte, none-read, content-at, indent-at}
-use Rattle.text.proofs.Stepping.{margin-on, Leads, Stepped, stepped}
+use Rattle.text.proofs.Endings.{margin-on}
+use Rattle.text.proofs.Stepping.{Leads, Stepped, stepped}
 
 -- ---- the tokens of a line
 

@@ -3,7 +3,6 @@ use mathlib.Core.Path.{_≡_, refl, sym, ap, _∙_}
 use Prim.Native.Nat.{ℕ, _+_, _-_, _≤_, _<_}
 use native.Mathlib.Omega.{arith}
 use mathlib.Core.Bool.{true, false}
-use mathlib.Core.Logic.{_⊎_}
 use mathlib.Core.List.{List, [], _∷_}
 use mathlib.Core.Option.{Option, none, some}
 use lib.ListN.{length, take, drop, getD, length-drop}
@@ -23,20 +22,12 @@ use Rattle.text.specs.declared.lexer.Kind.the-variants.{Number, Negative
 use Rattle.text.specs.declared.lexer.Token.{Token}
 use Rattle.text.specs.declared.lexer.Scan.{Scan}
 use Rattle.text.specs.declared.lexer.Scan.the-variants.{Found, Bad, End}
-use Rattle.text.proofs.Left.{solid, digit-solid, high-solid, mark-solid, solid-plain, margin-inside, blank-inside, blanks-at, front-at, left-byte, solid-left, found-at, found-solid, nothing-left, none-read, left-read-bad, bad-left, bad-at, end-on}
+use Rattle.text.proofs.Left.{solid, digit-solid, high-solid, mark-solid, solid-plain, blank-inside, blanks-at, front-at, left-byte, solid-left, found-at, found-solid, nothing-left, none-read, left-read-bad, end-on}
+use Rattle.text.proofs.Endings.{margin-on}
 use Rattle.text.proofs.Meanings.{front-means, kind-sign}
 use Rattle.text.proofs.Fronts.{at-found, at-none, mark-front, mark-none, no-number-start, number-digit}
 
 -- ---- places
-
--- The bytes of a run of margin do not end the line.
-pub margin-on : (s : List ℕ) (at stop : ℕ) → at ≤ length s → stop ≡ at + run margin (drop at s) → (at ≤ stop) × (stop ≤ length s) × (endAt s stop ≡ endAt s at)
-margin-on s at stop l q =
-    let n = run-le margin (drop at s) in
-    let k = length-drop at s in
-    let i : every inside (take (run margin (drop at s)) (drop at s)) ≡ true
-    = rw (take-run margin (drop at s)) (every-mono margin inside margin-inside (before margin (drop at s)) (every-run margin (drop at s))) in
-    (omega arith, omega arith, ap (endAt s) q ∙ end-on s at (run margin (drop at s)) (omega arith) i)
 
 from-blank : (s : List ℕ) (from at : ℕ) → from ≤ length s → at ≡ from + run blank (drop from s) → endAt s at ≡ endAt s from
 from-blank s from at l q =
@@ -97,10 +88,9 @@ module _ (names : List Name) where
       (λ t. solid-step s at r l (high-solid (getD s at 0) (omega (arith, eqb-true (getD s at 0) 45 t))) e)
       (λ f. solid-step s at r l (digit-solid (getD s at 0) (number-digit (getD s at 0) h (eqb-false (getD s at 0) 45 f))) e)
 
-  pub end-step : (s : List ℕ) (at stop : ℕ) → at < length s → blank (getD s at 0) ≡ false → stop ≡ at + run margin (drop at s)
-      → (stop < length s → (getD s stop 0 ≡ 10) ⊎ (getD s stop 0 ≡ 35)) → End stop ≡ scanAt names s at
-  end-step s at stop l b q f =
-      ap End q ∙ stands-end s at (nothing-left s at (omega arith) (λ m. rw q at (f (rw q m)))) ∙ scan-here s at l b
+  -- Nothing is left, up to the place past the margin.
+  pub end-step : (s : List ℕ) (at stop : ℕ) → at < length s → blank (getD s at 0) ≡ false → leftAt s at ≡ [] → stop ≡ at + run margin (drop at s) → End stop ≡ scanAt names s at
+  end-step s at stop l b n q = ap End q ∙ stands-end s at n ∙ scan-here s at l b
 
   -- ---- past blanks
 
@@ -142,12 +132,8 @@ module _ (names : List Name) where
     none-front : (s : List ℕ) (at : ℕ) → at < length s → NoWord (getD s at 0) → mark (getD s at 0) ≡ false → front names (drop at s) ≡ none
     none-front s at l w k = let (d, m) = no-number-start (getD s at 0) (w .no-number) in mark-none names ok s at l (w .no-start) d m (w .no-dot) k
 
-    pub bad-step : (s : List ℕ) (at stop : ℕ) → at < length s → NoWord (getD s at 0) → mark (getD s at 0) ≡ false → stop ≡ at + run margin (drop at s) → stop < length s
-        → (getD s stop 0 ≡ 10 → ⊥) → (getD s stop 0 ≡ 35 → ⊥) → Bad ≡ scanAt names s at
-    bad-step s at stop l w k q m n o =
-        let f = none-front s at l w k in
-        let b = bad-at names (ok .identifiers) s at l (w .no-blank) f (omega arith) (λ e. n (rw q e)) (λ e. o (rw q e)) in
-        at-none names ok s at f ∙ stands-token s at (bad-left names s at b) ∙ scan-here s at l (w .no-blank)
+    pub bad-step : (s : List ℕ) (at : ℕ) → at < length s → NoWord (getD s at 0) → mark (getD s at 0) ≡ false → (leftAt s at ≡ [] → ⊥) → Bad ≡ scanAt names s at
+    bad-step s at l w k f = at-none names ok s at (none-front s at l w k) ∙ stands-token s at f ∙ scan-here s at l (w .no-blank)
 
     -- ---- a mark
 

@@ -22,6 +22,8 @@ use Rattle.text.specs.declared.lexer.Kind.the-variants.{Identifier, Regi
 use Rattle.text.specs.declared.lexer.Token.{Token}
 use Rattle.text.specs.declared.lexer.Scan.{Scan}
 use Rattle.text.specs.declared.lexer.Scan.the-variants.{Found, Bad, End}
+use Rattle.text.specs.declared.lexer.Ending.{Ending}
+use Rattle.text.specs.declared.lexer.Ending.the-variants.{Line as LineEnd, Comment, Other}
 use Rattle.text.specs.declared.parser.Extracted.{Extracted}
 use Rattle.text.specs.declared.parser.Extracted.the-variants.{Number as Extract, Refused as NoNumber}
 use Rattle.text.specs.declared.parser.Line.{Line}
@@ -98,6 +100,16 @@ kindFor comma u = Comma
 kindFor colon u = Colon
 kindFor opening u = LParen
 kindFor closing u = RParen
+
+-- ---- where reading a line ends
+
+-- What stands at a place up to which nothing is left of a line: a comment, by its `#`, or the line's end, byte 10 or the text's end.
+abbrev pub endedAt : List ℕ → ℕ → Ending
+endedAt s stop = elim (eqb (getD s stop 0) 35) [ true ↦ Comment stop | false ↦ LineEnd stop ]
+
+-- Where reading the line from a place on ends: past the margin, if nothing is left of the line.
+unfoldable pub endingAt : List ℕ → ℕ → Ending
+endingAt s at = elim (leftAt s at) [ [] ↦ endedAt s (at + run margin (drop at s)) | b ∷ l ↦ Other ]
 
 -- ---- the next token of a line
 

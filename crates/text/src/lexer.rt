@@ -5,7 +5,7 @@ ghost use Prim.Native.Nat.{_+_, _-_, _≤_, _<_};
 ghost use lib.ListN.{length, getD};
 ghost use Rattle.text_lexical.specs.Bytes.{nameStart, digit, mark, blank};
 ghost use Rattle.text_lexical.specs.Names.{present};
-ghost use Rattle.text.specs.Contracts.{patternKind, tokenAt, scanAt, numberStart, IsDecimal, Prefixed, NoWord};
+ghost use Rattle.text.specs.Contracts.{patternKind, endingAt, tokenAt, scanAt, numberStart, IsDecimal, Prefixed, NoWord};
 use text_lexical::bytes::Class;
 use text_lexical::name::RegisterName;
 use text_lexical::number::Radix;
@@ -41,6 +41,13 @@ pub enum Scan {
     Found { token: Token, next: usize },
     Bad,
     End(usize),
+}
+
+// Where reading a line ends: at the line's end, or at a comment; or something is left to read.
+pub enum Ending {
+    Line(usize),
+    Comment(usize),
+    Other,
 }
 
 fn found(kind: Kind, at: usize, end: usize) -> Scan
@@ -194,18 +201,31 @@ fn directive(text: &[u8], at: usize) -> Scan
     found(Kind::Directive, at, end)
 }
 
-// A byte that begins no token: the line's end, a comment, or margin before one of them; anything else is bad.
-fn ending(text: &[u8], at: usize) -> Scan
-    requires { ⌜ at < length (now text) ⌝ ∗ ⌜ NoWord (getD (now text) at 0) ⌝ ∗ ⌜ mark (getD (now text) at 0) ≡ false ⌝ }
-    ensures { λ r. ⌜ r ≡ scanAt present (now (text .entry)) at ⌝ }
+// Where reading the line from `at` on ends, if nothing but margin is left of it.
+pub fn ending_at(text: &[u8], at: usize) -> Ending
+    requires { ⌜ at ≤ length (now text) ⌝ }
+    ensures { λ r. ⌜ r ≡ endingAt (now (text .entry)) at ⌝ }
 {
     let stop = text_lexical::bytes::run_end(text, at, Class::Margin);
     if text.len() <= stop {
-        return Scan::End(stop);
+        return Ending::Line(stop);
     }
     match text[stop] {
-        b'\n' | b'#' => Scan::End(stop),
-        _ => Scan::Bad,
+        b'\n' => Ending::Line(stop),
+        b'#' => Ending::Comment(stop),
+        _ => Ending::Other,
+    }
+}
+
+// A byte that begins no token: reading the line ends here, or it is bad.
+fn end_or_bad(text: &[u8], at: usize) -> Scan
+    requires { ⌜ at < length (now text) ⌝ ∗ ⌜ NoWord (getD (now text) at 0) ⌝ ∗ ⌜ mark (getD (now text) at 0) ≡ false ⌝ }
+    ensures { λ r. ⌜ r ≡ scanAt present (now (text .entry)) at ⌝ }
+{
+    match ending_at(text, at) {
+        Ending::Line(stop) => Scan::End(stop),
+        Ending::Comment(stop) => Scan::End(stop),
+        Ending::Other => Scan::Bad,
     }
 }
 
@@ -220,7 +240,7 @@ fn mark_or_ending(text: &[u8], at: usize) -> Scan
         b':' => found(Kind::Colon, at, end),
         b'(' => found(Kind::LParen, at, end),
         b')' => found(Kind::RParen, at, end),
-        _ => ending(text, at),
+        _ => end_or_bad(text, at),
     }
 }
 

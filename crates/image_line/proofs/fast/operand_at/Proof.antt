@@ -6,6 +6,9 @@ use Rattle.text.proofs.Meanings.{extracted-number}
 use Rattle.image_line.proofs.fast.operand_at.Statement.{statement}
 use Rattle.image_line.proofs.fast.operand_at.Tie as tie
 
+is-number-requires : tie.Need-is-number-requires
+is-number-requires c κs = search needs
+
 number-at-requires : tie.Need-number-at-requires
 number-at-requires c κs = search needs
 
@@ -35,8 +38,10 @@ returns-3 c =
     let n = c .before in
     let x = n .before .before in
     let k = x .before .before in
-    let (u, rd) = rw (k .kind .given .1) at (k .before .before .number-at .ensures) in (
-      k .before .before .before .if1 .taken,
+    let a = k .before .before in
+    let i = a .before in
+    let (u, rd) = rw (k .kind .given .1) at (a .number-at .ensures) in (
+      sym (i .before .is-number .ensures) ∙ i .if1 .taken,
       (_, (sym (ap extractMeant (sym (n .number .given .1) ∙ x .extract-number .ensures) ∙ extracted-number (k .kind .given .0 .0) u), rd)),
     )
 
@@ -55,12 +60,15 @@ returns-4 c = search needs
 returns-5 : tie.Need-returns-5
 returns-5 c =
     let e = c .before in
-    (e .before .before .before .if1 .left, rw (e .register .given .1) at (e .before .before .register-at .ensures))
+    let r = e .before .before in
+    let i = r .before in
+    (sym (i .before .is-number .ensures) ∙ i .if1 .left, rw (e .register .given .1) at (r .register-at .ensures))
 
 pub operand-at-spec : {M : Type 1} → statement M
 operand-at-spec =
     tie.close
     (tie.spec
+    is-number-requires
     number-at-requires
     enum-told
     enum-known-kind

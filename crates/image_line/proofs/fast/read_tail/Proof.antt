@@ -1,16 +1,15 @@
 -- `image_line::fast::read_tail` meets its contract. The loop's invariant: what has been read of the operands, and which are left to read.
-use mathlib.Core.Path.{sym, _∙_}
 use mathlib.Core.Logic.{⊎-elim}
 use native.Mathlib.Omega.{arith}
 use borrow.Author.Needs.{needs}
 use Rattle.text_lexical.specs.Names.{present}
-use Rattle.image_line.proofs.Operands.{Reading, reading-begin, reading-register, reading-number, room-ahead, reading-tail, mark-any}
+use Rattle.image_line.proofs.Operands.{OperandsUpTo, operands-begin, room-ahead, register-next, number-next, mark-next, operands-end}
 use Rattle.image_line.proofs.fast.read_tail.Statement.{statement}
 use Rattle.image_line.proofs.fast.read_tail.Tie as tie
 
 abbrev Inv-loop : tie.InvT-loop
 Inv-loop source from form registers₀ count₀ number₀ at₀ left₀ registers count number at left =
-    Reading present source from form at left count registers (number .negative) (number .magnitude)
+    OperandsUpTo present source from form at left count registers number
 
 abbrev μ-loop : tie.MeasureT-loop
 μ-loop source from form registers₀ count₀ number₀ at₀ left₀ registers count number at left = left
@@ -19,13 +18,10 @@ operands-of-requires : tie.Need-operands-of-requires Inv-loop μ-loop
 operands-of-requires c κs = search needs
 
 loop-holds : tie.Need-loop-holds Inv-loop μ-loop
-loop-holds c = let b = c .before .before in reading-begin present (b .args .source .now) (b .args .from) (b .args .form) (c .operands-of .result) (b .pre) (c .operands-of .ensures)
-
-is-number-requires : tie.Need-is-number-requires Inv-loop μ-loop
-is-number-requires c κs = search needs
+loop-holds c = operands-begin (c .before .before .pre) (c .operands-of .ensures)
 
 operand-at-requires : tie.Need-operand-at-requires Inv-loop μ-loop
-operand-at-requires c κs = c .before .before .loop .inv .partly .place
+operand-at-requires c κs = c .before .loop .inv .passed .place
 
 enum-told : tie.Need-enum-told Inv-loop μ-loop
 enum-told c = search needs
@@ -42,64 +38,51 @@ enum-known-register c = search needs
 array-set-from-registers : tie.Need-array-set-from-registers Inv-loop μ-loop
 array-set-from-registers c =
     let o = c .before .before .before in
-    let i = o .before in
-    let k = i .before .before in
-    let b = k .before .before .before in
+    let l = o .before in
     let (letter, rd) = rw (c .before .register .given .1) at (o .operand-at .ensures) in
-    room-ahead present (b .args .source .now) (b .args .from) (b .args .form) (k .loop .at) (k .loop .left) (k .loop .count) (k .loop .registers) (k .loop .number .negative) (k .loop .number .magnitude) (k .loop .inv)
-    (i .before .loop-test .taken) (sym (i .is-number .ensures) ∙ letter)
+    room-ahead (l .before .loop .inv) (l .loop-test .taken) letter
 
 add-count : tie.Need-add-count Inv-loop μ-loop
 add-count c = omega (arith, array-set-from-registers c)
 
-mark-of-requires : tie.Need-mark-of-requires Inv-loop μ-loop
-mark-of-requires c κs = search needs
+after-mark-requires : tie.Need-after-mark-requires Inv-loop μ-loop
+after-mark-requires c κs =
+    let o = c .before in
+    ⊎-elim (λ w. let (digit, (t, (v, rd))) = rw (w .1 .given .1) at (o .operand-at .ensures) in rw (w .6) (rd .in-text))
+    (λ w. let (letter, rd) = rw (w .1 .given .1) at (o .operand-at .ensures) in rw (w .6) (rd .in-text)) (c .match .came)
 
-behind-mark-requires : tie.Need-behind-mark-requires Inv-loop μ-loop
-behind-mark-requires c κs =
-    let m = c .before in
-    let o = m .before in (
-      ⊎-elim (λ w. let (digit, (t, (v, rd))) = rw (w .1 .given .1) at (o .operand-at .ensures) in rw (w .6) (rd .in-text)) (λ w. let (letter, rd) = rw (w .1 .given .1) at (o .operand-at .ensures) in rw (w .6) (rd .in-text)) (m .match .came),
-      mark-any _ _ (c .mark-of .ensures),
-    )
+enum-told-2 : tie.Need-enum-told-2 Inv-loop μ-loop
+enum-told-2 c = search needs
 
 returns-2 : tie.Need-returns-2 Inv-loop μ-loop
 returns-2 c = tt
+
+enum-known-next : tie.Need-enum-known-next Inv-loop μ-loop
+enum-known-next c = search needs
 
 loop-less : tie.Need-loop-less Inv-loop μ-loop
 loop-less c = search needs
 
 loop-again : tie.Need-loop-again Inv-loop μ-loop
 loop-again c =
-    let m = c .before .before in
-    let j = m .before in
-    let o = j .before in
-    let i = o .before in
-    let l = i .before in
+    let n = c .before in
+    let m = n .before .before in
+    let o = m .before .before in
+    let l = o .before in
     let k = l .before in
-    let b = k .before .before .before in
-    let after = rw (m .mark-of .ensures) at (c .before .behind-mark .ensures) in
+    let marked = rw (n .next .given .1) at (m .after-mark .ensures) in
     ⊎-elim
     (λ w. let (digit, (t, (v, rd))) = rw (w .1 .given .1) at (o .operand-at .ensures) in
-    rw (w .3, w .4, w .5)
-    (reading-number present (b .args .source .now) (b .args .from) (b .args .form) (k .loop .at) (k .loop .left) (k .loop .count) (k .loop .registers) (k .loop .number .negative) (k .loop .number .magnitude) (k .loop .inv)
-    (l .loop-test .taken) (sym (i .is-number .ensures) ∙ digit) t _ _ _ (c .before .behind-mark .result) v rd (rw (w .6) at after) (c .if1 .left)))
+    rw (w .3, w .4, w .5) (mark-next (number-next (k .loop .inv) (l .loop-test .taken) digit v rd) (rw (w .6) at marked)))
     (λ w. let (letter, rd) = rw (w .1 .given .1) at (o .operand-at .ensures) in
-    rw (w .3, w .4, w .5)
-    (reading-register present (b .args .source .now) (b .args .from) (b .args .form) (k .loop .at) (k .loop .left) (k .loop .count) (k .loop .registers) (k .loop .number .negative) (k .loop .number .magnitude) (k .loop .inv)
-    (l .loop-test .taken) (sym (i .is-number .ensures) ∙ letter) (w .1 .given .0 .0) _ (c .before .behind-mark .result) rd (rw (w .6) at after) (c .if1 .left)))
-    (j .match .came)
+    rw (w .3, w .4, w .5) (mark-next (register-next (w .1 .given .0 .0) (k .loop .inv) (l .loop-test .taken) letter rd) (rw (w .6) at marked)))
+    (m .before .match .came)
 
 tail-at-requires : tie.Need-tail-at-requires Inv-loop μ-loop
-tail-at-requires c κs = c .before .loop .inv .partly .place
+tail-at-requires c κs = c .before .loop .inv .passed .place
 
 returns-3 : tie.Need-returns-3 Inv-loop μ-loop
-returns-3 c =
-    let l = c .before in
-    let k = l .before in
-    let b = k .before .before .before in
-    reading-tail present (b .args .source .now) (b .args .from) (b .args .form) (k .loop .at) (k .loop .left) (k .loop .count) (k .loop .registers) (k .loop .number) (k .loop .inv)
-    (λ p. omega (arith, l .loop-test .left)) (c .tail-at .result) (c .tail-at .ensures)
+returns-3 c = let l = c .before in operands-end (c .tail-at .result) (l .before .loop .inv) (λ p. omega (arith, l .loop-test .left)) (c .tail-at .ensures)
 
 pub read-tail-spec : {M : Type 1} → statement M
 read-tail-spec =
@@ -109,7 +92,6 @@ read-tail-spec =
     μ-loop
     operands-of-requires
     loop-holds
-    is-number-requires
     operand-at-requires
     enum-told
     returns
@@ -117,9 +99,10 @@ read-tail-spec =
     enum-known-register
     array-set-from-registers
     add-count
-    mark-of-requires
-    behind-mark-requires
+    after-mark-requires
+    enum-told-2
     returns-2
+    enum-known-next
     loop-less
     loop-again
     tail-at-requires

@@ -30,8 +30,8 @@ found-requires-3 c κs = search needs
 found-requires-4 : tie.Need-found-requires-4
 found-requires-4 c κs = search needs
 
-ending-requires : tie.Need-ending-requires
-ending-requires c κs =
+end-or-bad-requires : tie.Need-end-or-bad-requires
+end-or-bad-requires c κs =
     let r = c .before .before .before in
     let a = r .args in
     let n = c .match .rest in
@@ -90,7 +90,7 @@ mark-or-ending-spec =
     found-requires-2
     found-requires-3
     found-requires-4
-    ending-requires
+    end-or-bad-requires
     returns
     returns-2
     returns-3
