@@ -2,6 +2,7 @@
 use Prim.Native.Nat.{ℕ}
 use mathlib.Core.Path.{_≡_, sym, ap, _∙_}
 use mathlib.Core.List.{List}
+use Rattle.text_lexical.specs.Names.{Name}
 use Rattle.image.specs.Opening.{opening}
 use Rattle.image.specs.Contracts.{openedMeant}
 use Rattle.image.specs.declared.program.Opened.{Opened}
@@ -15,8 +16,8 @@ use Rattle.capi.specs.Contracts.{assembleNumber, assembleValues, Handed,
 pub handed-as : {a b : Assembled} → a ≡ b → Handed (answerMeant a) (assembleValues (answerMeant b)) (assembleNumber (answerMeant b))
 handed-as e = record { number = sym (ap (λ (x : Assembled). assembleNumber (answerMeant x)) e); answer = sym (ap (λ (x : Assembled). assembleValues (answerMeant x)) e) }
 
-pub assemble-called : {source image image′ answer′ : List ℕ} {table table′ : List Label} {a : Assembled} {r : ℕ}
-    → Assembles source table image table′ image′ a → Handed (answerMeant a) answer′ r → AssembleCall source table image table′ image′ answer′ r
+pub assemble-called : {names : List Name} {source image image′ answer′ : List ℕ} {table table′ : List Label} {a : Assembled} {r : ℕ}
+    → Assembles names source table image table′ image′ a → Handed (answerMeant a) answer′ r → AssembleCall names source table image table′ image′ answer′ r
 assemble-called h g = record {
   number = g .number ∙ ap assembleNumber (h .answer);
   answer = g .answer ∙ ap assembleValues (h .answer);

@@ -36,6 +36,7 @@ use denote.Steps.{nothing, owned, heard}
 use denote.Triple.Walked.{says, Stays, stay-dropped, gave-slice, gave-ref, walkOf, ends-at, walked, goes-dropped, goes-gave-slice, goes-gave-ref, walk-meets}
 use Rattle.walking.proofs.Calls.{Known, calls-to}
 use Rattle.walking.proofs.Numbers.{Numbers}
+use Rattle.text_lexical.specs.Names.{present}
 use Rattle.image_labels.specs.declared.label.Label.{Label}
 use Rattle.image_labels.proofs.label.Label as L
 use Rattle.image_assembler.specs.declared.assembler.Assembled.{Assembled}
@@ -141,7 +142,7 @@ module _ {M : Type 1} (𝓤 : URA M) (H : Heap 𝓤) (A : Atoms 𝓤) (at-mem : 
     to-write r = ((κs .1 .1 .1, qs .1 .1 .1, tt, (r, (ans, tt)), (rval r ∷ [], (s₄ ∷ [], tt))), tt)
 
     module _ (W : Given 𝓤 H A) where
-      pub exits : (l : List Label) (i w : List ℕ) (n : ℕ) → AssembleCall (src .now) (x .now) (y .now) l i w n → length l ≡ length (x .now) → length i ≡ length (y .now) → Is (UInt w32) n (vint w32 n ∷ [])
+      pub exits : (l : List Label) (i w : List ℕ) (n : ℕ) → AssembleCall present (src .now) (x .now) (y .now) l i w n → length l ≡ length (x .now) → length i ≡ length (y .now) → Is (UInt w32) n (vint w32 n ∷ [])
           → Sq W (Left l i w) (prop (Ends (vint w32 n)))
       exits l i w n h e f is =
           suffices ! _ (ends-at 𝓤 H A this.ended stayed (this.clauses 𝓤 H A at-mem run) W given (vint w32 n) n (tt, (l, (i, (w, tt)))) (tt, (e, (f, (tt, tt))))) $ says ! h $ frame ! $
@@ -169,21 +170,21 @@ module _ {M : Type 1} (𝓤 : URA M) (H : Heap 𝓤) (A : Atoms 𝓤) (at-mem : 
 
       module _ {K : Type 0} {Γ : List (Item 𝓤)} {E : Env 𝓤 H} {q : Post 𝓤 H} {f : Name} {os : List Operand} {d : Place} {rest : Body} (t : K) (𝓣 : Tables 𝓤 H) where
         pub calls-assemble : Triple 𝓤 (𝓣 .C f) Assembling → Opds K W (raw (Assembling .pre to-assemble) ∷ ‵ Answer ∷ One ∷ Γ) E os (s₁ ∷ s₂ ∷ s₃ ∷ [])
-            → ((r : Assembled) (l : List Label) (i : List ℕ) → Assembles (src .now) (x .now) (y .now) l i r → length l ≡ length (x .now) → length i ≡ length (y .now) → Is R.the-row r (rval r ∷ [])
+            → ((r : Assembled) (l : List Label) (i : List ℕ) → Assembles present (src .now) (x .now) (y .now) l i r → length l ≡ length (x .now) → length i ≡ length (y .now) → Is R.the-row r (rval r ∷ [])
             → Seq K W (Three ∷ ‵ (Table l) ∷ ‵ (Image i) ∷ ‵ Answer ∷ One ∷ Γ) (lands (𝓣 .C) (𝓣 .Λ) E d (rval r) rest q))
             → Seq K W (All ∷ ‵ Held ∷ Γ) (runs (𝓣 .C) (𝓣 .Λ) E (seq (call f os d) rest) q)
         calls-assemble met operands h =
             use2 W (raw (Assembling .pre to-assemble) ⊛ (‵ Answer ⊛ One)) goes-assemble $ split t $ move t (1 ∷ []) $ split t $ move t (2 ∷ []) $
             calls-to t (fmOf 𝓤 H (W .laws) 𝓣) assemble.ended (assemble.clauses 𝓤 H A at-mem run) met to-assemble rval (EL.tells R.the-type R′.the-laws) operands (λ r ws ir.
-            heard t (Assembles (src .now) (x .now) (y .now) (ws .1 .0) (ws .1 .1 .0) r) (λ a.
+            heard t (Assembles present (src .now) (x .now) (y .now) (ws .1 .0) (ws .1 .1 .0) r) (λ a.
             -- what is left of each parameter, and the tokens
             fsplit t $ drop t $ fsplit t $ move t (1 ∷ []) $ fsplit t $ move t (1 ∷ []) $ drop t $ fsplit t $ move t (1 ∷ []) $ feqL t (λ g. move t (1 ∷ []) $ fsplit t $ move t (1 ∷ []) $ feqL t (λ e.
             -- [the last entries; the last image; the tokens]
             move t (2 ∷ []) $ h r (ws .1 .0) (ws .1 .1 .0) a e g ir))))
 
-        pub calls-write : Triple 𝓤 (𝓣 .C f) Writing → (r : Assembled) (l : List Label) (i : List ℕ) → Assembles (src .now) (x .now) (y .now) l i r → Is R.the-row r (rval r ∷ [])
+        pub calls-write : Triple 𝓤 (𝓣 .C f) Writing → (r : Assembled) (l : List Label) (i : List ℕ) → Assembles present (src .now) (x .now) (y .now) l i r → Is R.the-row r (rval r ∷ [])
             → Opds K W (raw (Writing .pre (to-write r)) ∷ Three ∷ ‵ (Table l) ∷ ‵ (Image i) ∷ Γ) E os (rval r ∷ s₄ ∷ [])
-            → ((w : List ℕ) (n : ℕ) → AssembleCall (src .now) (x .now) (y .now) l i w n → Is (UInt w32) n (vint w32 n ∷ []) → Seq K W (Left l i w ++ Γ) (lands (𝓣 .C) (𝓣 .Λ) E d (vint w32 n) rest q))
+            → ((w : List ℕ) (n : ℕ) → AssembleCall present (src .now) (x .now) (y .now) l i w n → Is (UInt w32) n (vint w32 n ∷ []) → Seq K W (Left l i w ++ Γ) (lands (𝓣 .C) (𝓣 .Λ) E d (vint w32 n) rest q))
             → Seq K W (Three ∷ ‵ (Table l) ∷ ‵ (Image i) ∷ ‵ Answer ∷ One ∷ Γ) (runs (𝓣 .C) (𝓣 .Λ) E (seq (call f os d) rest) q)
         calls-write met r l i a ir operands h =
             move t (3 ∷ 4 ∷ []) $ use2 W (raw (Writing .pre (to-write r))) (goes-write r ir) $

@@ -10,7 +10,7 @@ use lib.ListN.{length, getD}
 use lib.Dec.{leb, eqb}
 use borrow.Author.Tests.{le-leb}
 use Rattle.text_lexical.specs.Bytes.{value, refused}
-use Rattle.text_lexical.specs.Names.{present}
+use Rattle.text_lexical.specs.Names.{Name}
 use Rattle.image.specs.Program.{header-size, imageLength}
 use Rattle.image.specs.Opening.{Opened as Parts, openingFault, opening}
 use Rattle.image.specs.Assembling.{Assembled as Reading, accepted, rejected, reading, fitted, assembling}
@@ -55,24 +55,24 @@ unfolding answerOf
 assembling-number (accepted st) h = refl
 assembling-number (rejected r) h = or-zero assemblingNumbers (r .number) h
 
-image-left : (source image : List ℕ) (a : Reading) → (assembleNumber (answerOf a) ≡ 0 → ⊥) → imageAfter present source a image ≡ image
+image-left : (names : List Name) (source image : List ℕ) (a : Reading) → (assembleNumber (answerOf a) ≡ 0 → ⊥) → imageAfter names source a image ≡ image
 unfolding answerOf imageAfter
-image-left source image (accepted st) k = absurd (k refl)
-image-left source image (rejected r) k = refl
+image-left names source image (accepted st) k = absurd (k refl)
+image-left names source image (rejected r) k = refl
 
 -- A source is not read to more than 32,768 words,
-words-answered : (source : List ℕ) (room size : ℕ) → Accepted present source room size → getD (assembleValues (answerOf (assembling present source room size))) 0 0 ≤ 32768
+words-answered : (names : List Name) (source : List ℕ) (room size : ℕ) → Accepted names source room size → getD (assembleValues (answerOf (assembling names source room size))) 0 0 ≤ 32768
 unfolding answerOf
-words-answered source room size k =
-    let a = accepted-assembles present source room size k in
+words-answered names source room size k =
+    let a = accepted-assembles names source room size k in
     omega (arith, ap (λ (w : Reading). getD (assembleValues (answerOf w)) 0 0) (a .answer), a .means .few)
 
 -- so a buffer for as many is never too short.
-never-23 : (source : List ℕ) (room size : ℕ) → 131104 ≤ size → assembleNumber (answerOf (assembling present source room size)) ≡ 23 → ⊥
+never-23 : (names : List Name) (source : List ℕ) (room size : ℕ) → 131104 ≤ size → assembleNumber (answerOf (assembling names source room size)) ≡ 23 → ⊥
 unfolding assembling fitted imageLength header-size answerOf
-never-23 source room size h = go (reading present source room) (reading-means present source room) (reading-numbered present source room)
+never-23 names source room size h = go (reading names source room) (reading-means names source room) (reading-numbered names source room)
   where
-    go : (a : Reading) → MeansIf present source a → OfAnswer readingNumbers a → assembleNumber (answerOf (fitted size a)) ≡ 23 → ⊥
+    go : (a : Reading) → MeansIf names source a → OfAnswer readingNumbers a → assembleNumber (answerOf (fitted size a)) ≡ 23 → ⊥
     go (rejected r) m n e = not-missing readingNumbers 23 (r .number) refl n e
     go (accepted st) m n e =
         let f : fitted size (accepted st) ≡ accepted st = rw (fitted, le-leb (32 + 4 * length (st .instructions)) size (omega (arith, m .few))) in
@@ -148,18 +148,18 @@ module _ (b : List ℕ) (size : ℕ) where
 pub promises : Promises
 promises =
     record {
-      assembling = λ source table image table′ image′ answer′ r h.
+      assembling = λ names source table image table′ image′ answer′ r h.
           let room = length table in
           let size = length image in
-          let a = assembling present source room size in
-          let n = assembling-numbered present source room size in
+          let a = assembling names source room size in
+          let n = assembling-numbered names source room size in
           let z = returned (h .number) (assembling-zero a n) in
           record {
             zero = z;
             number = subst (OneOf (0 ∷ assemblingNumbers)) (sym (h .number)) (assembling-number a n);
-            image-kept = λ k. h .image-holds ∙ image-left source image a (λ e. k (h .number ∙ e));
-            image-length = λ e. omega (arith, ap (λ (x : List ℕ). getD x 0 0) (h .answer), words-answered source room size (z .0 e));
-            image-fits = λ l e. never-23 source room size (omega arith) (sym (h .number) ∙ e);
+            image-kept = λ k. h .image-holds ∙ image-left names source image a (λ e. k (h .number ∙ e));
+            image-length = λ e. omega (arith, ap (λ (x : List ℕ). getD x 0 0) (h .answer), words-answered names source room size (z .0 e));
+            image-fits = λ l e. never-23 names source room size (omega arith) (sym (h .number) ∙ e);
           };
       opening = λ image answer′ r h.
           record {

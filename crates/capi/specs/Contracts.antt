@@ -6,7 +6,7 @@ use mathlib.Core.Option.{Option, none, some}
 use mathlib.Core.List.{List, [], _∷_, map}
 use lib.ListN.{length}
 use Rattle.text_lexical.specs.Bytes.{Result, value, refused}
-use Rattle.text_lexical.specs.Names.{present}
+use Rattle.text_lexical.specs.Names.{Name}
 use Rattle.image.specs.Opening.{Opened, opening}
 use Rattle.image.specs.Assembling.{assembling}
 use Rattle.image.specs.Listing.{listing}
@@ -35,11 +35,11 @@ pub record Handed (a : Answer) (answer′ : List ℕ) (r : ℕ) : Type 0 where
   pub answer : answer′ ≡ assembleValues a
 
 -- Assembling a source, with a label table and an image buffer before and after.
-pub record AssembleCall (source : List ℕ) (table : List Label) (image : List ℕ) (table′ : List Label) (image′ answer′ : List ℕ) (r : ℕ) : Type 0 where
-  pub number : r ≡ assembleNumber (answerOf (assembling present source (length table) (length image)))
-  pub answer : answer′ ≡ assembleValues (answerOf (assembling present source (length table) (length image)))
-  pub table-holds : table′ ≡ over (map entryOf (entered (assembling present source (length table) (length image)))) table
-  pub image-holds : image′ ≡ imageAfter present source (assembling present source (length table) (length image)) image
+pub record AssembleCall (names : List Name) (source : List ℕ) (table : List Label) (image : List ℕ) (table′ : List Label) (image′ answer′ : List ℕ) (r : ℕ) : Type 0 where
+  pub number : r ≡ assembleNumber (answerOf (assembling names source (length table) (length image)))
+  pub answer : answer′ ≡ assembleValues (answerOf (assembling names source (length table) (length image)))
+  pub table-holds : table′ ≡ over (map entryOf (entered (assembling names source (length table) (length image)))) table
+  pub image-holds : image′ ≡ imageAfter names source (assembling names source (length table) (length image)) image
 
 -- ---- opening
 

@@ -7,7 +7,7 @@ use mathlib.Core.Logic.{_↔_}
 use mathlib.Core.Option.{none}
 use mathlib.Core.List.{List, _∷_}
 use lib.ListN.{length, getD}
-use Rattle.text_lexical.specs.Names.{present}
+use Rattle.text_lexical.specs.Names.{Name}
 use Rattle.image.specs.Opening.{openingFault}
 use Rattle.image.specs.Meaning.{Accepted, Listed}
 use Rattle.image_labels.specs.declared.label.Label.{Label}
@@ -15,9 +15,9 @@ use Rattle.guarantees.specs.Calls.{assemblingNumbers, openingNumbers, listingNu
 use Rattle.capi.specs.Contracts.{AssembleCall, OpenCall, ListCall}
 
 -- After a call of `zkasm_assemble`:
-pub record AssemblePromise (source : List ℕ) (table : List Label) (image : List ℕ) (table′ : List Label) (image′ answer′ : List ℕ) (r : ℕ) : Type 0 where
+pub record AssemblePromise (names : List Name) (source : List ℕ) (table : List Label) (image : List ℕ) (table′ : List Label) (image′ answer′ : List ℕ) (r : ℕ) : Type 0 where
   -- 0 is returned exactly where nothing is refused,
-  pub zero : (r ≡ 0) ↔ Accepted present source (length table) (length image)
+  pub zero : (r ≡ 0) ↔ Accepted names source (length table) (length image)
   -- and otherwise one of assembling's numbers, 1 to 23.
   pub number : OneOf (0 ∷ assemblingNumbers) r
   -- Where it is not 0, the image buffer holds what it held before.
@@ -49,7 +49,7 @@ pub record ListPromise (image text text′ answer′ : List ℕ) (r : ℕ) : Typ
 
 -- This holds of every call, by the functions' contracts.
 pub record Promises : Type 0 where
-  pub assembling : (source : List ℕ) (table : List Label) (image : List ℕ) (table′ : List Label) (image′ answer′ : List ℕ) (r : ℕ)
-      → AssembleCall source table image table′ image′ answer′ r → AssemblePromise source table image table′ image′ answer′ r
+  pub assembling : (names : List Name) (source : List ℕ) (table : List Label) (image : List ℕ) (table′ : List Label) (image′ answer′ : List ℕ) (r : ℕ)
+      → AssembleCall names source table image table′ image′ answer′ r → AssemblePromise names source table image table′ image′ answer′ r
   pub opening : (image answer′ : List ℕ) (r : ℕ) → OpenCall image answer′ r → OpenPromise image answer′ r
   pub listing : (image text text′ answer′ : List ℕ) (r : ℕ) → ListCall image text text′ answer′ r → ListPromise image text text′ answer′ r

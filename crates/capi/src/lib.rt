@@ -1,6 +1,7 @@
 // The three operations for programs in C or Rust, which link this crate as a static library. Each returns the number of its refusal,
 // 0 where there is none, and writes the other values of its answer over a lent array.
 ghost use Rattle.image_assembler.specs.Contracts.{answerMeant};
+ghost use Rattle.text_lexical.specs.Names.{present};
 ghost use Rattle.capi.specs.Contracts.{Handed, AssembleCall, OpenCall, ListCall};
 use image::program::Opened;
 use image_assembler::assembler::Assembled;
@@ -53,7 +54,7 @@ pub extern "C" fn zkasm_assemble(
     image: &mut [u8],
     answer: &mut [u64; 8],
 ) -> u32
-    ensures { λ r. ⌜ AssembleCall (now (source .entry)) (now (table .entry)) (now (image .entry)) (now (table .exit)) (now (image .exit)) (now (answer .exit)) r ⌝ }
+    ensures { λ r. ⌜ AssembleCall present (now (source .entry)) (now (table .entry)) (now (image .entry)) (now (table .exit)) (now (image .exit)) (now (answer .exit)) r ⌝ }
 {
     let assembled = image_assembler::assembler::assemble(source, table, image);
     write_assembled(assembled, answer)

@@ -23,7 +23,7 @@ use Rattle.image.proofs.Listed.{AllDecoded, words-of-image, image-listed}
 use Rattle.image.proofs.Lengths.{listed-short}
 use Rattle.image.proofs.Walking.{MeansIf, reading-means}
 use Rattle.image.proofs.Fitting.{source-fits, fit-words, fit-decoded}
-use Rattle.guarantees.proofs.NameSets.{present-naming}
+use Rattle.text.proofs.NameSets.{present-naming}
 
 -- ---- an input has at most one line more than bytes, and a line at most one instruction
 

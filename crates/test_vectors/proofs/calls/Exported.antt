@@ -43,6 +43,7 @@ use denote.Triple.Walked.{needs, Stays, stay-dropped, gave-slice, gave-ref, walk
 use Rattle.walking.proofs.Calls.{Known, calls-to, asks-nothing}
 use Rattle.walking.proofs.Locals.{Locals, frees-all}
 use Rattle.walking.proofs.Numbers.{Numbers, cells}
+use Rattle.text_lexical.specs.Names.{present}
 use Rattle.image_labels.specs.declared.label.Label.{Label}
 use Rattle.image_labels.proofs.label.Label as L
 use Rattle.image_labels.proofs.label.Label.Laws as L′
@@ -208,7 +209,7 @@ module _ (on : Name) where
             calls-to ! (fmOf 𝓤 H (W .laws) 𝓣) export.ended (export.clauses 𝓤 H A at-mem run) exported (to-export l₅ ys ν δ) (vint w32) (uint-tells w32)
             (and-then ! (load ! (from ! (stop !)) (look ! 23 refl)) (and-then ! (load ! (from ! (stop !)) (look ! 8 refl)) (and-then ! (load ! (from ! (stop !)) (look ! 4 refl))
             (and-then ! (load ! (from ! (stop !)) (look ! 2 refl)) (no-more !))))) (λ n ws is.
-            heard ! (AssembleCall (src .now) (take k ys) (y .now) (ws .1 .0) (ws .1 .1 .0) (ws .1 .1 .1 .0) n) (λ _.
+            heard ! (AssembleCall present (src .now) (take k ys) (y .now) (ws .1 .0) (ws .1 .1 .0) (ws .1 .1 .1 .0) n) (λ _.
             let l : List Label = ws .1 .0 ++ behind k ys in
             fsplit ! $ drop ! $ fsplit ! $ move ! (1 ∷ []) $ fsplit ! $ move ! (1 ∷ []) $ fsplit ! $ move ! (1 ∷ []) $ drop ! $
             -- [the last answer; what is left of the image and of the table; the tokens; what is away; _12; …]

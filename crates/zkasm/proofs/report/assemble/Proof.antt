@@ -75,7 +75,7 @@ room : Room L.the-row table-room
 room = (lit< tt, lit< tt)
 
 -- with a table of 1,024
-with-table : {input old new : List ℕ} {table table′ : List Label} {r : Assembled} → length table ≡ table-room → Assembles input table old table′ new r → AssemblesInput input old new r
+with-table : {input old new : List ℕ} {table table′ : List Label} {r : Assembled} → length table ≡ table-room → Assembles present input table old table′ new r → AssemblesInput input old new r
 with-table {input} {old} {new} {r = r} e a = record {
   answer = subst (λ (n : ℕ). answerMeant r ≡ answerOf (assembling present input n (length old))) e (a .answer);
   image-holds = subst (λ (n : ℕ). new ≡ imageAfter present input (assembling present input n (length old)) old) e (a .image-holds);
