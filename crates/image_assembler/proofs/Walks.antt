@@ -16,8 +16,8 @@ use Rattle.text.specs.NameSets.{Naming}
 use Rattle.image.specs.Assembling.{isKnown, most-bytes}
 use Rattle.image.specs.Assembling.{Label as Meant}
 use Rattle.image.specs.Lent.{over}
-use Rattle.image_labels.specs.Contracts.{entryOf, InText, spelled, anyNamed, entryFault, enteredMeant, countBehind, Enters, Spelled}
-use Rattle.image_labels.specs.Tree.{unlinked, Bare, Tree, TreeBehind, Enterable}
+use Rattle.image_labels.specs.Contracts.{entryOf, InText, spelled, anyNamed, entryFault, enteredMeant, countAfter, Enters, Spelled}
+use Rattle.image_labels.specs.Tree.{unlinked, Bare, Tree, TreeAfter, Enterable}
 use Rattle.image_labels.proofs.Named.{spelled-long}
 use Rattle.image_labels.proofs.Finding.{unlinked-long}
 use Rattle.image_labels.specs.declared.label.Label.{Label}
@@ -68,7 +68,7 @@ module _ (s : List ℕ) (old table : List Label) (ls : List Meant) (e : table �
   table-more l h =
       rw (e, map-append entryOf ls (l ∷ []), ← length-map ls entryOf) (over-more (map entryOf ls) old (entryOf l) (rw (length-map ls entryOf) h))
 
-counted : (ls : List Meant) (l : Meant) (e : Entered) → length (withEntry e ls l) ≡ countBehind (length ls) e
+counted : (ls : List Meant) (l : Meant) (e : Entered) → length (withEntry e ls l) ≡ countAfter (length ls) e
 counted ls l New = length-append ls (l ∷ []) ∙ add-one (length ls)
 counted ls l Duplicate = refl
 counted ls l Full = refl
@@ -209,11 +209,11 @@ module _ {names : List Name} {s : List ℕ} {old table : List Label} {roots : Li
 
   -- It goes on.
   pub walking-on : {table′ : List Label} {roots′ : List ℕ} {e : Entered} {r : Next}
-      → Enters s (unlinked (p .labels) table) (p .labels) (p .label) (unlinked (countBehind (p .labels) e) table′) e
-      → TreeBehind s table roots (p .labels) (p .label) table′ roots′ e → GoesOn s p e r → Walking names s old table′ roots′ r
+      → Enters s (unlinked (p .labels) table) (p .labels) (p .label) (unlinked (countAfter (p .labels) e) table′) e
+      → TreeAfter s table roots (p .labels) (p .label) table′ roots′ e → GoesOn s p e r → Walking names s old table′ roots′ r
   walking-on {table′} {roots′} {e} {r} x t g =
       let on : Resumes names s (length old) (withEntry e (w .labels) (labelAt s p)) r = goes-stand g (length old) (w .labels) (w .stands) (fault-is (w .stands) (w .sound .in-text) (w .holds) x) in
-      let n : labelsBefore r ≡ countBehind (p .labels) e = counted-before names s (length old) _ r on ∙ counted (w .labels) (labelAt s p) e ∙ ap (λ (m : ℕ). countBehind m e) (sym (w .stands .count)) in
+      let n : labelsBefore r ≡ countAfter (p .labels) e = counted-before names s (length old) _ r on ∙ counted (w .labels) (labelAt s p) e ∙ ap (λ (m : ℕ). countAfter m e) (sym (w .stands .count)) in
       record {
         labels = withEntry e (w .labels) (labelAt s p);
         stands = on;
@@ -225,7 +225,7 @@ module _ {names : List Name} {s : List ℕ} {old table : List Label} {roots : Li
       kept : (roots′ ≡ roots) × (table′ ≡ table) → Tree s table′ roots′ (p .labels)
       kept t = subst (λ (r : List ℕ). Tree s table′ r (p .labels)) (sym (t .0)) (subst (λ (z : List Label). Tree s z roots (p .labels)) (sym (t .1)) (w .tree))
 
-      after : (k : Entered) → TreeBehind s table roots (p .labels) (p .label) table′ roots′ k → Tree s table′ roots′ (countBehind (p .labels) k)
+      after : (k : Entered) → TreeAfter s table roots (p .labels) (p .label) table′ roots′ k → Tree s table′ roots′ (countAfter (p .labels) k)
       after New t = t .1
       after Duplicate t = kept t
       after Full t = kept t

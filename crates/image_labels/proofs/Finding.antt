@@ -1,5 +1,5 @@
--- Looking for a spelling in the trees that the first entries of a table are, and entering a label into them. Nothing here depends on what a spelling's turns or its hash are.
---     Way            the way of a spelling to an entry.        Seeking        where a search stands
+-- Looking for a spelling in the trees that the first entries of a table are, and entering a label into them. Nothing here depends on what a spelling's path or its hash are.
+--     Branch            the branch of a spelling to an entry.        Seeking        where a search stands
 --     seek-begin, seek-visit, seek-end       how a search begins, goes on behind an entry, and what it comes to
 use Prim.Native.Nat.{ℕ, zero, suc, _+_, _-_, _/_, _%_, _≤_, _<_}
 use mathlib.Core.Path.{_≡_, refl, sym, ap, ap₂, subst, _∙_}
@@ -18,45 +18,45 @@ use Rattle.text_lexical.proofs.Tests.{by-test, no-both, both, and-both, split}
 use Rattle.text_lexical.proofs.Strings.{same-eq, eq-same}
 use Rattle.image_labels.specs.declared.label.Entered.the-variants.{New, Duplicate, Full}
 use Rattle.image_labels.specs.declared.label.Label.{Label}
-use Rattle.image_labels.specs.declared.tree.Turns.{Turns}
+use Rattle.image_labels.specs.declared.tree.PathBits.{PathBits}
 use Rattle.image_labels.specs.declared.tree.Search.{Search}
 use Rattle.image_labels.specs.declared.label.Gap.{Gap}
 use Rattle.image_labels.specs.declared.label.Found.{Found}
 use Rattle.image_labels.specs.declared.label.Found.the-variants.{At, Missing}
 use Rattle.image_labels.specs.Contracts.{InText, spelled, noLabel, anyNamed, indexOf, Enters}
-use Rattle.image_labels.specs.Tree.{plain, unlinked, held, link, raised, linked, hashOf, firstTurns, turned, wayOf, keyOf, entryFor, hits, slotOf, rootOf, plantedAt, planted, span, begunAt, begun, visited, gapOf, foundOf, Finds, here, there, Tree, TreeBehind, Enterable, joined, addressed, Gaps, Finding, Visitable}
-use Rattle.image_labels.proofs.Hashing.{slot-inside, parity, held-odd, raised-odd, held-even, raised-even, link-low, linked-low, link-high, linked-high, visited-hit, visited-last, visited-on}
-use Rattle.image_labels.proofs.Roots.{planted-long, planted-new, planted-kept, planted-rooted}
+use Rattle.image_labels.specs.Tree.{plain, unlinked, childNumber, link, childBits, linked, hashOf, firstPath, advanced, branchOf, keyOf, entryFor, hits, slotOf, rootOf, withRootAt, withRoot, span, begunAt, begun, visited, gapOf, foundOf, Finds, here, there, Tree, TreeAfter, Enterable, joined, addressed, Gaps, Finding, Visitable}
+use Rattle.image_labels.proofs.Hashing.{slot-inside, parity, child-number-odd, child-bits-odd, child-number-even, child-bits-even, link-low, linked-low, link-high, linked-high, visited-hit, visited-last, visited-on}
+use Rattle.image_labels.proofs.Roots.{with-root-long, with-root-new, with-root-kept, with-root-rooted}
 use Rattle.image_labels.proofs.Named.{spelled-long, index-at, index-none, index-names, any-index, enters-known, enters-new, enters-full}
 
 -- ---- entries
 
-none-held : (p b : ℕ) → p < 2097152 → held p b ≡ 0
-none-held p b h = parity b (λ v. omega (arith, held-odd p b v)) (λ v. omega (arith, held-even p b v))
+none-child-number : (p b : ℕ) → p < 2097152 → childNumber p b ≡ 0
+none-child-number p b h = parity b (λ v. omega (arith, child-number-odd p b v)) (λ v. omega (arith, child-number-even p b v))
 
--- An entry that leads to none by a way is to lead to another. By each way it leads where it led, or it led to none and leads to that other.
+-- An entry that leads to none by a branch is to lead to another. By each branch it leads where it led, or it led to none and leads to that other.
 abbrev Becomes : ℕ → ℕ → ℕ → Type 0
 Becomes to k k′ = (k′ ≡ k) ⊎ ((k ≡ 0) × (k′ ≡ to))
 
 module _ (p to : ℕ) (h : to < 2097152) where
-  low-kept : (b : ℕ) → (p + raised to b) % 2097152 ≡ p % 2097152
-  low-kept b = parity b (λ v. omega (arith, raised-odd to b v)) (λ v. omega (arith, raised-even to b v))
+  low-kept : (b : ℕ) → (p + childBits to b) % 2097152 ≡ p % 2097152
+  low-kept b = parity b (λ v. omega (arith, child-bits-odd to b v)) (λ v. omega (arith, child-bits-even to b v))
 
-  held-adds : (b : ℕ) → held p b ≡ 0 → held (p + raised to b) b ≡ to
-  held-adds b f =
+  child-number-adds : (b : ℕ) → childNumber p b ≡ 0 → childNumber (p + childBits to b) b ≡ to
+  child-number-adds b f =
       parity
       b
-      (λ v. omega (arith, raised-odd to b v, held-odd p b v, held-odd (p + raised to b) b v))
-      (λ v. omega (arith, raised-even to b v, held-even p b v, held-even (p + raised to b) b v))
+      (λ v. omega (arith, child-bits-odd to b v, child-number-odd p b v, child-number-odd (p + childBits to b) b v))
+      (λ v. omega (arith, child-bits-even to b v, child-number-even p b v, child-number-even (p + childBits to b) b v))
 
-  held-becomes : (b c : ℕ) → held p b ≡ 0 → Becomes to (held p c) (held (p + raised to b) c)
-  held-becomes b c f =
+  child-number-becomes : (b c : ℕ) → childNumber p b ≡ 0 → Becomes to (childNumber p c) (childNumber (p + childBits to b) c)
+  child-number-becomes b c f =
       parity
       b
-      (λ v. let r = raised-odd to b v in let g = held-odd p b v in
-      parity c (λ w. inr (omega (arith, held-odd p c w), omega (arith, held-odd (p + raised to b) c w))) (λ w. inl (omega (arith, held-even p c w, held-even (p + raised to b) c w))))
-      (λ v. let r = raised-even to b v in let g = held-even p b v in
-      parity c (λ w. inl (omega (arith, held-odd p c w, held-odd (p + raised to b) c w))) (λ w. inr (omega (arith, held-even p c w), omega (arith, held-even (p + raised to b) c w))))
+      (λ v. let r = child-bits-odd to b v in let g = child-number-odd p b v in
+      parity c (λ w. inr (omega (arith, child-number-odd p c w), omega (arith, child-number-odd (p + childBits to b) c w))) (λ w. inl (omega (arith, child-number-even p c w, child-number-even (p + childBits to b) c w))))
+      (λ v. let r = child-bits-even to b v in let g = child-number-even p b v in
+      parity c (λ w. inl (omega (arith, child-number-odd p c w, child-number-odd (p + childBits to b) c w))) (λ w. inr (omega (arith, child-number-even p c w), omega (arith, child-number-even (p + childBits to b) c w))))
 
 module _ (e : Label) (to : ℕ) (h : to < 2097152) where
   linked-adds : (b : ℕ) → link e b ≡ 0 → link (linked e b to) b ≡ to
@@ -64,18 +64,18 @@ module _ (e : Label) (to : ℕ) (h : to < 2097152) where
       split
       b
       2
-      (λ v. rw (linked-low, link-low) (held-adds (e .start) to h b (rw link-low at f)))
-      (λ v. rw (linked-high, link-high) (held-adds (e .address) to h b (rw link-high at f)))
+      (λ v. rw (linked-low, link-low) (child-number-adds (e .start) to h b (rw link-low at f)))
+      (λ v. rw (linked-high, link-high) (child-number-adds (e .address) to h b (rw link-high at f)))
 
   linked-becomes : (b c : ℕ) → link e b ≡ 0 → Becomes to (link e c) (link (linked e b to) c)
   linked-becomes b c f =
       split
       b
       2
-      (λ v. rw linked-low (split c 2 (λ w. rw (link-low, link-low) (held-becomes (e .start) to h b c (rw link-low at f))) (λ w. rw (link-high, link-high) (inl refl))))
-      (λ v. rw linked-high (split c 2 (λ w. rw (link-low, link-low) (inl refl)) (λ w. rw (link-high, link-high) (held-becomes (e .address) to h b c (rw link-high at f)))))
+      (λ v. rw linked-low (split c 2 (λ w. rw (link-low, link-low) (child-number-becomes (e .start) to h b c (rw link-low at f))) (λ w. rw (link-high, link-high) (inl refl))))
+      (λ v. rw linked-high (split c 2 (λ w. rw (link-low, link-low) (inl refl)) (λ w. rw (link-high, link-high) (child-number-becomes (e .address) to h b c (rw link-high at f)))))
 
-  -- What it led to by another way it leads to still,
+  -- What it led to by another branch it leads to still,
   linked-keeps : (b c : ℕ) → link e b ≡ 0 → (k : ℕ) → (k ≡ 0 → ⊥) → link e c ≡ k → link (linked e b to) c ≡ k
   linked-keeps b c f k n g = ⊎-elim (λ x. x ∙ g) (λ x. absurd (n (sym g ∙ x .0))) (linked-becomes b c f)
 
@@ -121,7 +121,7 @@ unlinked-more n t h = rw (add-one n) (go n t h)
     go zero (e ∷ t) h = refl
     go (suc n) (e ∷ t) h = ap (λ (l : List Label). plain e ∷ l) (go n t (omega arith))
 
--- ---- ways
+-- ---- branches
 
 -- The first entries of a table are what they were, and lead where they led.
 record Grown (t : List Label) (n : ℕ) (t′ : List Label) : Type 0 where
@@ -143,27 +143,27 @@ module _ (s : List ℕ) (u : List ℕ) where
   hit-is t i f g = and-both (eqb (getD t i noLabel .length) (keyOf u)) _ (eq-eqb _ _ f) (eq-same _ _ g)
 
   module _ (t : List Label) (root n : ℕ) where
-    -- The way of the spelling from its root to another entry, past entries that are not of it.
-    pub data Way : ℕ → Turns → Type 0 where
-      start : Way root (firstTurns u)
-      step : {i l : ℕ} {z : Turns} → Way (suc i) z → i < n → hit t i ≡ false → link (getD t i noLabel) (wayOf z) ≡ l → Way l (turned u z)
+    -- The branch of the spelling from its root to another entry, past entries that are not of it.
+    pub data Branch : ℕ → PathBits → Type 0 where
+      start : Branch root (firstPath u)
+      step : {i l : ℕ} {z : PathBits} → Branch (suc i) z → i < n → hit t i ≡ false → link (getD t i noLabel) (branchOf z) ≡ l → Branch l (advanced u z)
 
-    -- If the spelling is found, it is found from any entry of its way on.
-    past : {m : ℕ} {z : Turns} → Finds s t n u m z → (i l : ℕ) → m ≡ suc i → hit t i ≡ false → link (getD t i noLabel) (wayOf z) ≡ l → Finds s t n u l (turned u z)
+    -- If the spelling is found, it is found from any entry of its branch on.
+    past : {m : ℕ} {z : PathBits} → Finds s t n u m z → (i l : ℕ) → m ≡ suc i → hit t i ≡ false → link (getD t i noLabel) (branchOf z) ≡ l → Finds s t n u l (advanced u z)
     past (here {i = j} h y) i l e miss f = let k : j ≡ i = omega arith in no-both (rw k at y) miss
     past (there {i = j} {l = m} {z = z} h g x) i l e miss f =
         let k : j ≡ i = omega arith in
-        subst (λ (p : ℕ). Finds s t n u p (turned u z)) (sym g ∙ ap (λ (x : ℕ). link (getD t x noLabel) (wayOf z)) k ∙ f) x
+        subst (λ (p : ℕ). Finds s t n u p (advanced u z)) (sym g ∙ ap (λ (x : ℕ). link (getD t x noLabel) (branchOf z)) k ∙ f) x
 
-    way-finds : {l : ℕ} {z : Turns} → Way l z → Finds s t n u root (firstTurns u) → Finds s t n u l z
-    way-finds start x = x
-    way-finds (step {i = i} {l = l} w h miss f) x = past (way-finds w x) i l refl miss f
+    branch-finds : {l : ℕ} {z : PathBits} → Branch l z → Finds s t n u root (firstPath u) → Finds s t n u l z
+    branch-finds start x = x
+    branch-finds (step {i = i} {l = l} w h miss f) x = past (branch-finds w x) i l refl miss f
 
-    way-rooted : {l : ℕ} {z : Turns} → Way l z → (l ≡ 0 → ⊥) → root ≡ 0 → ⊥
-    way-rooted start h = h
-    way-rooted (step w h miss f) _ = way-rooted w (λ e. omega arith)
+    branch-rooted : {l : ℕ} {z : PathBits} → Branch l z → (l ≡ 0 → ⊥) → root ≡ 0 → ⊥
+    branch-rooted start h = h
+    branch-rooted (step w h miss f) _ = branch-rooted w (λ e. omega arith)
 
-    not-nowhere : {l : ℕ} {z : Turns} → Finds s t n u l z → l ≡ 0 → ⊥
+    not-nowhere : {l : ℕ} {z : PathBits} → Finds s t n u l z → l ≡ 0 → ⊥
     not-nowhere (here h y) e = omega arith
     not-nowhere (there h g x) e = omega arith
 
@@ -173,14 +173,14 @@ module _ (s : List ℕ) (u : List ℕ) where
       hit-grown i h =
           ap₂ (λ (k : ℕ) (p : Label). elim (eqb k (keyOf u)) [ true ↦ same (spelled s p) u | false ↦ false ]) (g .keys i h) (g .plains i h)
 
-      finds-grown : {l : ℕ} {z : Turns} → Finds s t n u l z → Finds s t′ (suc n) u l z
+      finds-grown : {l : ℕ} {z : PathBits} → Finds s t n u l z → Finds s t′ (suc n) u l z
       finds-grown (here {i = i} h y) = here {i = i} (omega arith) (hit-grown i h ∙ y)
-      finds-grown (there {i = i} {l = l} {z = z} h f x) = there {i = i} (omega arith) (g .links i h (wayOf z) l (not-nowhere x) f) (finds-grown x)
+      finds-grown (there {i = i} {l = l} {z = z} h f x) = there {i = i} (omega arith) (g .links i h (branchOf z) l (not-nowhere x) f) (finds-grown x)
 
-      -- What is found from an entry of the way on is found.
-      way-back : {l : ℕ} {z : Turns} → Way l z → (l ≡ 0 → ⊥) → Finds s t′ (suc n) u l z → Finds s t′ (suc n) u root (firstTurns u)
-      way-back start nz x = x
-      way-back (step {i = i} {l = l} {z = z} w h miss f) nz x = way-back w (λ e. omega arith) (there {i = i} (omega arith) (g .links i h (wayOf z) l nz f) x)
+      -- What is found from an entry of the branch on is found.
+      branch-back : {l : ℕ} {z : PathBits} → Branch l z → (l ≡ 0 → ⊥) → Finds s t′ (suc n) u l z → Finds s t′ (suc n) u root (firstPath u)
+      branch-back start nz x = x
+      branch-back (step {i = i} {l = l} {z = z} w h miss f) nz x = branch-back w (λ e. omega arith) (there {i = i} (omega arith) (g .links i h (branchOf z) l nz f) x)
 
 -- What is found is one thing or the other.
 missing? : Found → Bool
@@ -207,14 +207,14 @@ left n q = elim (q .more) [ true ↦ n - q .next | false ↦ 0 ]
 
 pub record AtEntry (s : List ℕ) (t : List Label) (roots : List ℕ) (n : ℕ) (l : Label) (q : Search) : Type 0 where
   pub inside : q .next < n
-  pub way : Way s (spelled s l) t (rootOf roots (spelled s l)) n (suc (q .next)) (q .turns)
+  pub branch : Branch s (spelled s l) t (rootOf roots (spelled s l)) n (suc (q .next)) (q .path)
 
 -- A search that has found nothing ends where there is no root, or behind an entry that leads nowhere.
 pub data Lost (s : List ℕ) (t : List Label) (roots : List ℕ) (n : ℕ) (l : Label) (q : Search) : Type 0 where
   none-there : rootOf roots (spelled s l) ≡ 0 → q .last ≡ n → q .parent ≡ entryFor (spelled s l) l → Lost s t roots n l q
-  behind : (z : Turns) → q .last < n → Way s (spelled s l) t (rootOf roots (spelled s l)) n (suc (q .last)) z
-      → hit s (spelled s l) t (q .last) ≡ false → link (getD t (q .last) noLabel) (wayOf z) ≡ 0
-      → q .parent ≡ linked (getD t (q .last) noLabel) (wayOf z) (n + 1) → Lost s t roots n l q
+  behind : (z : PathBits) → q .last < n → Branch s (spelled s l) t (rootOf roots (spelled s l)) n (suc (q .last)) z
+      → hit s (spelled s l) t (q .last) ≡ false → link (getD t (q .last) noLabel) (branchOf z) ≡ 0
+      → q .parent ≡ linked (getD t (q .last) noLabel) (branchOf z) (n + 1) → Lost s t roots n l q
 
 -- Where a search stands.
 pub record Seeking (s : List ℕ) (t : List Label) (roots : List ℕ) (n : ℕ) (l : Label) (q : Search) : Type 0 where
@@ -259,7 +259,7 @@ module _ (s : List ℕ) (t : List Label) (roots : List ℕ) (n : ℕ) (l : Label
         count-is = refl;
         at-entry = λ _. record {
           inside = tree .rooted (slotOf (hashOf u) (length roots)) i f;
-          way = subst (λ (m : ℕ). Way s u t root n m (firstTurns u)) f start;
+          branch = subst (λ (m : ℕ). Branch s u t root n m (firstPath u)) f start;
         };
         is-known = λ e. absurd (true≢false (sym e));
         is-lost = λ e _. absurd (true≢false e);
@@ -277,7 +277,7 @@ module _ (s : List ℕ) (t : List Label) (roots : List ℕ) (n : ℕ) (l : Label
       inside = k .at-entry more .inside
 
       pub seek-visitable : Visitable s q e
-      unfolding link held
+      unfolding link childNumber
       seek-visitable =
           record {
             label-in-text = subst (InText s) (sym (ap plain (k .entry-is) ∙ entry-plain)) (ok .in-text);
@@ -296,7 +296,7 @@ module _ (s : List ℕ) (t : List Label) (roots : List ℕ) (n : ℕ) (l : Label
       hit-here = ap₂ (λ (m : ℕ) (w : List ℕ). hits s e m w) (ap (λ (v : Label). v .length) (k .entry-is)) spelled-is
 
       pub seek-visit : Seeking s t roots n l (visited s q e)
-      seek-visit = by-test (hit s u t (q .next)) found (λ miss. passing miss (link e (wayOf (q .turns))) refl)
+      seek-visit = by-test (hit s u t (q .next)) found (λ miss. passing miss (link e (branchOf (q .path))) refl)
         where
           found : hit s u t (q .next) ≡ true → Seeking s t roots n l (visited s q e)
           found h = subst (Seeking s t roots n l) (sym (visited-hit s q e (hit-here ∙ h))) (record {
@@ -308,22 +308,22 @@ module _ (s : List ℕ) (t : List Label) (roots : List ℕ) (n : ℕ) (l : Label
             is-lost = λ _ f. absurd (true≢false f);
           })
 
-          passing : hit s u t (q .next) ≡ false → (m : ℕ) → link e (wayOf (q .turns)) ≡ m → Seeking s t roots n l (visited s q e)
+          passing : hit s u t (q .next) ≡ false → (m : ℕ) → link e (branchOf (q .path)) ≡ m → Seeking s t roots n l (visited s q e)
           passing miss zero f = subst (Seeking s t roots n l) (sym (visited-last s q e (hit-here ∙ miss) f)) (record {
             bucket-is = k .bucket-is;
             entry-is = k .entry-is;
             count-is = k .count-is;
             at-entry = λ g. absurd (true≢false (sym g));
             is-known = λ g. absurd (true≢false (sym g));
-            is-lost = λ _ _. behind (q .turns) inside (k .at-entry more .way) miss f (ap (λ (m : ℕ). linked e (wayOf (q .turns)) (m + 1)) (k .count-is));
+            is-lost = λ _ _. behind (q .path) inside (k .at-entry more .branch) miss f (ap (λ (m : ℕ). linked e (branchOf (q .path)) (m + 1)) (k .count-is));
           })
           passing miss (suc i) f = subst (Seeking s t roots n l) (sym (visited-on s q e (hit-here ∙ miss) i f)) (record {
             bucket-is = k .bucket-is;
             entry-is = k .entry-is;
             count-is = k .count-is;
             at-entry = λ _. record {
-              inside = tree .onward (q .next) inside (wayOf (q .turns)) i f .1;
-              way = subst (λ (w : List ℕ). Way s u t root n (suc i) (turned w (q .turns))) (sym spelled-is) (step (k .at-entry more .way) inside miss f);
+              inside = tree .onward (q .next) inside (branchOf (q .path)) i f .1;
+              branch = subst (λ (w : List ℕ). Branch s u t root n (suc i) (advanced w (q .path))) (sym spelled-is) (step (k .at-entry more .branch) inside miss f);
             };
             is-known = λ g. absurd (true≢false (sym g));
             is-lost = λ g _. absurd (true≢false g);
@@ -331,7 +331,7 @@ module _ (s : List ℕ) (t : List Label) (roots : List ℕ) (n : ℕ) (l : Label
 
       -- An entry less is left.
       pub seek-nearer : left n (visited s q e) < left n q
-      seek-nearer = by-test (hit s u t (q .next)) found (λ miss. passing miss (link e (wayOf (q .turns))) refl)
+      seek-nearer = by-test (hit s u t (q .next)) found (λ miss. passing miss (link e (branchOf (q .path))) refl)
         where
           now : left n q ≡ n - q .next
           now = rw more
@@ -339,10 +339,10 @@ module _ (s : List ℕ) (t : List Label) (roots : List ℕ) (n : ℕ) (l : Label
           found : hit s u t (q .next) ≡ true → left n (visited s q e) < left n q
           found h = rw (visited-hit s q e (hit-here ∙ h)) (omega (arith, now, inside))
 
-          passing : hit s u t (q .next) ≡ false → (m : ℕ) → link e (wayOf (q .turns)) ≡ m → left n (visited s q e) < left n q
+          passing : hit s u t (q .next) ≡ false → (m : ℕ) → link e (branchOf (q .path)) ≡ m → left n (visited s q e) < left n q
           passing miss zero f = rw (visited-last s q e (hit-here ∙ miss) f) (omega (arith, now, inside))
           passing miss (suc i) f =
-              let h = tree .onward (q .next) inside (wayOf (q .turns)) i f in
+              let h = tree .onward (q .next) inside (branchOf (q .path)) i f in
               rw (visited-on s q e (hit-here ∙ miss) i f) (omega (arith, now, inside, h .0, h .1))
 
     -- ---- what it comes to
@@ -360,13 +360,13 @@ module _ (s : List ℕ) (t : List Label) (roots : List ℕ) (n : ℕ) (l : Label
           index-at s u (take n (unlinked n t)) (q .next) (omega (arith, length-take n (unlinked n t), unlinked-long n t, tree .in-table, x .0)) (named-at (q .next) (x .0) ∙ e)
           (λ j d f. let less : j < n = omega (arith, x .0) in let same = tree .distinct j (q .next) less (x .0) (sym (named-at j less) ∙ f ∙ sym e) in omega arith)
 
-      not-found : Lost s t roots n l q → Finds s t n u root (firstTurns u) → ⊥
+      not-found : Lost s t roots n l q → Finds s t n u root (firstPath u) → ⊥
       not-found (none-there f g h) x = not-nowhere s u t root n x f
-      not-found (behind z inside w miss f g) x = not-nowhere s u t root n (past s u t root n (way-finds s u t root n w x) (q .last) 0 refl miss f) refl
+      not-found (behind z inside w miss f g) x = not-nowhere s u t root n (past s u t root n (branch-finds s u t root n w x) (q .last) 0 refl miss f) refl
 
       -- and if not, none is.
       none-there-yet : q .known ≡ false → (i : ℕ) → i < n → spelled s (plain (getD t i noLabel)) ≡ u → ⊥
-      none-there-yet y i less g = not-found (k .is-lost ended y) (subst (λ (w : List ℕ). Finds s t n w (rootOf roots w) (firstTurns w)) g (tree .found i less))
+      none-there-yet y i less g = not-found (k .is-lost ended y) (subst (λ (w : List ℕ). Finds s t n w (rootOf roots w) (firstPath w)) g (tree .found i less))
 
       index-missing : q .known ≡ false → indexOf s (take n (unlinked n t)) u ≡ none
       index-missing y = index-none s u (take n (unlinked n t)) (λ i h f. let less : i < n = omega (arith, length-take n (unlinked n t)) in none-there-yet y i less (sym (named-at i less) ∙ f))
@@ -377,7 +377,7 @@ module _ (s : List ℕ) (t : List Label) (roots : List ℕ) (n : ℕ) (l : Label
         t′ = joined t n (gapOf q)
 
         abbrev roots′ : List ℕ
-        roots′ = planted roots n u
+        roots′ = withRoot roots n u
 
         -- What is known of it in either case.
         record Joins : Type 0 where
@@ -385,7 +385,7 @@ module _ (s : List ℕ) (t : List Label) (roots : List ℕ) (n : ℕ) (l : Label
           grown : Grown t n t′
           onward : (i : ℕ) → i < n → (c j : ℕ) → link (getD t′ i noLabel) c ≡ suc j → (i < j) × (j < suc n)
           later : (i : ℕ) → n < i → getD t′ i noLabel ≡ getD t i noLabel
-          leads : Finds s t′ (suc n) u (rootOf roots′ u) (firstTurns u)
+          leads : Finds s t′ (suc n) u (rootOf roots′ u) (firstPath u)
 
         long : length t′ ≡ length t
         long = length-set (set t n (q .entry)) (q .last) (q .parent) ∙ length-set t n (q .entry)
@@ -393,7 +393,7 @@ module _ (s : List ℕ) (t : List Label) (roots : List ℕ) (n : ℕ) (l : Label
         entry-links : (c : ℕ) → link (entryFor u l) c ≡ 0
         unfolding entryFor
         entry-links c =
-            split c 2 (λ v. rw link-low (none-held (l .start) c (omega (arith, ok .in-text, ok .short)))) (λ v. rw link-high (none-held (l .address) c (ok .near)))
+            split c 2 (λ v. rw link-low (none-child-number (l .start) c (omega (arith, ok .in-text, ok .short)))) (λ v. rw link-high (none-child-number (l .address) c (ok .near)))
 
         hit-new : getD t′ n noLabel ≡ entryFor u l → hit s u t′ n ≡ true
         unfolding entryFor
@@ -414,7 +414,7 @@ module _ (s : List ℕ) (t : List Label) (roots : List ℕ) (n : ℕ) (l : Label
               grown = record { plains = λ i d. ap plain (same i d); keys = λ i d. ap (λ (v : Label). v .length) (same i d); links = λ i d c m _ x. ap (λ (v : Label). link v c) (same i d) ∙ x };
               onward = λ i d c j x. wider (tree .onward i d c j (ap (λ (v : Label). link v c) (sym (same i d)) ∙ x));
               later = later-is (omega arith);
-              leads = subst (λ (m : ℕ). Finds s t′ (suc n) u m (firstTurns u)) (sym (planted-new roots n u (tree .rootable .some) f ∙ add-one n)) (here {i = n} (omega arith) (hit-new e));
+              leads = subst (λ (m : ℕ). Finds s t′ (suc n) u m (firstPath u)) (sym (with-root-new roots n u (tree .rootable .some) f ∙ add-one n)) (here {i = n} (omega arith) (hit-new e));
             }
           where
             same : (i : ℕ) → i < n → getD t′ i noLabel ≡ getD t i noLabel
@@ -425,8 +425,8 @@ module _ (s : List ℕ) (t : List Label) (roots : List ℕ) (n : ℕ) (l : Label
               grown = more;
               onward = onwards;
               later = later-is (omega arith);
-              leads = subst (λ (m : ℕ). Finds s t′ (suc n) u m (firstTurns u)) (sym (planted-kept roots n u u (way-rooted s u t root n w (λ v. omega arith))))
-                  (way-back s u t root n more w (λ v. omega arith) (there {i = q .last} (omega arith) (at-last ∙ add-one n) (here {i = n} (omega arith) (hit-new e))));
+              leads = subst (λ (m : ℕ). Finds s t′ (suc n) u m (firstPath u)) (sym (with-root-kept roots n u u (branch-rooted s u t root n w (λ v. omega arith))))
+                  (branch-back s u t root n more w (λ v. omega arith) (there {i = q .last} (omega arith) (at-last ∙ add-one n) (here {i = n} (omega arith) (hit-new e))));
             }
           where
             p : Label
@@ -438,14 +438,14 @@ module _ (s : List ℕ) (t : List Label) (roots : List ℕ) (n : ℕ) (l : Label
             e : getD t′ n noLabel ≡ entryFor u l
             e = getD-set-other (set t n (q .entry)) (q .last) n (q .parent) noLabel (λ v. omega arith) ∙ getD-set-same t n (q .entry) noLabel room ∙ k .entry-is
 
-            parent : getD t′ (q .last) noLabel ≡ linked p (wayOf z) (n + 1)
+            parent : getD t′ (q .last) noLabel ≡ linked p (branchOf z) (n + 1)
             parent = getD-set-same (set t n (q .entry)) (q .last) (q .parent) noLabel (rw (length-set t n (q .entry)) (omega arith)) ∙ g
 
             other : (i : ℕ) → i < n → (i ≡ q .last → ⊥) → getD t′ i noLabel ≡ getD t i noLabel
             other i d v = getD-set-other (set t n (q .entry)) (q .last) i (q .parent) noLabel v ∙ getD-set-other t n i (q .entry) noLabel (λ x. omega arith)
 
-            at-last : link (getD t′ (q .last) noLabel) (wayOf z) ≡ n + 1
-            at-last = ap (λ (v : Label). link v (wayOf z)) parent ∙ linked-adds p (n + 1) small (wayOf z) f
+            at-last : link (getD t′ (q .last) noLabel) (branchOf z) ≡ n + 1
+            at-last = ap (λ (v : Label). link v (branchOf z)) parent ∙ linked-adds p (n + 1) small (branchOf z) f
 
             -- At the parent, or elsewhere.
             either : (X : ℕ → Type 0) → X (q .last) → ((i : ℕ) → (i ≡ q .last → ⊥) → X i) → (i : ℕ) → X i
@@ -454,18 +454,18 @@ module _ (s : List ℕ) (t : List Label) (roots : List ℕ) (n : ℕ) (l : Label
             more : Grown t n t′
             more = record {
               plains = either (λ i. i < n → plain (getD t′ i noLabel) ≡ plain (getD t i noLabel))
-                  (λ _. ap plain parent ∙ plain-linked p (n + 1) small (wayOf z)) (λ i v d. ap plain (other i d v));
+                  (λ _. ap plain parent ∙ plain-linked p (n + 1) small (branchOf z)) (λ i v d. ap plain (other i d v));
               keys = either (λ i. i < n → getD t′ i noLabel .length ≡ getD t i noLabel .length)
-                  (λ _. ap (λ (x : Label). x .length) parent ∙ key-linked p (n + 1) small (wayOf z)) (λ i v d. ap (λ (x : Label). x .length) (other i d v));
+                  (λ _. ap (λ (x : Label). x .length) parent ∙ key-linked p (n + 1) small (branchOf z)) (λ i v d. ap (λ (x : Label). x .length) (other i d v));
               links = either (λ i. i < n → (c m : ℕ) → (m ≡ 0 → ⊥) → link (getD t i noLabel) c ≡ m → link (getD t′ i noLabel) c ≡ m)
-                  (λ _ c m nz x. ap (λ (y : Label). link y c) parent ∙ linked-keeps p (n + 1) small (wayOf z) c f m nz x)
+                  (λ _ c m nz x. ap (λ (y : Label). link y c) parent ∙ linked-keeps p (n + 1) small (branchOf z) c f m nz x)
                   (λ i v d c m nz x. ap (λ (y : Label). link y c) (other i d v) ∙ x);
             }
 
             onwards : (i : ℕ) → i < n → (c j : ℕ) → link (getD t′ i noLabel) c ≡ suc j → (i < j) × (j < suc n)
             onwards = either (λ i. i < n → (c j : ℕ) → link (getD t′ i noLabel) c ≡ suc j → (i < j) × (j < suc n))
                 (λ d c j x. by-test (eqb (n + 1) (suc j)) (λ v. let w = eqb-true (n + 1) (suc j) v in (omega arith, omega arith))
-                (λ v. wider (tree .onward (q .last) d c j (linked-only p (n + 1) small (wayOf z) c f (suc j) (eqb-false (n + 1) (suc j) v) (ap (λ (y : Label). link y c) (sym parent) ∙ x)))))
+                (λ v. wider (tree .onward (q .last) d c j (linked-only p (n + 1) small (branchOf z) c f (suc j) (eqb-false (n + 1) (suc j) v) (ap (λ (y : Label). link y c) (sym parent) ∙ x)))))
                 (λ i v d c j x. wider (tree .onward i d c j (ap (λ (y : Label). link y c) (sym (other i d v)) ∙ x)))
 
         module _ (m : Joins) where
@@ -482,8 +482,8 @@ module _ (s : List ℕ) (t : List Label) (roots : List ℕ) (n : ℕ) (l : Label
             in-text = each (λ i. InText s (plain (getD t′ i noLabel))) (subst (InText s) (sym joined-plain) (ok .in-text)) (λ i d. subst (InText s) (sym (m .grown .plains i d)) (tree .in-text i d));
             onward = each (λ i. (c j : ℕ) → link (getD t′ i noLabel) c ≡ suc j → (i < j) × (j < suc n))
                 (λ c j x. absurd (let w = sym x ∙ ap (λ (y : Label). link y c) (m .new) ∙ entry-links c in omega arith)) (m .onward);
-            rootable = record { some = rw (planted-long roots n u) (tree .rootable .some); few = rw (planted-long roots n u) (tree .rootable .few) };
-            rooted = planted-rooted roots n u (tree .rootable .some) (tree .rooted);
+            rootable = record { some = rw (with-root-long roots n u) (tree .rootable .some); few = rw (with-root-long roots n u) (tree .rootable .few) };
+            rooted = with-root-rooted roots n u (tree .rootable .some) (tree .rooted);
             found = each (λ i. Leads (spelled s (plain (getD t′ i noLabel)))) (subst (λ (x : Label). Leads (spelled s x)) (sym joined-plain) (m .leads))
                 (λ i d. subst (λ (x : Label). Leads (spelled s x)) (sym (m .grown .plains i d)) (still (spelled s (plain (getD t i noLabel))) (tree .found i d)));
             distinct = λ i j h h′. each (λ i. spelled s (plain (getD t′ i noLabel)) ≡ spelled s (plain (getD t′ j noLabel)) → i ≡ j)
@@ -499,10 +499,10 @@ module _ (s : List ℕ) (t : List Label) (roots : List ℕ) (n : ℕ) (l : Label
               old i d = ap (spelled s) (m .grown .plains i d)
 
               Leads : List ℕ → Type 0
-              Leads w = Finds s t′ (suc n) w (rootOf roots′ w) (firstTurns w)
+              Leads w = Finds s t′ (suc n) w (rootOf roots′ w) (firstPath w)
 
-              still : (w : List ℕ) → Finds s t n w (rootOf roots w) (firstTurns w) → Leads w
-              still w x = subst (λ (m : ℕ). Finds s t′ (suc n) w m (firstTurns w)) (sym (planted-kept roots n u w (not-nowhere s w t (rootOf roots w) n x))) (finds-grown s w t (rootOf roots w) n (m .grown) x)
+              still : (w : List ℕ) → Finds s t n w (rootOf roots w) (firstPath w) → Leads w
+              still w x = subst (λ (m : ℕ). Finds s t′ (suc n) w m (firstPath w)) (sym (with-root-kept roots n u w (not-nowhere s w t (rootOf roots w) n x))) (finds-grown s w t (rootOf roots w) n (m .grown) x)
 
           holds : unlinked (suc n) t′ ≡ set (unlinked n t) n l
           holds = ext-getD noLabel (unlinked (suc n) t′) (set (unlinked n t) n l) (unlinked-long (suc n) t′ ∙ long ∙ sym (length-set (unlinked n t) n l ∙ unlinked-long n t)) (λ i h. at i)
@@ -535,7 +535,7 @@ module _ (s : List ℕ) (t : List Label) (roots : List ℕ) (n start long a : �
   abbrev moved : Search
   moved =
       let g : Gap = addressed (gapOf q) n a in
-      record { bucket = q .bucket; more = q .more; known = q .known; next = q .next; turns = q .turns; count = q .count; entry = g .entry; last = q .last; parent = g .parent }
+      record { bucket = q .bucket; more = q .more; known = q .known; next = q .next; path = q .path; count = q .count; entry = g .entry; last = q .last; parent = g .parent }
 
   seeking-moved : Seeking s t roots n (span start long) q → Seeking s t roots n labelled moved
   unfolding addressed entryFor
@@ -544,7 +544,7 @@ module _ (s : List ℕ) (t : List Label) (roots : List ℕ) (n start long a : �
         bucket-is = k .bucket-is;
         entry-is = entry-same;
         count-is = k .count-is;
-        at-entry = λ more. record { inside = k .at-entry more .inside; way = k .at-entry more .way };
+        at-entry = λ more. record { inside = k .at-entry more .inside; branch = k .at-entry more .branch };
         is-known = k .is-known;
         is-lost = λ more known. lost (k .is-lost more known);
       }
@@ -599,12 +599,12 @@ module _ {s : List ℕ} {t : List Label} {roots : List ℕ} {n : ℕ} {l : Label
     unfolding isSome
     unnamed = any-index s (spelled s l) (take n (unlinked n t)) ∙ ap isSome (sym (x .index-is))
 
-    -- What `plant` asks for, and what it leaves.
+    -- What `set-root` asks for, and what it leaves.
     pub bucket-inside : 0 < length roots → g .bucket < length roots
     bucket-inside h = rw (gaps .bucket-is) (slot-inside (hashOf (spelled s l)) (length roots) h)
 
-    pub planted-there : {roots′ : List ℕ} → roots′ ≡ plantedAt roots n (g .bucket) → roots′ ≡ planted roots n (spelled s l)
-    planted-there e = e ∙ ap (plantedAt roots n) (gaps .bucket-is)
+    pub with-root-there : {roots′ : List ℕ} → roots′ ≡ withRootAt roots n (g .bucket) → roots′ ≡ withRoot roots n (spelled s l)
+    with-root-there e = e ∙ ap (withRootAt roots n) (gaps .bucket-is)
 
     module _ {t₁ : List Label} (f : t₁ ≡ set t n (g .entry)) where
       module _ (h : ltb n (length t) ≡ false) where
@@ -627,7 +627,7 @@ module _ {s : List ℕ} {t : List Label} {roots : List ℕ} {n : ℕ} {l : Label
         enter-new =
             enters-new s (unlinked n t) n l unnamed (unlinked (suc n) t₂) (ap (unlinked (suc n)) joined-is ∙ gaps .holds (ltb-true n (length t) h)) (rw (unlinked-long n t) h)
 
-        pub new-tree : {roots′ : List ℕ} → roots′ ≡ plantedAt roots n (g .bucket) → TreeBehind s t roots n l t₂ roots′ New
+        pub new-tree : {roots′ : List ℕ} → roots′ ≡ withRootAt roots n (g .bucket) → TreeAfter s t roots n l t₂ roots′ New
         new-tree {roots′} p =
-            let q = planted-there p in
-            (q, subst (λ (r : List ℕ). Tree s t₂ r (suc n)) (sym q) (subst (λ (z : List Label). Tree s z (planted roots n (spelled s l)) (suc n)) (sym joined-is) (gaps .tree (ltb-true n (length t) h))))
+            let q = with-root-there p in
+            (q, subst (λ (r : List ℕ). Tree s t₂ r (suc n)) (sym q) (subst (λ (z : List Label). Tree s z (withRoot roots n (spelled s l)) (suc n)) (sym joined-is) (gaps .tree (ltb-true n (length t) h))))

@@ -1,4 +1,4 @@
--- The ways of an entry, a spelling's hash and its turns, and what a search behind an entry is.
+-- The branches of an entry, a spelling's hash and its path, and what a search behind an entry is.
 use Prim.Native.Nat.{ℕ, zero, suc, _+_, _-_, _*_, _/_, _%_, _≤_, _<_}
 use mathlib.Core.Path.{_≡_}
 use native.Mathlib.Omega.{arith}
@@ -14,56 +14,56 @@ use Rattle.text_lexical.specs.Bytes.{same}
 use Rattle.text_lexical.proofs.Tests.{by-test, split}
 use Rattle.image_labels.specs.declared.label.Label.{Label}
 use Rattle.image_labels.specs.declared.tree.Digest.{Digest}
-use Rattle.image_labels.specs.declared.tree.Turns.{Turns}
+use Rattle.image_labels.specs.declared.tree.PathBits.{PathBits}
 use Rattle.image_labels.specs.declared.tree.Search.{Search}
 use Rattle.image_labels.specs.Contracts.{InText, spelled}
-use Rattle.image_labels.specs.Tree.{plain, held, link, raised, linked, mixed, threeAt, hashFrom, noHash, hashOf, slotOf, turned, wayOf, hits, endedAt, passed, visited}
+use Rattle.image_labels.specs.Tree.{plain, childNumber, link, childBits, linked, mixed, threeAt, hashFrom, noHash, hashOf, slotOf, advanced, branchOf, hits, endedAt, passed, visited}
 use Rattle.image_labels.proofs.Named.{part-is, spelled-long}
 
--- ---- the ways
+-- ---- the branches
 
--- A way is odd, or not.
+-- A branch is odd, or not.
 pub parity {ℓ} : {X : Type ℓ} (b : ℕ) → (b % 2 ≡ 1 → X) → ((b % 2 ≡ 1 → ⊥) → X) → X
 parity b f g = by-test (eqb (b % 2) 1) (λ v. f (eqb-true (b % 2) 1 v)) (λ v. g (eqb-false (b % 2) 1 v))
 
 module _ (n b : ℕ) where
   module _ (odd : b % 2 ≡ 1) where
-    pub held-odd : held n b ≡ n / 4398046511104
-    unfolding held
-    held-odd = rw (held, eq-eqb (b % 2) 1 odd)
+    pub child-number-odd : childNumber n b ≡ n / 4398046511104
+    unfolding childNumber
+    child-number-odd = rw (childNumber, eq-eqb (b % 2) 1 odd)
 
-    pub raised-odd : raised n b ≡ 4398046511104 * n
-    unfolding raised
-    raised-odd = rw (raised, eq-eqb (b % 2) 1 odd)
+    pub child-bits-odd : childBits n b ≡ 4398046511104 * n
+    unfolding childBits
+    child-bits-odd = rw (childBits, eq-eqb (b % 2) 1 odd)
 
   module _ (even : b % 2 ≡ 1 → ⊥) where
-    pub held-even : held n b ≡ n / 2097152 % 2097152
-    unfolding held
-    held-even = rw (held, ne-eqb (b % 2) 1 even)
+    pub child-number-even : childNumber n b ≡ n / 2097152 % 2097152
+    unfolding childNumber
+    child-number-even = rw (childNumber, ne-eqb (b % 2) 1 even)
 
-    pub raised-even : raised n b ≡ 2097152 * n
-    unfolding raised
-    raised-even = rw (raised, ne-eqb (b % 2) 1 even)
+    pub child-bits-even : childBits n b ≡ 2097152 * n
+    unfolding childBits
+    child-bits-even = rw (childBits, ne-eqb (b % 2) 1 even)
 
-  pub raised-fits : raised n b ≤ 4398046511104 * n
-  raised-fits = parity b (λ v. omega (arith, raised-odd v)) (λ v. omega (arith, raised-even v))
+  pub child-bits-fits : childBits n b ≤ 4398046511104 * n
+  child-bits-fits = parity b (λ v. omega (arith, child-bits-odd v)) (λ v. omega (arith, child-bits-even v))
 
 module _ (e : Label) (b : ℕ) where
   module _ (low : b < 2) where
-    pub link-low : link e b ≡ held (e .start) b
+    pub link-low : link e b ≡ childNumber (e .start) b
     unfolding link
     link-low = rw (link, lt-ltb b 2 low)
 
-    pub linked-low : (to : ℕ) → linked e b to ≡ record { start = e .start + raised to b; length = e .length; address = e .address }
+    pub linked-low : (to : ℕ) → linked e b to ≡ record { start = e .start + childBits to b; length = e .length; address = e .address }
     unfolding linked
     linked-low to = rw (linked, lt-ltb b 2 low)
 
   module _ (high : 2 ≤ b) where
-    pub link-high : link e b ≡ held (e .address) b
+    pub link-high : link e b ≡ childNumber (e .address) b
     unfolding link
     link-high = rw (link, le-ltb b 2 high)
 
-    pub linked-high : (to : ℕ) → linked e b to ≡ record { start = e .start; length = e .length; address = e .address + raised to b }
+    pub linked-high : (to : ℕ) → linked e b to ≡ record { start = e .start; length = e .length; address = e .address + childBits to b }
     unfolding linked
     linked-high to = rw (linked, le-ltb b 2 high)
 
@@ -113,26 +113,26 @@ module _ (s : List ℕ) (h : Digest) where
   unfolding hashOf
   hash-all l = rw (part-is s (l .start) (l .length))
 
--- ---- the turns
+-- ---- the path
 
-module _ (s : List ℕ) (l : Label) (t : Turns) (in-text : InText s l) where
-  pub turned-more : 1 < t .bits / 4 → turned (spelled s l) t ≡ record { bits = t .bits / 4; rest = t .rest; used = t .used }
-  unfolding turned
-  turned-more f = rw (turned, lt-ltb 1 (t .bits / 4) f)
+module _ (s : List ℕ) (l : Label) (t : PathBits) (in-text : InText s l) where
+  pub advanced-more : 1 < t .bits / 4 → advanced (spelled s l) t ≡ record { bits = t .bits / 4; rest = t .rest; used = t .used }
+  unfolding advanced
+  advanced-more f = rw (advanced, lt-ltb 1 (t .bits / 4) f)
 
   module _ (f : t .bits / 4 ≤ 1) where
-    pub turned-rest : 0 < t .rest → turned (spelled s l) t ≡ record { bits = t .rest; rest = 0; used = t .used }
-    unfolding turned
-    turned-rest g = rw (turned, le-ltb 1 (t .bits / 4) f, lt-ltb 0 (t .rest) g)
+    pub advanced-rest : 0 < t .rest → advanced (spelled s l) t ≡ record { bits = t .rest; rest = 0; used = t .used }
+    unfolding advanced
+    advanced-rest g = rw (advanced, le-ltb 1 (t .bits / 4) f, lt-ltb 0 (t .rest) g)
 
-    pub turned-spent : t .rest ≤ 0 → l .length ≤ t .used → turned (spelled s l) t ≡ record { bits = 256; rest = 0; used = t .used }
-    unfolding turned
-    turned-spent g h = rw (turned, le-ltb 1 (t .bits / 4) f, le-ltb 0 (t .rest) g, spelled-long s l in-text, le-leb (l .length) (t .used) h)
+    pub advanced-spent : t .rest ≤ 0 → l .length ≤ t .used → advanced (spelled s l) t ≡ record { bits = 256; rest = 0; used = t .used }
+    unfolding advanced
+    advanced-spent g h = rw (advanced, le-ltb 1 (t .bits / 4) f, le-ltb 0 (t .rest) g, spelled-long s l in-text, le-leb (l .length) (t .used) h)
 
-    pub turned-byte : t .rest ≤ 0 → t .used < l .length → turned (spelled s l) t ≡ record { bits = 256 + getD s (l .start + t .used) 0; rest = 0; used = t .used + 1 }
-    unfolding turned
-    turned-byte g h =
-        rw (turned, le-ltb 1 (t .bits / 4) f, le-ltb 0 (t .rest) g, spelled-long s l in-text, lt-leb (l .length) (t .used) h, getD-take (l .length) (drop (l .start) s) (t .used) 0 h, getD-drop (l .start) s (t .used) 0)
+    pub advanced-byte : t .rest ≤ 0 → t .used < l .length → advanced (spelled s l) t ≡ record { bits = 256 + getD s (l .start + t .used) 0; rest = 0; used = t .used + 1 }
+    unfolding advanced
+    advanced-byte g h =
+        rw (advanced, le-ltb 1 (t .bits / 4) f, le-ltb 0 (t .rest) g, spelled-long s l in-text, lt-leb (l .length) (t .used) h, getD-take (l .length) (drop (l .start) s) (t .used) 0 h, getD-drop (l .start) s (t .used) 0)
 
 -- ---- behind an entry
 
@@ -144,11 +144,11 @@ module _ (s : List ℕ) (q : Search) (e : Label) where
   unfolding visited
   visited-hit h = rw (visited, h)
 
-  pub visited-last : is-hit ≡ false → link e (wayOf (q .turns)) ≡ 0 → visited s q e ≡ endedAt q false (linked e (wayOf (q .turns)) (q .count + 1))
+  pub visited-last : is-hit ≡ false → link e (branchOf (q .path)) ≡ 0 → visited s q e ≡ endedAt q false (linked e (branchOf (q .path)) (q .count + 1))
   unfolding visited
   visited-last h f = rw (visited, h, f)
 
-  pub visited-on : is-hit ≡ false → (i : ℕ) → link e (wayOf (q .turns)) ≡ suc i → visited s q e ≡ passed s q e (suc i)
+  pub visited-on : is-hit ≡ false → (i : ℕ) → link e (branchOf (q .path)) ≡ suc i → visited s q e ≡ passed s q e (suc i)
   unfolding visited
   visited-on h i f = rw (visited, h, f)
 

@@ -48,13 +48,13 @@ enteredMeant Duplicate = some 4
 enteredMeant Full = some 5
 
 -- How many labels there are after an attempt to enter one.
-abbrev pub countBehind : ℕ → Entered → ℕ
-countBehind count New = suc count
-countBehind count Duplicate = count
-countBehind count Full = count
+abbrev pub countAfter : ℕ → Entered → ℕ
+countAfter count New = suc count
+countAfter count Duplicate = count
+countAfter count Full = count
 
--- Entering a label behind `count` others of a table: the answer, and the table afterwards. (`set` leaves a list as it is at a place
--- behind its end.)
+-- Entering a label after `count` others of a table: the answer, and the table afterwards. (`set` leaves a list as it is at a place
+-- after its end.)
 pub record Enters (s : List ℕ) (table : List Label) (count : ℕ) (l : Label) (table′ : List Label) (r : Entered) : Type 0 where
   pub answer : enteredMeant r ≡ entryFault (anyNamed s (take count table) (spelled s l)) (ltb count (length table))
   pub holds : table′ ≡ elim (anyNamed s (take count table) (spelled s l)) [ true ↦ table | false ↦ set table count l ]

@@ -1,6 +1,6 @@
--- While labels are entered, their entries are the nodes of trees, in which a spelling is looked for from the root of its tree on. Document
--- 01 knows nothing of them: which root and which way a spelling takes and how it is hashed could be otherwise, and what is found does not
--- depend on it.
+-- While labels are entered, their entries are the nodes of 4-way tries, in which a spelling is looked for from the root of its hash bucket
+-- on. These definitions follow the code; document 01 knows nothing of them: which bucket and which branches a spelling takes and how it is
+-- hashed could be otherwise, and what is found does not depend on it.
 use Prim.Native.Nat.{ℕ, zero, suc, _+_, _*_, _/_, _%_, _≤_, _<_}
 use mathlib.Core.Path.{_≡_}
 use mathlib.Core.Bool.{Bool, true, false}
@@ -17,7 +17,7 @@ use Rattle.image_labels.specs.declared.label.Gap.{Gap}
 use Rattle.image_labels.specs.declared.label.Found.{Found}
 use Rattle.image_labels.specs.declared.label.Found.the-variants.{At, Missing}
 use Rattle.image_labels.specs.declared.tree.Digest.{Digest}
-use Rattle.image_labels.specs.declared.tree.Turns.{Turns}
+use Rattle.image_labels.specs.declared.tree.PathBits.{PathBits}
 use Rattle.image_labels.specs.declared.tree.Search.{Search}
 
 -- ---- entries
@@ -32,22 +32,22 @@ unlinked zero t = t
 unlinked (suc n) [] = []
 unlinked (suc n) (e ∷ t) = plain e ∷ unlinked n t
 
--- One of the two numbers that are held above a part of an entry: the upper one for an odd way.
-unfoldable pub held : ℕ → ℕ → ℕ
-held part way = elim (eqb (way % 2) 1) [ true ↦ part / 4398046511104 | false ↦ part / 2097152 % 2097152 ]
+-- One of the two child numbers that are packed above a part of an entry: the upper one for an odd branch.
+unfoldable pub childNumber : ℕ → ℕ → ℕ
+childNumber part branch = elim (eqb (branch % 2) 1) [ true ↦ part / 4398046511104 | false ↦ part / 2097152 % 2097152 ]
 
--- Where an entry leads to by a way, 0 to 3: to none (0), or to the entry before that number.
+-- The child of an entry at a branch, 0 to 3: none (0), or the entry before that number.
 unfoldable pub link : Label → ℕ → ℕ
-link e way = elim (ltb way 2) [ true ↦ held (e .start) way | false ↦ held (e .address) way ]
+link e branch = elim (ltb branch 2) [ true ↦ childNumber (e .start) branch | false ↦ childNumber (e .address) branch ]
 
-unfoldable pub raised : ℕ → ℕ → ℕ
-raised to way = elim (eqb (way % 2) 1) [ true ↦ 4398046511104 * to | false ↦ 2097152 * to ]
+unfoldable pub childBits : ℕ → ℕ → ℕ
+childBits to branch = elim (eqb (branch % 2) 1) [ true ↦ 4398046511104 * to | false ↦ 2097152 * to ]
 
 unfoldable pub linked : Label → ℕ → ℕ → Label
-linked e way to =
-    elim (ltb way 2) [
-      | true ↦ record { start = e .start + raised to way; length = e .length; address = e .address }
-      | false ↦ record { start = e .start; length = e .length; address = e .address + raised to way }
+linked e branch to =
+    elim (ltb branch 2) [
+      | true ↦ record { start = e .start + childBits to branch; length = e .length; address = e .address }
+      | false ↦ record { start = e .start; length = e .length; address = e .address + childBits to branch }
     ]
 
 -- ---- spellings
@@ -76,13 +76,13 @@ noHash = record { first = 11400714819323198485; second = 13787848793156543929 }
 unfoldable pub hashOf : List ℕ → Digest
 hashOf u = mixed (hashFrom noHash u) 0
 
--- The turns of a spelling, two bits each: those of its hash, then those of its bytes, the lowest first. A 1 stands behind the last.
-unfoldable pub firstTurns : List ℕ → Turns
-firstTurns u =
+-- The path bits of a spelling, two for each branch: those of its hash, then those of its bytes, the lowest first. A 1 stands after the last.
+unfoldable pub firstPath : List ℕ → PathBits
+firstPath u =
     record { bits = 4611686018427387904 + hashOf u .first % 4611686018427387904; rest = 4611686018427387904 + hashOf u .second % 4611686018427387904; used = 0 }
 
-unfoldable pub turned : List ℕ → Turns → Turns
-turned u t =
+unfoldable pub advanced : List ℕ → PathBits → PathBits
+advanced u t =
     elim (ltb 1 (t .bits / 4)) [
       | true ↦ record { bits = t .bits / 4; rest = t .rest; used = t .used }
       | false ↦ elim (ltb 0 (t .rest)) [
@@ -94,9 +94,9 @@ turned u t =
       ]
     ]
 
--- The way of the next turn.
-unfoldable pub wayOf : Turns → ℕ
-wayOf t = t .bits % 4
+-- The next branch.
+unfoldable pub branchOf : PathBits → ℕ
+branchOf t = t .bits % 4
 
 -- What an entry of a spelling holds for its length.
 unfoldable pub keyOf : List ℕ → ℕ
@@ -117,12 +117,12 @@ slotOf h k = h .first % 4294967296 * k / 4294967296
 abbrev pub rootOf : List ℕ → List ℕ → ℕ
 rootOf roots u = getD roots (slotOf (hashOf u) (length roots)) 0
 
--- Roots once a label is entered behind n others into a bucket: it is the root where there was none.
-unfoldable pub plantedAt : List ℕ → ℕ → ℕ → List ℕ
-plantedAt roots n slot = elim (eqb (getD roots slot 0) 0) [ true ↦ set roots slot (n + 1) | false ↦ roots ]
+-- Roots once a label is entered after n others into a bucket: it is the root where there was none.
+unfoldable pub withRootAt : List ℕ → ℕ → ℕ → List ℕ
+withRootAt roots n slot = elim (eqb (getD roots slot 0) 0) [ true ↦ set roots slot (n + 1) | false ↦ roots ]
 
-abbrev pub planted : List ℕ → ℕ → List ℕ → List ℕ
-planted roots n u = plantedAt roots n (slotOf (hashOf u) (length roots))
+abbrev pub withRoot : List ℕ → ℕ → List ℕ → List ℕ
+withRoot roots n u = withRootAt roots n (slotOf (hashOf u) (length roots))
 
 -- None of them leads to an entry as yet.
 pub record Bare (roots : List ℕ) : Type 0 where
@@ -143,31 +143,31 @@ entryFor u l = record { start = l .start; length = keyOf u; address = l .address
 unfoldable pub hits : List ℕ → Label → ℕ → List ℕ → Bool
 hits s e key u = elim (eqb (e .length) key) [ true ↦ same (spelled s (plain e)) u | false ↦ false ]
 
--- The search for a label behind `count` others, from its root on,
-abbrev pub startedAt : ℕ → Bool → ℕ → Turns → ℕ → Label → Search
-startedAt bucket more next turns count e = record { bucket = bucket; more = more; known = false; next = next; turns = turns; count = count; entry = e; last = count; parent = e }
+-- The search for a label after `count` others, from its root on,
+abbrev pub startedAt : ℕ → Bool → ℕ → PathBits → ℕ → Label → Search
+startedAt bucket more next path count e = record { bucket = bucket; more = more; known = false; next = next; path = path; count = count; entry = e; last = count; parent = e }
 
 abbrev pub begunAt : ℕ → List ℕ → ℕ → Label → ℕ → Search
-begunAt slot s count l zero = startedAt slot false 0 (firstTurns (spelled s l)) count (entryFor (spelled s l) l)
-begunAt slot s count l (suc i) = startedAt slot true i (firstTurns (spelled s l)) count (entryFor (spelled s l) l)
+begunAt slot s count l zero = startedAt slot false 0 (firstPath (spelled s l)) count (entryFor (spelled s l) l)
+begunAt slot s count l (suc i) = startedAt slot true i (firstPath (spelled s l)) count (entryFor (spelled s l) l)
 
 abbrev pub begun : List ℕ → List ℕ → ℕ → Label → Search
 begun s roots count l = begunAt (slotOf (hashOf (spelled s l)) (length roots)) s count l (rootOf roots (spelled s l))
 
--- and behind an entry that it has come to: it has ended, or goes on.
+-- and after an entry that it has come to: it has ended, or goes on.
 abbrev pub endedAt : Search → Bool → Label → Search
 endedAt q known e =
-    record { bucket = q .bucket; more = false; known = known; next = q .next; turns = q .turns; count = q .count; entry = q .entry; last = q .next; parent = e }
+    record { bucket = q .bucket; more = false; known = known; next = q .next; path = q .path; count = q .count; entry = q .entry; last = q .next; parent = e }
 
 abbrev pub passed : List ℕ → Search → Label → ℕ → Search
-passed s q e zero = endedAt q false (linked e (wayOf (q .turns)) (q .count + 1))
+passed s q e zero = endedAt q false (linked e (branchOf (q .path)) (q .count + 1))
 passed s q e (suc i) =
     record {
       bucket = q .bucket;
       more = true;
       known = false;
       next = i;
-      turns = turned (spelled s (plain (q .entry))) (q .turns);
+      path = advanced (spelled s (plain (q .entry))) (q .path);
       count = q .count;
       entry = q .entry;
       last = q .next;
@@ -175,7 +175,7 @@ passed s q e (suc i) =
     }
 
 unfoldable pub visited : List ℕ → Search → Label → Search
-visited s q e = elim (hits s e (q .entry .length) (spelled s (plain (q .entry)))) [ true ↦ endedAt q true e | false ↦ passed s q e (link e (wayOf (q .turns))) ]
+visited s q e = elim (hits s e (q .entry .length) (spelled s (plain (q .entry)))) [ true ↦ endedAt q true e | false ↦ passed s q e (link e (branchOf (q .path))) ]
 
 -- What a search that has ended comes to.
 abbrev pub gapOf : Search → Gap
@@ -186,38 +186,38 @@ foundOf q = elim (q .known) [ true ↦ At (q .next) | false ↦ Missing (gapOf q
 
 -- ---- trees
 
--- A spelling is found among the first n entries of a table, from the entry before a number on, with the turns left.
-pub data Finds (s : List ℕ) (t : List Label) (n : ℕ) (u : List ℕ) : ℕ → Turns → Type 0 where
-  here : {i : ℕ} {z : Turns} → i < n → hits s (getD t i noLabel) (keyOf u) u ≡ true → Finds s t n u (suc i) z
-  there : {i l : ℕ} {z : Turns} → i < n → link (getD t i noLabel) (wayOf z) ≡ l → Finds s t n u l (turned u z) → Finds s t n u (suc i) z
+-- A spelling is found among the first n entries of a table, from the entry before a number on, with the path bits left.
+pub data Finds (s : List ℕ) (t : List Label) (n : ℕ) (u : List ℕ) : ℕ → PathBits → Type 0 where
+  here : {i : ℕ} {z : PathBits} → i < n → hits s (getD t i noLabel) (keyOf u) u ≡ true → Finds s t n u (suc i) z
+  there : {i l : ℕ} {z : PathBits} → i < n → link (getD t i noLabel) (branchOf z) ≡ l → Finds s t n u l (advanced u z) → Finds s t n u (suc i) z
 
 -- The first n entries of a table are trees: each is a part of the source, leads to later ones only, and is found by its spelling, which no
 -- other has.
 pub record Tree (s : List ℕ) (t : List Label) (roots : List ℕ) (n : ℕ) : Type 0 where
   pub in-table : n ≤ length t
   pub in-text : (i : ℕ) → i < n → InText s (plain (getD t i noLabel))
-  pub onward : (i : ℕ) → i < n → (way j : ℕ) → link (getD t i noLabel) way ≡ suc j → (i < j) × (j < n)
+  pub onward : (i : ℕ) → i < n → (branch j : ℕ) → link (getD t i noLabel) branch ≡ suc j → (i < j) × (j < n)
   pub rootable : Rootable roots
   pub rooted : (slot j : ℕ) → getD roots slot 0 ≡ suc j → j < n
   pub found : (i : ℕ) → i < n
-      → Finds s t n (spelled s (plain (getD t i noLabel))) (rootOf roots (spelled s (plain (getD t i noLabel)))) (firstTurns (spelled s (plain (getD t i noLabel))))
+      → Finds s t n (spelled s (plain (getD t i noLabel))) (rootOf roots (spelled s (plain (getD t i noLabel)))) (firstPath (spelled s (plain (getD t i noLabel))))
   pub distinct : (i j : ℕ) → i < n → j < n → spelled s (plain (getD t i noLabel)) ≡ spelled s (plain (getD t j noLabel)) → i ≡ j
 
--- What entering a label behind n others leaves: trees again, once it is entered, which is a root where there was none; table and roots as
+-- What entering a label after n others leaves: trees again, once it is entered, which is a root where there was none; table and roots as
 -- they were, if it is refused.
-abbrev pub TreeBehind : List ℕ → List Label → List ℕ → ℕ → Label → List Label → List ℕ → Entered → Type 0
-TreeBehind s t roots n l t′ roots′ New = (roots′ ≡ planted roots n (spelled s l)) × Tree s t′ roots′ (suc n)
-TreeBehind s t roots n l t′ roots′ Duplicate = (roots′ ≡ roots) × (t′ ≡ t)
-TreeBehind s t roots n l t′ roots′ Full = (roots′ ≡ roots) × (t′ ≡ t)
+abbrev pub TreeAfter : List ℕ → List Label → List ℕ → ℕ → Label → List Label → List ℕ → Entered → Type 0
+TreeAfter s t roots n l t′ roots′ New = (roots′ ≡ withRoot roots n (spelled s l)) × Tree s t′ roots′ (suc n)
+TreeAfter s t roots n l t′ roots′ Duplicate = (roots′ ≡ roots) × (t′ ≡ t)
+TreeAfter s t roots n l t′ roots′ Full = (roots′ ≡ roots) × (t′ ≡ t)
 
--- A label may be entered behind n others: what an entry holds has room.
+-- A label may be entered after n others: what an entry holds has room.
 pub record Enterable (s : List ℕ) (n : ℕ) (l : Label) : Type 0 where
   pub in-text : InText s l
   pub short : length s ≤ 1048576
   pub few : n ≤ 1048576
   pub near : l .address < 2097152
 
--- A label's entry stored behind n others, and its parent's.
+-- A label's entry stored after n others, and its parent's.
 abbrev pub joined : List Label → ℕ → Gap → List Label
 joined t n g = set (set t n (g .entry)) (g .last) (g .parent)
 
@@ -230,7 +230,7 @@ addressed g n a =
 -- Where a label that is not among n others would be entered: what a table becomes then.
 pub record Gaps (s : List ℕ) (t : List Label) (roots : List ℕ) (n : ℕ) (l : Label) (g : Gap) : Type 0 where
   pub bucket-is : g .bucket ≡ slotOf (hashOf (spelled s l)) (length roots)
-  pub tree : n < length t → Tree s (joined t n g) (planted roots n (spelled s l)) (suc n)
+  pub tree : n < length t → Tree s (joined t n g) (withRoot roots n (spelled s l)) (suc n)
   pub holds : n < length t → unlinked (suc n) (joined t n g) ≡ set (unlinked n t) n l
 
 abbrev pub indexMeant : Found → Option ℕ

@@ -3,8 +3,8 @@ ghost use mathlib.Core.Path.{_≡_};
 ghost use Prim.Native.Nat.{_≤_};
 ghost use lib.ListN.{length, set};
 ghost use lib.Dec.{ltb};
-ghost use Rattle.image_labels.specs.Contracts.{countBehind, Enters};
-ghost use Rattle.image_labels.specs.Tree.{unlinked, span, Tree, TreeBehind, Enterable, Finding};
+ghost use Rattle.image_labels.specs.Contracts.{countAfter, Enters};
+ghost use Rattle.image_labels.specs.Tree.{unlinked, span, Tree, TreeAfter, Enterable, Finding};
 
 // Where a label's spelling stands in the source, and its address.
 #[repr(C)]
@@ -77,7 +77,7 @@ pub fn enter(
     label: Label,
 ) -> Entered
     requires { ⌜ Tree (now source) (now table) (now roots) count ⌝ ∗ ⌜ Enterable (now source) count label ⌝ }
-    ensures { λ r. ⌜ Enters (now (source .entry)) (unlinked count (now (table .entry))) count label (unlinked (countBehind count r) (now (table .exit))) r ⌝ ∗ ⌜ TreeBehind (now (source .entry)) (now (table .entry)) (now (roots .entry)) count label (now (table .exit)) (now (roots .exit)) r ⌝ }
+    ensures { λ r. ⌜ Enters (now (source .entry)) (unlinked count (now (table .entry))) count label (unlinked (countAfter count r) (now (table .exit))) r ⌝ ∗ ⌜ TreeAfter (now (source .entry)) (now (table .entry)) (now (roots .entry)) count label (now (table .exit)) (now (roots .exit)) r ⌝ }
 {
     let found = find(source, table, roots, count, label.start, label.length);
     let bare = match found {
@@ -88,7 +88,7 @@ pub fn enter(
     if append(table, count, gap.entry) {
         // its parent leads to it (a root is stored again)
         append(table, gap.last, gap.parent);
-        crate::tree::plant(roots, gap.bucket, count);
+        crate::tree::set_root(roots, gap.bucket, count);
         return Entered::New;
     }
     Entered::Full

@@ -6,7 +6,7 @@ ghost use Prim.Native.Nat.{_+_, _/_, _≤_, _<_};
 ghost use lib.ListN.{length};
 ghost use Rattle.text_lexical.specs.Bytes.{same};
 ghost use Rattle.image_labels.specs.Contracts.{InText, spelled};
-ghost use Rattle.image_labels.specs.Tree.{plain as plainOf, held as heldOf, link as linkOf, raised as raisedOf, linked as linkedOf, mixed, threeAt, hashOf, turned, hits as hitsOf, Rootable, slotOf, plantedAt, startedAt, begun, foundOf, span, addressed as addressedAt, endedAt, visited, Enterable, Visitable};
+ghost use Rattle.image_labels.specs.Tree.{plain as plainOf, childNumber, link as linkOf, childBits, linked as linkedOf, mixed, threeAt, hashOf, advanced, hits as hitsOf, Rootable, slotOf, withRootAt, startedAt, begun, foundOf, span, addressed as addressedAt, endedAt, visited, Enterable, Visitable};
 use crate::label::Found;
 use crate::label::Gap;
 use crate::label::Label;
@@ -18,7 +18,7 @@ pub(crate) struct Digest {
 
 // The path bits of a spelling, two for each child that it takes: `bits`, with a 1 after the last, then `rest` (none: 0), then those of
 // its bytes, of which `used` have been used up.
-pub(crate) struct Turns {
+pub(crate) struct PathBits {
     pub(crate) bits: u64,
     pub(crate) rest: u64,
     pub(crate) used: usize,
@@ -31,7 +31,7 @@ pub(crate) struct Search {
     pub(crate) more: bool,
     pub(crate) known: bool,
     pub(crate) next: usize,
-    pub(crate) turns: Turns,
+    pub(crate) path: PathBits,
     pub(crate) count: usize,
     pub(crate) entry: Label,
     pub(crate) last: usize,
@@ -49,50 +49,50 @@ pub(crate) fn plain(entry: Label) -> Label
     }
 }
 
-// One of the two numbers that are held above a part of an entry: the upper one for an odd way.
-fn held(part: usize, way: u64) -> usize
-    ensures { λ r. ⌜ r ≡ heldOf part way ⌝ }
+// One of the two child numbers that are packed above a part of an entry: the upper one for an odd branch.
+fn child_number(part: usize, branch: u64) -> usize
+    ensures { λ r. ⌜ r ≡ childNumber part branch ⌝ }
 {
-    if way % 2 == 1 {
+    if branch % 2 == 1 {
         return part / 4398046511104;
     }
     part / 2097152 % 2097152
 }
 
-// Where an entry leads by a way: to none (0), or to the entry before that number. Both parts are looked at, so that the processor
+// The child of an entry at a branch: none (0), or the entry before that number. Both parts are looked at, so that the processor
 // need not guess which.
-fn link(entry: Label, way: u64) -> usize
-    ensures { λ r. ⌜ r ≡ linkOf entry way ⌝ }
+fn link(entry: Label, branch: u64) -> usize
+    ensures { λ r. ⌜ r ≡ linkOf entry branch ⌝ }
 {
-    let by_start = held(entry.start, way);
-    let by_address = held(entry.address as usize, way);
-    if way < 2 {
+    let by_start = child_number(entry.start, branch);
+    let by_address = child_number(entry.address as usize, branch);
+    if branch < 2 {
         return by_start;
     }
     by_address
 }
 
-// A number of 21 bits at the place where it is held.
-fn raised(to: usize, way: u64) -> usize
+// A child number, which has 21 bits, moved up to where it is packed.
+fn child_bits(to: usize, branch: u64) -> usize
     requires { ⌜ to < 2097152 ⌝ }
-    ensures { λ r. ⌜ r ≡ raisedOf to way ⌝ }
+    ensures { λ r. ⌜ r ≡ childBits to branch ⌝ }
 {
-    if way % 2 == 1 {
+    if branch % 2 == 1 {
         return 4398046511104 * to;
     }
     2097152 * to
 }
 
-// An entry that leads to another by a way by which it led to none.
-fn linked(entry: Label, way: u64, to: usize) -> Label
+// An entry with a child at a branch where it had none.
+fn linked(entry: Label, branch: u64, to: usize) -> Label
     requires { ⌜ entry .start / 4398046511104 ≤ 1048576 ⌝ ∗ ⌜ entry .address / 4398046511104 ≤ 1048576 ⌝ ∗ ⌜ to < 2097152 ⌝ }
-    ensures { λ r. ⌜ r ≡ linkedOf entry way to ⌝ }
+    ensures { λ r. ⌜ r ≡ linkedOf entry branch to ⌝ }
 {
     let start = entry.start;
     let length = entry.length;
     let address = entry.address;
-    let more = raised(to, way);
-    if way < 2 {
+    let more = child_bits(to, branch);
+    if branch < 2 {
         return Label {
             start: start + more,
             length,
@@ -146,11 +146,11 @@ fn hash(source: &[u8], label: Label) -> Digest
         hash = mix(hash, source[at] as u64);
         at += 1;
     }
-    // so that the last bytes reach the lowest bits, by which the first turns go
+    // so that the last bytes reach the lowest bits, by which the first branches are chosen
     mix(hash, 0)
 }
 
-// The bits of a byte, with a 1 behind them.
+// The bits of a byte, with a 1 after them.
 fn bits_of(byte: u8) -> u64
     ensures { λ r. ⌜ r ≡ 256 + byte ⌝ }
 {
@@ -158,32 +158,32 @@ fn bits_of(byte: u8) -> u64
 }
 
 // Advances to the next two path bits.
-fn turn(source: &[u8], label: Label, turns: Turns) -> Turns
+fn advance(source: &[u8], label: Label, path: PathBits) -> PathBits
     requires { ⌜ InText (now source) label ⌝ }
-    ensures { λ r. ⌜ r ≡ turned (spelled (now (source .entry)) label) turns ⌝ }
+    ensures { λ r. ⌜ r ≡ advanced (spelled (now (source .entry)) label) path ⌝ }
 {
-    let bits = turns.bits / 4;
-    let rest = turns.rest;
-    let used = turns.used;
+    let bits = path.bits / 4;
+    let rest = path.rest;
+    let used = path.used;
     if 1 < bits {
-        return Turns { bits, rest, used };
+        return PathBits { bits, rest, used };
     }
     if 0 < rest {
-        return Turns {
+        return PathBits {
             bits: rest,
             rest: 0,
             used,
         };
     }
     if label.length <= used {
-        return Turns {
+        return PathBits {
             bits: 256,
             rest: 0,
             used,
         };
     }
     let at = label.start + used;
-    Turns {
+    PathBits {
         bits: bits_of(source[at]),
         rest: 0,
         used: used + 1,
@@ -218,18 +218,18 @@ fn started(
     bucket: usize,
     more: bool,
     next: usize,
-    turns: Turns,
+    path: PathBits,
     count: usize,
     entry: Label,
 ) -> Search
-    ensures { λ r. ⌜ r ≡ startedAt bucket more next turns count entry ⌝ }
+    ensures { λ r. ⌜ r ≡ startedAt bucket more next path count entry ⌝ }
 {
     Search {
         bucket,
         more,
         known: false,
         next,
-        turns,
+        path,
         count,
         entry,
         last: count,
@@ -268,7 +268,7 @@ pub(crate) fn begin(
         length: length + 2097152 * (second as usize / 2097152),
         address: 0,
     };
-    let turns = Turns {
+    let path = PathBits {
         bits: 4611686018427387904 + hash.first % 4611686018427387904,
         rest: 4611686018427387904 + second % 4611686018427387904,
         used: 0,
@@ -276,15 +276,15 @@ pub(crate) fn begin(
     let slot = slot(hash, roots.len());
     let root = roots[slot] as usize;
     if root == 0 {
-        return started(slot, false, 0, turns, count, entry);
+        return started(slot, false, 0, path, count, entry);
     }
-    started(slot, true, root - 1, turns, count, entry)
+    started(slot, true, root - 1, path, count, entry)
 }
 
 // An empty bucket gets a root: the label that is entered after `count` others.
-pub(crate) fn plant(roots: &mut [u32], bucket: usize, count: usize)
+pub(crate) fn set_root(roots: &mut [u32], bucket: usize, count: usize)
     requires { ⌜ bucket < length (now roots) ⌝ ∗ ⌜ count ≤ 1048576 ⌝ }
-    ensures { λ r. ⌜ now (roots .exit) ≡ plantedAt (now (roots .entry)) count bucket ⌝ }
+    ensures { λ r. ⌜ now (roots .exit) ≡ withRootAt (now (roots .entry)) count bucket ⌝ }
 {
     if roots[bucket] == 0 {
         roots[bucket] = (count + 1) as u32;
@@ -295,14 +295,14 @@ pub(crate) fn plant(roots: &mut [u32], bucket: usize, count: usize)
 fn ended(search: Search, known: bool, parent: Label) -> Search
     ensures { λ r. ⌜ r ≡ endedAt search known parent ⌝ }
 {
-    let turns = search.turns;
+    let path = search.path;
     let entry = search.entry;
     Search {
         bucket: search.bucket,
         more: false,
         known,
         next: search.next,
-        turns,
+        path,
         count: search.count,
         entry,
         last: search.next,
@@ -310,29 +310,29 @@ fn ended(search: Search, known: bool, parent: Label) -> Search
     }
 }
 
-// The search behind an entry.
+// The search after an entry.
 pub(crate) fn visit(source: &[u8], search: Search, at: Label) -> Search
     requires { ⌜ Visitable (now source) search at ⌝ }
     ensures { λ r. ⌜ r ≡ visited (now (source .entry)) search at ⌝ }
 {
     let entry = search.entry;
-    let turns = search.turns;
+    let path = search.path;
     let count = search.count;
     let label = plain(entry);
     if hits(source, at, entry.length, label) {
         return ended(search, true, at);
     }
-    let way = turns.bits % 4;
-    let to = link(at, way);
+    let branch = path.bits % 4;
+    let to = link(at, branch);
     if to == 0 {
-        return ended(search, false, linked(at, way, count + 1));
+        return ended(search, false, linked(at, branch, count + 1));
     }
     Search {
         bucket: search.bucket,
         more: true,
         known: false,
         next: to - 1,
-        turns: turn(source, label, turns),
+        path: advance(source, label, path),
         count,
         entry,
         last: search.next,

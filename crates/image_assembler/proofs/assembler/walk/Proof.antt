@@ -54,8 +54,8 @@ use Rattle.walking.proofs.Locals.{Locals, frees-all, behind, arm-of}
 use Rattle.walking.proofs.Numbers.{Numbers, cells}
 use Rattle.text_lexical.specs.Names.{present}
 use Rattle.text.proofs.NameSets.{present-naming}
-use Rattle.image_labels.specs.Contracts.{countBehind, Enters}
-use Rattle.image_labels.specs.Tree.{unlinked, TreeBehind}
+use Rattle.image_labels.specs.Contracts.{countAfter, Enters}
+use Rattle.image_labels.specs.Tree.{unlinked, TreeAfter}
 use Rattle.image_labels.specs.declared.label.Label.{Label}
 use Rattle.image_labels.specs.declared.label.Entered.{Entered}
 use Rattle.image_labels.proofs.label.Entered as R
@@ -294,7 +294,7 @@ module _ {M : Type 1} (𝓤 : URA M) (H : Heap 𝓤) (A : Atoms 𝓤) (at-mem : 
 
       onward : (zs₀ : List Label) (n : Next) (rs₀ : List ℕ) (long₀ : length rs₀ ≡ length bs) (w : Walking present xs ys zs₀ rs₀ n) (is : NextIs n) (p : LabelLine) → ReadsOn present xs n (AtLabel p) → LabelLineIs p
           → (e : Entered) (zs : List Label) (rs : List ℕ) → length rs ≡ length bs → Is R.the-row e (eval e ∷ [])
-          → Enters xs (unlinked (p .labels) zs₀) (p .labels) (p .label) (unlinked (countBehind (p .labels) e) zs) e → TreeBehind xs zs₀ rs₀ (p .labels) (p .label) zs rs e
+          → Enters xs (unlinked (p .labels) zs₀) (p .labels) (p .label) (unlinked (countAfter (p .labels) e) zs) e → TreeAfter xs zs₀ rs₀ (p .labels) (p .label) zs rs e
           → Sq W (With zs rs (some (nval n) ∷ some (lval p) ∷ some (eval e) ∷ none ∷ some (pval (AtLabel p)) ∷ some (vptr b o) ∷ some (s zs₀) ∷ some (vptr b₂ o₂) ∷ some (s₂ rs₀) ∷ []))
           (runs (𝓣 .C) (𝓣 .Λ) E (behind 6 (arm-of 0 (behind 1 m.turn-1))) (Turned (zs₀, (n, (rs₀, (long₀, (w, is)))))))
       unfolding afterTurn
@@ -328,7 +328,7 @@ module _ {M : Type 1} (𝓤 : URA M) (H : Heap 𝓤) (A : Atoms 𝓤) (at-mem : 
           calls-to ! (fmOf 𝓤 H (W .laws) 𝓣) enter-label.ended (enter-label.clauses 𝓤 H A at-mem run) entering (to-enter ν δ zs ν₂ δ₂ rs p) eval (EL.tells R.the-type R′.the-laws)
           (and-then ! (load ! (from ! (stop !)) (look ! 33 refl)) (and-then ! (load ! (from ! (stop !)) (look ! 9 refl)) (and-then ! (load ! (from ! (stop !)) (look ! 5 refl))
           (and-then ! (load ! (from ! (fld ! refl (stop !))) (look-in ! 19 (sub ! 1 refl (whole !)))) (and-then ! (load ! (from ! (fld ! refl (stop !))) (look-in ! 19 (sub ! 0 refl (whole !)))) (no-more !)))))) (λ e ws ie.
-          heard-both ! (Enters xs (unlinked (p .labels) zs) (p .labels) (p .label) (unlinked (countBehind (p .labels) e) (ws .1 .0)) e) (TreeBehind xs zs rs (p .labels) (p .label) (ws .1 .0) (ws .1 .1 .0) e) (λ x d. fsplit ! $ drop ! $ fsplit ! $
+          heard-both ! (Enters xs (unlinked (p .labels) zs) (p .labels) (p .label) (unlinked (countAfter (p .labels) e) (ws .1 .0)) e) (TreeAfter xs zs rs (p .labels) (p .label) (ws .1 .0) (ws .1 .1 .0) e) (λ x d. fsplit ! $ drop ! $ fsplit ! $
           fsplit ! $ move ! (1 ∷ []) $ feqL ! (λ l. move ! (1 ∷ []) $ fsplit ! $ move ! (1 ∷ []) $ drop ! $ fsplit ! $ move ! (1 ∷ []) $ feqL ! (λ l′. move ! (2 ∷ []) $
           -- [the tokens of the source, of ν and of ν₂; the last roots; the last labels; what is kept of the roots; of the table; the other tokens; what is shared; _15; …]
           use1 W (‵ (flft (κs .0) (qs .0)) ⊛ (‵ (flft (ν ∷ []) fullShare) ⊛ (‵ (flft (ν₂ ∷ []) fullShare) ⊛ ‵ ftrue))) (id⊢ 𝓤 _) $ split ! $ move ! (1 ∷ []) $ split ! $ move ! (1 ∷ []) $ split ! $

@@ -1,5 +1,5 @@
 -- `image_labels::label::enter` meets its contract: a walk of its MIR. The table and the roots are lent as `&` to `find`, for lifetimes that are made for the call, and they come back; then the table is lent again
--- to `append`, twice, and the roots to `plant`.
+-- to `append`, twice, and the roots to `set-root`.
 --     looks    the call of `find`.        matched  its answer is taken apart.        adds     the first call of `append`.        added    the branch behind it, and the calls behind that
 use Prim.Native.Nat.{ℕ, _<_, _^_}
 use mathlib.Core.Path.{_≡_, refl, sym, _∙_}
@@ -56,8 +56,8 @@ use Rattle.image_labels.specs.declared.label.Entered.the-variants.{New, 
 use Rattle.image_labels.specs.declared.label.Gap.{Gap}
 use Rattle.image_labels.specs.declared.label.Found.{Found}
 use Rattle.image_labels.specs.declared.label.Found.the-variants.{At, Missing}
-use Rattle.image_labels.specs.Contracts.{countBehind, Enters}
-use Rattle.image_labels.specs.Tree.{unlinked, plantedAt, Tree, TreeBehind, Enterable, addressed as addressedAt, Finding}
+use Rattle.image_labels.specs.Contracts.{countAfter, Enters}
+use Rattle.image_labels.specs.Tree.{unlinked, withRootAt, Tree, TreeAfter, Enterable, addressed as addressedAt, Finding}
 use Rattle.image_labels.proofs.label.Label as L
 use Rattle.image_labels.proofs.label.Label.Laws as L′
 use Rattle.image_labels.proofs.label.Entered as R
@@ -80,17 +80,17 @@ use Rattle.image_labels.proofs.tree.addressed as addressed
 use Rattle.image_labels.proofs.tree.addressed.Symbol as addressed-def
 use Rattle.image_labels.proofs.tree.addressed.Symbol.{name as #addressed}
 use Rattle.image_labels.proofs.tree.addressed.Met as addressed-thm
-use Rattle.image_labels.proofs.tree.plant as plant
-use Rattle.image_labels.proofs.tree.plant.Symbol as plant-def
-use Rattle.image_labels.proofs.tree.plant.Symbol.{name as #plant}
-use Rattle.image_labels.proofs.tree.plant.Met as plant-thm
+use Rattle.image_labels.proofs.tree.set_root as set-root
+use Rattle.image_labels.proofs.tree.set_root.Symbol as set-root-def
+use Rattle.image_labels.proofs.tree.set_root.Symbol.{name as #set-root}
+use Rattle.image_labels.proofs.tree.set_root.Met as set-root-thm
 use Rattle.image_labels.proofs.label.enter.Key.{name as #enter}
 use Rattle.image_labels.proofs.label.enter as enters
 use Rattle.image_labels.proofs.label.enter.Statement as stated
 use Rattle.image_labels.proofs.label.enter.Code as code
 use Rattle.image_labels.proofs.label.enter.Code.Mir as m
 
--- at the exit the table and the roots are still held, and nothing of the other parameters is had
+-- at the exit the table and the roots are still childNumber, and nothing of the other parameters is had
 abbrev stayed : Stays (enters.ended .signature .params) (enters.ended .kept)
 stayed = (stay-dropped (shrSliceOf (0 ∷ []) tt (plain (λ _. u8))) yes, (stay-slice (1 ∷ []) tt (plain (λ _. L.the-row)), (stay-slice (2 ∷ []) tt (plain (λ _. u32)), (stay-dropped (plain (λ _. usize)) yes, (stay-dropped (plain (λ _. L.the-row)) yes, tt)))))
 
@@ -139,8 +139,8 @@ module _ {M : Type 1} (𝓤 : URA M) (H : Heap 𝓤) (A : Atoms 𝓤) (at-mem : 
   abbrev Address : Contract 𝓤
   Address = Known 𝓤 H A addressed.ended (addressed.clauses 𝓤 H A at-mem run)
 
-  abbrev Plant : Contract 𝓤
-  Plant = Known 𝓤 H A plant.ended (plant.clauses 𝓤 H A at-mem run)
+  abbrev SetRoot : Contract 𝓤
+  SetRoot = Known 𝓤 H A set-root.ended (set-root.clauses 𝓤 H A at-mem run)
 
   module _ (W : Given 𝓤 H A) (κ₀ κ κ₂ : Lft) (q₀ q q₂ : Share) (b₁ o₁ : ℕ) (γ₁ : GName) (xs : List ℕ) (b o : ℕ) (γ : GName) (ys : List Label) (b₂ o₂ : ℕ) (γ₂ : GName) (rs : List ℕ) (n : ℕ) (v : Label)
       (g₁ : Room u8 (length xs)) (gn : Room L.the-row (length ys)) (g₂ : Room u32 (length rs)) (fn : n < 2 ^ 64) (gv : Is L.the-row v (vals v)) (tree : Tree xs ys rs n) (ok : Enterable xs n v) where
@@ -200,7 +200,7 @@ module _ {M : Type 1} (𝓤 : URA M) (H : Heap 𝓤) (A : Atoms 𝓤) (at-mem : 
     abbrev Has : List ℕ → List Label → List (Item 𝓤)
     Has rs′ l = ‵ (Table l) ∷ ‵ (flft κ q) ∷ ‵ (flft κ₀ q₀) ∷ ‵ (Roots rs′) ∷ ‵ (flft κ₂ q₂) ∷ []
 
-    exits : (rs′ : List ℕ) → length rs′ ≡ length rs → (r : Entered) (zs : List Label) → Enters xs (unlinked n ys) n v (unlinked (countBehind n r) zs) r → TreeBehind xs ys rs n v zs rs′ r → length zs ≡ length ys → Is R.the-row r (rval r ∷ [])
+    exits : (rs′ : List ℕ) → length rs′ ≡ length rs → (r : Entered) (zs : List Label) → Enters xs (unlinked n ys) n v (unlinked (countAfter n r) zs) r → TreeAfter xs ys rs n v zs rs′ r → length zs ≡ length ys → Is R.the-row r (rval r ∷ [])
         → Sq W (Has rs′ zs) (prop (Post (rval r)))
     exits rs′ long r zs e d l is =
         suffices ! _ (ends-at 𝓤 H A enters.ended stayed (enters.clauses 𝓤 H A at-mem run) W given (rval r) r (tt, (zs, (rs′, (tt, (tt, tt))))) (tt, (l, (long, (tt, (tt, tt)))))) $
@@ -260,12 +260,12 @@ module _ {M : Type 1} (𝓤 : URA M) (H : Heap 𝓤) (A : Atoms 𝓤) (at-mem : 
         nothing ! $ owned ! usize (Is usize) (uint-makes 𝓤 H A W w64) (v .length) _ (refl, length-fits) $ fjoin ! $ owned ! usize (Is usize) (uint-makes 𝓤 H A W w64) (v .start) _ (refl, start-fits) $ fjoin ! $
         owned ! usize (Is usize) (uint-makes 𝓤 H A W w64) n _ (refl, fn) $ fjoin ! $ move ! (2 ∷ 0 ∷ []) $ fjoin ! $ move ! (1 ∷ 0 ∷ []) $ fjoin ! $ move ! (1 ∷ 0 ∷ []) $ fjoin ! $ done !
 
-    abbrev to-plant : Gap → ℕ → GName → Plant .Ghost
-    to-plant g ν δ = (((ν ∷ [], tt), (fullShare, tt), tt, (x₂ δ rs, (g .bucket, (n, tt))), (s₂ ∷ [], (vint w64 (g .bucket) ∷ [], (vint w64 n ∷ [], tt)))), tt)
+    abbrev to-set-root : Gap → ℕ → GName → SetRoot .Ghost
+    to-set-root g ν δ = (((ν ∷ [], tt), (fullShare, tt), tt, (x₂ δ rs, (g .bucket, (n, tt))), (s₂ ∷ [], (vint w64 (g .bucket) ∷ [], (vint w64 n ∷ [], tt)))), tt)
 
-    goes-plant : (g : Gap) → GapIs g → g .bucket < length rs → (ν : ℕ) (δ : GName)
-        → ent 𝓤 (sep 𝓤 (A .lft (ν ∷ []) fullShare) (sem 𝓤 H A (MutSlice (named 0) (ν ∷ []) u32 .own (x₂ δ rs) (s₂ ∷ [])))) (Plant .pre (to-plant g ν δ))
-    goes-plant g gi h ν δ =
+    goes-set-root : (g : Gap) → GapIs g → g .bucket < length rs → (ν : ℕ) (δ : GName)
+        → ent 𝓤 (sep 𝓤 (A .lft (ν ∷ []) fullShare) (sem 𝓤 H A (MutSlice (named 0) (ν ∷ []) u32 .own (x₂ δ rs) (s₂ ∷ [])))) (SetRoot .pre (to-set-root g ν δ))
+    goes-set-root g gi h ν δ =
         qed W (‵ (flft (ν ∷ []) fullShare) ∷ ‵ (MutSlice (named 0) (ν ∷ []) u32 .own (x₂ δ rs) (s₂ ∷ [])) ∷ []) ∵ says-both ! h (ok .few) $ nothing ! $ move ! (1 ∷ 0 ∷ []) $ join ! $ frame ! $
         nothing ! $ owned ! usize (Is usize) (uint-makes 𝓤 H A W w64) n _ (refl, fn) $ fjoin ! $ owned ! usize (Is usize) (uint-makes 𝓤 H A W w64) (g .bucket) _ (refl, bucket-fits g gi) $ fjoin ! $
         move ! (1 ∷ 0 ∷ []) $ fjoin ! $ done !
@@ -277,7 +277,7 @@ module _ {M : Type 1} (𝓤 : URA M) (H : Heap 𝓤) (A : Atoms 𝓤) (at-mem : 
         move ! (1 ∷ []) $ nothing ! $ owned ! L.the-row (Is L.the-row) ((LL.makes L.the-type L′.the-plain) 𝓤 H A) w _ gw $ fjoin ! $ owned ! usize (Is usize) (uint-makes 𝓤 H A W w64) i _ (refl, fi) $ fjoin ! $
         move ! (1 ∷ 0 ∷ []) $ fjoin ! $ move ! (1 ∷ 0 ∷ []) $ join ! $ nothing ! $ move ! (1 ∷ 0 ∷ []) $ done !
 
-    module _ (𝓣 : Tables 𝓤 H) (finds : Triple 𝓤 (𝓣 .C #find) Find) (appends : Triple 𝓤 (𝓣 .C #append) Append) (places : Triple 𝓤 (𝓣 .C #addressed) Address) (plants : Triple 𝓤 (𝓣 .C #plant) Plant)
+    module _ (𝓣 : Tables 𝓤 H) (finds : Triple 𝓤 (𝓣 .C #find) Find) (appends : Triple 𝓤 (𝓣 .C #append) Append) (places : Triple 𝓤 (𝓣 .C #addressed) Address) (sets-root : Triple 𝓤 (𝓣 .C #set-root) SetRoot)
         (l₀ l₁ l₂ l₃ l₄ l₅ l₆ l₇ l₈ l₉ l₁₀ l₁₁ l₁₂ l₁₃ l₁₄ l₁₅ l₁₆ l₁₇ l₁₈ l₁₉ l₂₀ l₂₁ l₂₂ l₂₃ : ℕ) where
       abbrev ref : Ty
       ref = tyRef erased imm (pointee (L.the-row .written))
@@ -332,12 +332,12 @@ module _ {M : Type 1} (𝓤 : URA M) (H : Heap 𝓤) (A : Atoms 𝓤) (at-mem : 
             assigns ! (addr ! (from ! (fld ! refl (hop ! (look-in ! 45 (sub ! 0 refl (whole !))) (stop !))))) (from ! (stop !)) (init ! 7 refl (tt, tt)) $
             assigns ! (agg ! (and-then ! (load ! (from ! (stop !)) (look ! 7 refl)) (and-then ! (load ! (from ! (fld ! refl (stop !))) (look-in ! 45 (sub ! 1 refl (whole !)))) (no-more !))))
             (from ! (stop !)) (init ! 5 refl (tt, (tt, (record { fits = g₂ .0 }, tt)))) $ move ! (3 ∷ 4 ∷ []) $
-            lends u32 κ₂ q₂ γ₂ b₂ o₂ rs (named 2) (named 0) ! tt (λ ν₂ δ₂. move ! (1 ∷ 0 ∷ []) $ use2 W (raw (Plant .pre (to-plant g ν₂ δ₂))) (goes-plant g gi (bucket-inside e (ok .near) made (tree .rootable .some)) ν₂ δ₂) $
-            -- [what `plant` asks for; what is kept of the roots; the table; its token; the source's token; _23; …]
-            calls-to ! (fmOf 𝓤 H (W .laws) 𝓣) plant.ended (plant.clauses 𝓤 H A at-mem run) plants (to-plant g ν₂ δ₂) (λ _. vunit) nothing-tells
+            lends u32 κ₂ q₂ γ₂ b₂ o₂ rs (named 2) (named 0) ! tt (λ ν₂ δ₂. move ! (1 ∷ 0 ∷ []) $ use2 W (raw (SetRoot .pre (to-set-root g ν₂ δ₂))) (goes-set-root g gi (bucket-inside e (ok .near) made (tree .rootable .some)) ν₂ δ₂) $
+            -- [what `set-root` asks for; what is kept of the roots; the table; its token; the source's token; _23; …]
+            calls-to ! (fmOf 𝓤 H (W .laws) 𝓣) set-root.ended (set-root.clauses 𝓤 H A at-mem run) sets-root (to-set-root g ν₂ δ₂) (λ _. vunit) nothing-tells
             (and-then ! (load ! (from ! (stop !)) (look ! 5 refl)) (and-then ! (load ! (from ! (fld ! refl (stop !))) (look-in ! 33 (sub ! 0 refl (whole !))))
             (and-then ! (load ! (from ! (stop !)) (look ! 43 refl)) (no-more !)))) (λ _ us _.
-            heard ! (us .0 ≡ plantedAt rs n (g .bucket)) (λ p. fsplit ! $ fsplit ! $ move ! (1 ∷ []) $ feqL ! (λ l₂. move ! (1 ∷ []) $ drop ! $ move ! (1 ∷ []) $
+            heard ! (us .0 ≡ withRootAt rs n (g .bucket)) (λ p. fsplit ! $ fsplit ! $ move ! (1 ∷ []) $ feqL ! (λ l₂. move ! (1 ∷ []) $ drop ! $ move ! (1 ∷ []) $
             use1 W (‵ (flft (ν₂ ∷ []) fullShare) ⊛ ‵ ftrue) (id⊢ 𝓤 _) $ split ! $ move ! (0 ∷ 3 ∷ 2 ∷ []) $ ends u32 κ₂ q₂ γ₂ b₂ o₂ rs (named 2) (named 0) ! tt ν₂ δ₂ (us .0) g₂ l₂ $
             move ! (2 ∷ []) $ drop ! $ land ! (from ! (stop !)) (init ! 9 refl (tt, tt)) $
             -- [the roots; their token; the table; its token; the source's token; _23; …]
@@ -423,9 +423,9 @@ module _ {M : Type 1} (𝓤 : URA M) (H : Heap 𝓤) (A : Atoms 𝓤) (at-mem : 
           move ! (2 ∷ []) $ drop ! $ move ! (2 ∷ 3 ∷ 4 ∷ []) $
           land ! (from ! (stop !)) (init ! 39 refl (EL.lawful F.the-type F′.the-laws 𝓤 H A W tt .typed r _ is .0)) $ matched r e is))))))
 
-    walk : (𝓣 : Tables 𝓤 H) → Triple 𝓤 (𝓣 .C #find) Find → Triple 𝓤 (𝓣 .C #append) Append → Triple 𝓤 (𝓣 .C #addressed) Address → Triple 𝓤 (𝓣 .C #plant) Plant
+    walk : (𝓣 : Tables 𝓤 H) → Triple 𝓤 (𝓣 .C #find) Find → Triple 𝓤 (𝓣 .C #append) Append → Triple 𝓤 (𝓣 .C #addressed) Address → Triple 𝓤 (𝓣 .C #set-root) SetRoot
         → ent 𝓤 (onEntry 𝓤 H A enters.signature (κ₀, (κ, (κ₂, tt))) (q₀, (q, (q₂, tt))) (a γ γ₂) at) (WpFn 𝓤 H (𝓣 .C) (𝓣 .Λ) code.function (s₁ ∷ s ∷ s₂ ∷ vint w64 n ∷ vals v) Post)
-    walk 𝓣 finds appends places plants =
+    walk 𝓣 finds appends places sets-root =
         qed W ((‵ (flft κ₀ q₀) ⊛ (‵ (flft κ q) ⊛ (‵ (flft κ₂ q₂) ⊛ ‵ ftrue))) ∷ ‵ (owns (ShrSlice (named 0) κ₀ u8 ∷ MutSlice (named 1) κ L.the-row ∷ MutSlice (named 2) κ₂ u32 ∷ usize ∷ L.the-row ∷ []) (a γ γ₂) at) ∷ []) ∵
         enter ! (𝓣 .C) (𝓣 .Λ) code.function (s₁ ∷ s ∷ s₂ ∷ vint w64 n ∷ vals v) _ $
         alloc1 ! (λ l₀. alloc1 ! (λ l₁. alloc1 ! (λ l₂. alloc1 ! (λ l₃. alloc1 ! (λ l₄. alloc1 ! (λ l₅. alloc1 ! (λ l₆. alloc1 ! (λ l₇. alloc1 ! (λ l₈. alloc1 ! (λ l₉. alloc1 ! (λ l₁₀. alloc1 ! (λ l₁₁. alloc1 ! (λ l₁₂. alloc1 ! (λ l₁₃. alloc1 ! (λ l₁₄. alloc1 ! (λ l₁₅. alloc1 ! (λ l₁₆. alloc1 ! (λ l₁₇. alloc1 ! (λ l₁₈. alloc1 ! (λ l₁₉. alloc1 ! (λ l₂₀. alloc1 ! (λ l₂₁. alloc1 ! (λ l₂₂. alloc1 ! (λ l₂₃. alloc0 ! $ params1 ! $
@@ -435,11 +435,11 @@ module _ {M : Type 1} (𝓤 : URA M) (H : Heap 𝓤) (A : Atoms 𝓤) (at-mem : 
         -- [the roots; the table; the source; the tokens; _23; …]
         move ! (3 ∷ []) $ split ! $ move ! (1 ∷ []) $ split ! $ move ! (1 ∷ []) $ split ! $ move ! (1 ∷ []) $ drop ! $
         -- [the tokens of the roots, of the table and of the source; the roots; the table; the source; _23; …]
-        move ! (5 ∷ 2 ∷ 4 ∷ 1 ∷ 3 ∷ []) $ looks 𝓣 finds appends places plants l₀ l₁ l₂ l₃ l₄ l₅ l₆ l₇ l₈ l₉ l₁₀ l₁₁ l₁₂ l₁₃ l₁₄ l₁₅ l₁₆ l₁₇ l₁₈ l₁₉ l₂₀ l₂₁ l₂₂ l₂₃))))))))))))))))))))))))
+        move ! (5 ∷ 2 ∷ 4 ∷ 1 ∷ 3 ∷ []) $ looks 𝓣 finds appends places sets-root l₀ l₁ l₂ l₃ l₄ l₅ l₆ l₇ l₈ l₉ l₁₀ l₁₁ l₁₂ l₁₃ l₁₄ l₁₅ l₁₆ l₁₇ l₁₈ l₁₉ l₂₀ l₂₁ l₂₂ l₂₃))))))))))))))))))))))))
 
-  meets : (W : Given 𝓤 H A) (𝓣 : Tables 𝓤 H) → Triple 𝓤 (𝓣 .C #find) Find → Triple 𝓤 (𝓣 .C #append) Append → Triple 𝓤 (𝓣 .C #addressed) Address → Triple 𝓤 (𝓣 .C #plant) Plant
+  meets : (W : Given 𝓤 H A) (𝓣 : Tables 𝓤 H) → Triple 𝓤 (𝓣 .C #find) Find → Triple 𝓤 (𝓣 .C #append) Append → Triple 𝓤 (𝓣 .C #addressed) Address → Triple 𝓤 (𝓣 .C #set-root) SetRoot
       → Meets 𝓤 H A enters.signature (WpFn 𝓤 H (𝓣 .C) (𝓣 .Λ) code.function) (enters.spec 𝓤 H A at-mem run)
-  meets W 𝓣 finds appends places plants =
+  meets W 𝓣 finds appends places sets-root =
       walk-meets 𝓤 H A enters.ended stayed W (
         goes-dropped 𝓤 H A W 3 (shrSliceOf (0 ∷ []) tt (plain (λ _. u8))) yes (λ κs x f. refl),
         (
@@ -457,7 +457,7 @@ module _ {M : Type 1} (𝓤 : URA M) (H : Heap 𝓤) (A : Atoms 𝓤) (at-mem : 
       (λ κs qs bounds a g are. needs-both 𝓤 _ _ _ (λ tree ok.
       walk W (κs .0) (κs .1 .0) (κs .1 .1 .0) (qs .0) (qs .1 .0) (qs .1 .1 .0) (a .0 .ptr .0) (a .0 .ptr .1) (a .0 .name) (a .0 .now) (a .1 .0 .ptr .0) (a .1 .0 .ptr .1) (a .1 .0 .name) (a .1 .0 .now)
       (a .1 .1 .0 .ptr .0) (a .1 .1 .0 .ptr .1) (a .1 .1 .0 .name) (a .1 .1 .0 .now) (a .1 .1 .1 .0) (a .1 .1 .1 .1 .0)
-      (are .0 .0 .1) (are .1 .0 .0 .1) (are .1 .1 .0 .0 .1) (are .1 .1 .1 .0 .1) (are .1 .1 .1 .1 .0) tree ok 𝓣 finds appends places plants)))
+      (are .0 .0 .1) (are .1 .0 .0 .1) (are .1 .1 .0 .0 .1) (are .1 .1 .1 .0 .1) (are .1 .1 .1 .1 .0) tree ok 𝓣 finds appends places sets-root)))
 
 pub enter-spec : {M : Type 1} → stated.statement M
 unfolding code.routine tablesOf
@@ -468,4 +468,4 @@ enter-spec 𝓤 H 𝓜 𝓖 𝓡 =
     (cited 𝓤 H (Find 𝓤 H (𝓖 .A) (𝓜 .mem) (𝓡 .run)) 𝓜 𝓡 code.env #find find-def.routine code.calls-image-labels·label·find (find-thm.met 𝓤 H 𝓜 𝓖 𝓡))
     (cited 𝓤 H (Append 𝓤 H (𝓖 .A) (𝓜 .mem) (𝓡 .run)) 𝓜 𝓡 code.env #append append-def.routine code.calls-image-labels·label·append (append-thm.met 𝓤 H 𝓜 𝓖 𝓡))
     (cited 𝓤 H (Address 𝓤 H (𝓖 .A) (𝓜 .mem) (𝓡 .run)) 𝓜 𝓡 code.env #addressed addressed-def.routine code.calls-image-labels·tree·addressed (addressed-thm.met 𝓤 H 𝓜 𝓖 𝓡))
-    (cited 𝓤 H (Plant 𝓤 H (𝓖 .A) (𝓜 .mem) (𝓡 .run)) 𝓜 𝓡 code.env #plant plant-def.routine code.calls-image-labels·tree·plant (plant-thm.met 𝓤 H 𝓜 𝓖 𝓡)))
+    (cited 𝓤 H (SetRoot 𝓤 H (𝓖 .A) (𝓜 .mem) (𝓡 .run)) 𝓜 𝓡 code.env #set-root set-root-def.routine code.calls-image-labels·tree·set-root (set-root-thm.met 𝓤 H 𝓜 𝓖 𝓡)))

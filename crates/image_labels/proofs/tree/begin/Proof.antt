@@ -7,7 +7,7 @@ use lib.ListN.{length, getD}
 use borrow.Author.Needs.{needs}
 use Rattle.image_labels.specs.declared.tree.Digest.{Digest}
 use Rattle.image_labels.specs.Contracts.{spelled}
-use Rattle.image_labels.specs.Tree.{hashOf, firstTurns, keyOf, span, entryFor, slotOf, rootOf}
+use Rattle.image_labels.specs.Tree.{hashOf, firstPath, keyOf, span, entryFor, slotOf, rootOf}
 use Rattle.image_labels.proofs.Named.{spelled-long}
 use Rattle.image_labels.proofs.Roots.{begun-none, begun-some}
 use Rattle.image_labels.proofs.tree.begin.Statement.{statement}
@@ -44,7 +44,7 @@ started-requires : tie.Need-started-requires
 started-requires c κs = search needs
 
 returns : tie.Need-returns
-unfolding firstTurns keyOf entryFor
+unfolding firstPath keyOf entryFor
 returns c =
     let f = c .before .before .before in
     let h = f .before .before .hash in
@@ -62,7 +62,7 @@ started-requires-2 : tie.Need-started-requires-2
 started-requires-2 c κs = search needs
 
 returns-2 : tie.Need-returns-2
-unfolding firstTurns keyOf entryFor
+unfolding firstPath keyOf entryFor
 returns-2 c =
     let f = c .before .before .before in
     let h = f .before .before .hash in

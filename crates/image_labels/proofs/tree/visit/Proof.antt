@@ -3,7 +3,7 @@ use Prim.Native.Nat.{suc, _-_}
 use mathlib.Core.Path.{_≡_, sym, _∙_}
 use native.Mathlib.Omega.{arith}
 use borrow.Author.Needs.{needs}
-use Rattle.image_labels.specs.Tree.{wayOf}
+use Rattle.image_labels.specs.Tree.{branchOf}
 use Rattle.image_labels.proofs.Hashing.{visited-hit, visited-last, visited-on}
 use Rattle.image_labels.proofs.tree.visit.Statement.{statement}
 use Rattle.image_labels.proofs.tree.visit.Tie as tie
@@ -36,7 +36,7 @@ ended-requires-2 : tie.Need-ended-requires-2
 ended-requires-2 c κs = search needs
 
 returns-2 : tie.Need-returns-2
-unfolding wayOf
+unfolding branchOf
 returns-2 c =
     let k = c .before .before .before .before .before in
     let a = c .before .before .before .before .before .before .before .before .before .before .before .args in
@@ -47,17 +47,17 @@ returns-2 c =
 sub-t14 : tie.Need-sub-t14
 sub-t14 c = search needs
 
-turn-requires : tie.Need-turn-requires
-turn-requires c κs = rw (c .before .before .before .before .before .plain .ensures) (c .before .before .before .before .before .before .before .before .before .pre .label-in-text)
+advance-requires : tie.Need-advance-requires
+advance-requires c κs = rw (c .before .before .before .before .before .plain .ensures) (c .before .before .before .before .before .before .before .before .before .pre .label-in-text)
 
 returns-3 : tie.Need-returns-3
-unfolding wayOf
+unfolding branchOf
 returns-3 c =
     let k = c .before .before .before .before in
     let a = c .before .before .before .before .before .before .before .before .before .before .args in
     let m = c .before .before .link .result in
     let e : m ≡ suc (m - 1) = omega (arith, c .before .if2 .left) in
-    rw (c .turn .ensures, k .before .before .plain .ensures)
+    rw (c .advance .ensures, k .before .before .plain .ensures)
     (sym (visited-on (a .source .now) (a .search) (a .at) (sym (rw (k .before .before .plain .ensures) at (k .before .hits .ensures)) ∙ k .if1 .left) (m - 1) (sym (c .before .before .link .ensures) ∙ e)))
 
 pub visit-spec : {M : Type 1} → statement M
@@ -74,5 +74,5 @@ visit-spec =
     ended-requires-2
     returns-2
     sub-t14
-    turn-requires
+    advance-requires
     returns-3)
