@@ -18,7 +18,7 @@ use Rattle.text.specs.NameSets.{Naming}
 use Rattle.text.proofs.Lines.{line-at, last-line}
 use Rattle.image.specs.Settings.{Settings}
 use Rattle.image.specs.Program.{entry}
-use Rattle.image.specs.Assembling.{State, Step, next, stop, isKnown, withLabel, enter, Effect as MeantEffect, Read as MeantRead, readOn, changedBy, entering, doing, step, contextOf, Walk, finished, stopped, walk, rustLine, refusing, readTo}
+use Rattle.image.specs.Assembling.{State, Step, next, stop, isKnown, withLabel, enter, Effect as MeantEffect, Read as MeantRead, readOn, changedBy, entering, doing, step, contextOf, Walk, finished, stopped, walk, rustLine, refusing, readTo, most-bytes}
 use Rattle.image.specs.Assembling.{Label as Meant}
 use Rattle.image.specs.Meaning.{codedBy}
 use Rattle.image.specs.Contracts.{settingsMeant}
@@ -28,7 +28,7 @@ use Rattle.image_labels.specs.declared.label.Entered.{Entered}
 use Rattle.image_labels.specs.declared.label.Entered.the-variants.{New, Duplicate, Full}
 use Rattle.image_line.specs.Contracts.{contextFor, effectMeant, labelIf, LineIs}
 use Rattle.image_line.specs.declared.line.Read.{Read}
-use Rattle.image_passes.specs.Contracts.{readAt, effectAt, restFor, WalkEnds, lineRefused, finishedWith, labelPass, scanned, scannedFrom, resumed, lineAfter, followed, RestFits, Sound, ScannableNext, Scannable, ReadsOn, GoesOn}
+use Rattle.image_passes.specs.Contracts.{readAt, effectAt, restFor, WalkEnds, lineRefused, finishedWith, labelPass, scanned, scannedFrom, resumed, lineAfter, followed, RestFits, Sound, ScannableNext, Scannable, ReadsOn, Follows, GoesOn}
 use Rattle.image_passes.specs.declared.first_pass.Next.{Next}
 use Rattle.image_passes.specs.declared.first_pass.Next.the-variants.{From, Ended as NextEnded}
 use Rattle.image_passes.specs.declared.first_pass.Cursor.{Cursor}
@@ -348,67 +348,102 @@ goes-stand {names} {s} {p} {e} {n} g room ls a k = rw (g .answer) (go e k)
 
 -- ---- the code's loop
 
--- A line and those after it, by its label and what it comes to.
-module _ (names : List Name) (s : List ℕ) (labels line words : ℕ) (c : Config) (at : ℕ) (rest : List (List ℕ)) where
-  scanned-label : (u : List ℕ) → readAt names s at (settingsMeant c) .label ≡ some u
-      → scanned names labels line words c at (restAt s at ∷ rest) ≡ labelPass (at + indent (restAt s at)) (length u) words line labels (comesTo names s at words c)
+-- A line and those after it: a label, or what follows the line.
+module _ (names : List Name) (s : List ℕ) (c : Cursor) (inside : c .at ≤ length s) where
+  abbrev comes : Rest
+  comes = comesTo names s (c .at) (c .words) (c .config)
+
+  from-label : (u : List ℕ) → readAt names s (c .at) (settingsMeant (c .config)) .label ≡ some u
+      → scannedFrom names s c ≡ labelPass (c .at + indent (restAt s (c .at))) (length u) (c .words) (c .line) (c .labels) comes
   unfolding scanned endAt
-  scanned-label u e = rw (scanned, e)
+  from-label u e = let (rest, q) = line-split s (c .at) inside in rw (q, scanned, e)
 
-  module _ (e : readAt names s at (settingsMeant c) .label ≡ none) where
-    scanned-refused : (n : ℕ) → comesTo names s at words c ≡ Refused n → scanned names labels line words c at (restAt s at ∷ rest) ≡ PassEnded (lineRefused n line labels)
-    unfolding scanned endAt
-    scanned-refused n k = rw (scanned, e, k)
+  -- the lines after it
+  rest-is-after : (rest : List (List ℕ)) → lines (drop (c .at) s) ≡ restAt s (c .at) ∷ rest → endAt s (c .at) < length s → rest ≡ lines (drop (suc (endAt s (c .at))) s)
+  rest-is-after rest q b = ap (drop 1) (sym q ∙ line-at s (c .at) inside b)
 
-    scanned-done : (words′ end : ℕ) (c′ : Config) → comesTo names s at words c ≡ Done words′ c′ end
-        → scanned names labels line words c at (restAt s at ∷ rest) ≡ scanned names labels (suc line) words′ c′ (suc end) rest
-    unfolding scanned endAt
-    scanned-done words′ end c′ k = rw (scanned, e, k)
+  none-after : (rest : List (List ℕ)) → lines (drop (c .at) s) ≡ restAt s (c .at) ∷ rest → length s ≤ endAt s (c .at) → rest ≡ []
+  none-after rest q b = ap (drop 1) (sym q ∙ last-line s (c .at) inside b)
 
--- What the lines from a place on come to is what those from the cursor on do.
-pub record Scanning (names : List Name) (s : List ℕ) (from : Cursor) (at line words : ℕ) (c : Config) : Type 0 where
-  pub safe : Scannable s (record { at = at; line = line; labels = from .labels; words = words; config = c })
-  pub same : scanned names (from .labels) line words c at (lines (drop at s)) ≡ scannedFrom names s from
-  pub after : from .line ≤ line
+  from-line : readAt names s (c .at) (settingsMeant (c .config)) .label ≡ none → scannedFrom names s c ≡ resumed names s (lineAfter (length s) (c .line) (c .labels) comes)
+  unfolding scanned endAt lineAfter
+  from-line e = let (rest, q) = line-split s (c .at) inside in rw (q, scanned, e) (go rest q comes refl)
+    where
+      go : (rest : List (List ℕ)) → lines (drop (c .at) s) ≡ restAt s (c .at) ∷ rest → (x : Rest) → comes ≡ x
+          → elim x [ Refused n ↦ PassEnded (lineRefused n (c .line) (c .labels)) | Done words′ c′ end ↦ scanned names (c .labels) (suc (c .line)) words′ c′ (suc end) rest ]
+          ≡ resumed names s (lineAfter (length s) (c .line) (c .labels) x)
+      go rest q (Refused n) k = refl
+      go rest q (Done words′ c′ end) k =
+          let z : end ≡ endAt s (c .at) = (rw k at (rest-is (c .words) (c .config) (endAt s (c .at)) (effectAt names s (c .at) (settingsMeant (c .config))))) .ends in
+          split end (length s)
+          (λ b. rw (lineAfter, lt-ltb end (length s) b, add-one (c .line), add-one end)
+          (ap (scanned names (c .labels) (suc (c .line)) words′ c′ (suc end)) (rest-is-after rest q (subst (λ (n : ℕ). n < length s) z b) ∙ ap (λ (n : ℕ). lines (drop (suc n) s)) (sym z))))
+          (λ b. rw (lineAfter, le-ltb end (length s) b) (ap (scanned names (c .labels) (suc (c .line)) words′ c′ (suc end)) (none-after rest q (subst (λ (n : ℕ). length s ≤ n) z b))))
 
-pub scanning-none : {names : List Name} {s : List ℕ} {from : Cursor} → Scannable s from → Scanning names s from (from .at) (from .line) (from .words) (from .config)
-scanning-none h =
-    record {
-      safe = record { short = h .short; in-text = h .in-text; few-lines = h .few-lines; few-labels = h .few-labels; few-words = h .few-words };
-      same = refl;
-      after = omega arith;
-    }
+-- A line that is not refused ends at a place or after it.
+abbrev EndsAfter : ℕ → Rest → Type 0
+EndsAfter at (Refused n) = Unit {0}
+EndsAfter at (Done words c end) = at ≤ end
 
-module _ {names : List Name} {s : List ℕ} {from : Cursor} {at line words : ℕ} {c : Config} (w : Scanning names s from at line words c) (r : Read) (h : LineIs names s at (contextFor c) r) where
+done-after : (names : List Name) (s : List ℕ) (at words : ℕ) (c : Config) → EndsAfter at (comesTo names s at words c)
+unfolding endAt
+done-after names s at words c = go (comesTo names s at words c) refl
+  where
+    go : (x : Rest) → comesTo names s at words c ≡ x → EndsAfter at x
+    go (Refused n) k = tt
+    go (Done words′ c′ end) k = omega (arith, (rw k at (rest-is words c (endAt s at) (effectAt names s at (settingsMeant c)))) .ends)
+
+-- What is read next is a line after this one, from where the walk may read on; or the walk has ended.
+abbrev Next-line : List ℕ → ℕ → ℕ → Next → Type 0
+Next-line s at line (From d) = Scannable s d × (line < d .line) × (at < d .at)
+Next-line s at line (NextEnded o) = Unit {0}
+
+next-line-after : (s : List ℕ) (at line labels : ℕ) → length s ≤ most-bytes → labels ≤ line → (x : Rest) → RestFits line x → EndsAfter at x → Next-line s at line (lineAfter (length s) line labels x)
+unfolding lineAfter
+next-line-after s at line labels short few (Refused n) f a = tt
+next-line-after s at line labels short few (Done words c end) f a =
+    split end (length s)
+    (λ b. rw (lineAfter, lt-ltb end (length s) b)
+    (record { short = short; in-text = omega arith; few-lines = omega (arith, f .0); few-labels = omega (arith, few); few-words = f .1 }, omega arith, omega (arith, a)))
+    (λ b. rw (lineAfter, le-ltb end (length s) b) tt)
+
+-- Where the loop stands: what reading on from there comes to is what it comes to from the first cursor on.
+pub record Scanning (names : List Name) (s : List ℕ) (from c : Cursor) : Type 0 where
+  pub safe : Scannable s c
+  pub same : scannedFrom names s c ≡ scannedFrom names s from
+  pub after : from .line ≤ c .line
+
+pub scanning-none : {names : List Name} {s : List ℕ} {from : Cursor} → Scannable s from → Scanning names s from from
+scanning-none h = record { safe = h; same = refl; after = omega arith }
+
+module _ {names : List Name} {s : List ℕ} {from c : Cursor} (w : Scanning names s from c) (r : Read) (h : LineIs names s (c .at) (contextFor (c .config)) r) where
   -- its label
-  label-is : {b : Bool} → r .labelled ≡ b → readAt names s at (settingsMeant c) .label ≡ labelIf b (take (r .length) (drop (r .start) s))
+  label-is : {b : Bool} → r .labelled ≡ b → readAt names s (c .at) (settingsMeant (c .config)) .label ≡ labelIf b (take (r .length) (drop (r .start) s))
   label-is b = ap (λ (x : MeantRead). x .label) (sym (h .reads)) ∙ ap (λ (x : Bool). labelIf x (take (r .length) (drop (r .start) s))) b
 
-  -- what the line comes to, its label aside
-  abbrev pub comes-here : Rest
-  comes-here = restFor (effectMeant (r .effect)) words c (r .end)
-
-  came : comes-here ≡ comesTo names s at words c
-  came = comes-to s at words c r h
-
-  -- A label.
   label-long : length (take (r .length) (drop (r .start) s)) ≡ r .length
   label-long = length-take (r .length) (drop (r .start) s) ∙ omega (arith, length-drop (r .start) s, h .in-text)
 
-  -- It leaves room.
-  pub scans-fits : RestFits line comes-here
-  unfolding endAt
-  scans-fits = rw came (rest-fits words c (endAt s at) line (omega (arith, w .safe .few-lines)) (w .safe .few-words) (effectAt names s at (settingsMeant c)))
+  -- what the line comes to, its label aside
+  abbrev pub comes-here : Rest
+  comes-here = restFor (effectMeant (r .effect)) (c .words) (c .config) (r .end)
 
-  pub scans-label : r .labelled ≡ true → ReadsOn names s (From from) (labelPass (r .start) (r .length) words line (from .labels) comes-here)
+  came : comes-here ≡ comesTo names s (c .at) (c .words) (c .config)
+  came = comes-to s (c .at) (c .words) (c .config) r h
+
+  -- It leaves room.
+  fits : RestFits (c .line) comes-here
+  unfolding endAt
+  fits = rw came (rest-fits (c .words) (c .config) (endAt s (c .at)) (c .line) (omega (arith, w .safe .few-lines)) (w .safe .few-words) (effectAt names s (c .at) (settingsMeant (c .config))))
+
+  -- A label.
+  pub scans-label : r .labelled ≡ true → ReadsOn names s (From from) (labelPass (r .start) (r .length) (c .words) (c .line) (c .labels) comes-here)
   scans-label b =
-      let (rest, q) = line-split s at (w .safe .in-text) in
-      let u = take (r .length) (drop (r .start) s) in
       record {
         answer =
-            ap₂ (λ (n : ℕ) (x : Rest). labelPass n (r .length) words line (from .labels) x) (h .starts) came
-            ∙ ap (λ (n : ℕ). labelPass (at + indent (restAt s at)) n words line (from .labels) (comesTo names s at words c)) (sym label-long)
-            ∙ sym (scanned-label names s (from .labels) line words c at rest u (label-is b)) ∙ ap (scanned names (from .labels) line words c at) (sym q) ∙ w .same;
+            ap₂ (λ (n : ℕ) (x : Rest). labelPass n (r .length) (c .words) (c .line) (c .labels) x) (h .starts) came
+            ∙ ap (λ (n : ℕ). labelPass (c .at + indent (restAt s (c .at))) n (c .words) (c .line) (c .labels) (comesTo names s (c .at) (c .words) (c .config))) (sym label-long)
+            ∙ sym (from-label names s c (w .safe .in-text) (take (r .length) (drop (r .start) s)) (label-is b)) ∙ w .same;
         sound =
             record {
               short = w .safe .short;
@@ -416,92 +451,59 @@ module _ {names : List Name} {s : List ℕ} {from : Cursor} {at line words : ℕ
               near = omega (arith, w .safe .few-words);
               line-fits = omega (arith, w .safe .few-lines, w .safe .in-text);
               few-labels = w .safe .few-labels;
-              rest-fits = scans-fits;
+              rest-fits = fits;
             };
         after = w .after;
       }
 
-  module _ (b : r .labelled ≡ false) where
-    -- A refusal.
-    pub scans-refused : {n : ℕ} → comes-here ≡ Refused n → ReadsOn names s (From from) (PassEnded (lineRefused n line (from .labels)))
-    scans-refused {n} k =
-        let (rest, q) = line-split s at (w .safe .in-text) in
-        record {
-          answer =
-              sym (scanned-refused names s (from .labels) line words c at rest (label-is b) n (sym came ∙ k)) ∙ ap (scanned names (from .labels) line words c at) (sym q) ∙ w .same;
-          sound = tt;
-          after = tt;
-        }
+  -- What follows the line.
+  module _ (b : r .labelled ≡ false) {n : Next} (e : n ≡ lineAfter (length s) (c .line) (c .labels) comes-here) where
+    follows-line : resumed names s n ≡ scannedFrom names s from
+    follows-line =
+        ap (resumed names s) (e ∙ ap (lineAfter (length s) (c .line) (c .labels)) came) ∙ sym (from-line names s c (w .safe .in-text) (label-is b)) ∙ w .same
 
-    module _ {words′ end : ℕ} {d : Config} (k : comes-here ≡ Done words′ d end) where
-      -- where it ends
-      pub scans-end : end ≡ endAt s at
-      scans-end = (rw (sym came ∙ k) at (rest-is words c (endAt s at) (effectAt names s at (settingsMeant c)))) .ends
+    pub scans-end : {o : Outcome} → n ≡ NextEnded o → ReadsOn names s (From from) (PassEnded o)
+    scans-end k = record { answer = rw k at follows-line; sound = tt; after = tt }
 
-      -- what follows the line
-      follows-on : (rest : List (List ℕ)) → lines (drop at s) ≡ restAt s at ∷ rest → scanned names (from .labels) (suc line) words′ d (suc end) rest ≡ scannedFrom names s from
-      follows-on rest q =
-          sym (scanned-done names s (from .labels) line words c at rest (label-is b) words′ end d (sym came ∙ k)) ∙ ap (scanned names (from .labels) line words c at) (sym q) ∙ w .same
+    -- The next line is after this one.
+    next-after : {d : Cursor} → n ≡ From d → Next-line s (c .at) (c .line) (From d)
+    unfolding endAt
+    next-after k =
+        let z = next-line-after s (c .at) (c .line) (c .labels) (w .safe .short) (omega (arith, w .safe .few-labels)) comes-here fits ends-after in
+        subst (Next-line s (c .at) (c .line)) (sym e ∙ k) z
+      where
+        ends-after : EndsAfter (c .at) comes-here
+        ends-after = rw came (done-after names s (c .at) (c .words) (c .config))
 
-      -- The last line.
-      pub scans-last : length s ≤ end → ReadsOn names s (From from) (PassEnded (finishedWith (from .labels) words′ d))
-      unfolding scanned
-      scans-last z = record { answer = follows-on [] (last-line s at (w .safe .in-text) (omega (arith, scans-end, z))); sound = tt; after = tt }
-
-      -- The next line.
-      pub scans-on : end < length s → Scanning names s from (end + 1) (line + 1) words′ d
-      scans-on z =
-          let f = rw k at scans-fits in
-          record {
-            safe =
-                record {
-                  short = w .safe .short;
-                  in-text = omega arith;
-                  few-lines = omega (arith, f .0);
-                  few-labels = omega (arith, w .safe .few-labels);
-                  few-words = f .1;
-                };
-            same =
-                rw (add-one line, add-one end)
-                (follows-on (lines (drop (suc end) s)) (line-at s at (w .safe .in-text) (omega (arith, scans-end, z)) ∙ ap (λ (n : ℕ). restAt s at ∷ lines (drop (suc n) s)) (sym scans-end)));
-            after = omega (arith, w .after);
-          }
-
+    pub scans-on : {d : Cursor} → n ≡ From d → Scanning names s from d × (c .at < d .at)
+    scans-on k =
+        let z = next-after k in
+        (record { safe = z .0; same = rw k at follows-line; after = omega (arith, w .after, z .1) }, z .2)
 -- ---- going on
 
 -- A walk that has ended stays so.
 pub reads-end : {names : List Name} {s : List ℕ} {o : Outcome} → ReadsOn names s (NextEnded o) (PassEnded o)
 reads-end = record { answer = refl; sound = tt; after = tt }
 
-module _ {s : List ℕ} {p : LabelLine} where
-  pub goes-duplicate : GoesOn s p Duplicate (NextEnded (lineRefused 4 (p .line) (p .labels)))
-  goes-duplicate = record { answer = refl; sound = tt; follows = tt }
+-- A label is refused,
+pub goes-refused : {s : List ℕ} {p : LabelLine} {e : Entered} {o : Outcome} → NextEnded o ≡ followed s p e → GoesOn s p e (NextEnded o)
+goes-refused k = record { answer = k; sound = tt; follows = tt }
 
-  pub goes-full : GoesOn s p Full (NextEnded (lineRefused 5 (p .line) (p .labels)))
-  goes-full = record { answer = refl; sound = tt; follows = tt }
+-- or it is entered, and what follows the line follows.
+pub goes-line : {s : List ℕ} {p : LabelLine} {n : Next} → Sound s p → n ≡ lineAfter (length s) (p .line) (p .labels + 1) (p .rest) → GoesOn s p New n
+goes-line {s} {p} {n} d e = record { answer = e; sound = safe n on; follows = later n on }
+  where
+    any : (x : Rest) → EndsAfter 0 x
+    any (Refused m) = tt
+    any (Done words c end) = omega arith
 
-  pub goes-refused : {n : ℕ} → p .rest ≡ Refused n → GoesOn s p New (NextEnded (lineRefused n (p .line) (p .labels + 1)))
-  unfolding lineAfter
-  goes-refused k = record { answer = rw k; sound = tt; follows = tt }
+    on : Next-line s 0 (p .line) n
+    on = rw e (next-line-after s 0 (p .line) (p .labels + 1) (d .short) (d .few-labels) (p .rest) (d .rest-fits) (any (p .rest)))
 
-  module _ {words end : ℕ} {c : Config} (k : p .rest ≡ Done words c end) where
-    pub goes-last : length s ≤ end → GoesOn s p New (NextEnded (finishedWith (p .labels + 1) words c))
-    unfolding lineAfter
-    goes-last z = record { answer = rw (k, lineAfter, le-ltb end (length s) z); sound = tt; follows = tt }
+    safe : (n : Next) → Next-line s 0 (p .line) n → ScannableNext s n
+    safe (From c) z = z .0
+    safe (NextEnded o) z = tt
 
-    pub goes-line : Sound s p → end < length s → GoesOn s p New (From (record { at = end + 1; line = p .line + 1; labels = p .labels + 1; words = words; config = c }))
-    unfolding lineAfter
-    goes-line d z =
-        let f = rw k at (d .rest-fits) in
-        record {
-          answer = rw (k, lineAfter, lt-ltb end (length s) z);
-          sound =
-              record {
-                short = d .short;
-                in-text = omega arith;
-                few-lines = omega (arith, f .0);
-                few-labels = omega (arith, d .few-labels);
-                few-words = f .1;
-              };
-          follows = (omega arith, refl);
-        }
+    later : (n : Next) → Next-line s 0 (p .line) n → Follows p New n
+    later (From c) z = (z .1, refl)
+    later (NextEnded o) z = tt

@@ -8,7 +8,7 @@ ghost use Rattle.text.specs.Lines.{lines};
 ghost use Rattle.image.specs.Assembling.{rustLine, most-bytes};
 ghost use Rattle.text_lexical.specs.Names.{present};
 ghost use Rattle.image_line.specs.Contracts.{Tables, effectMeant};
-ghost use Rattle.image_passes.specs.Contracts.{refusedAt, lineRefused, finishedWith, oneMore, restFor, labelPass, Sound, Scannable, ScannableNext, ReadsOn, Begins, GoesOn};
+ghost use Rattle.image_passes.specs.Contracts.{refusedAt, lineRefused, finishedWith, oneMore, restFor, labelPass, lineAfter, Sound, Scannable, ScannableNext, ReadsOn, Begins, GoesOn};
 ghost use Rattle.image_passes.specs.declared.first_pass.Next.the-variants.{From};
 use image::config::Config;
 use image_labels::label::Entered;
@@ -191,6 +191,28 @@ fn at_label(
     })
 }
 
+// What follows a line, by what it comes to, in a source of so many bytes: its refusal, the end, or the next line.
+fn after_line(size: usize, line: usize, labels: usize, rest: Rest) -> Next
+    requires { ⌜ size ≤ most-bytes ⌝ ∗ ⌜ line ≤ size + 1 ⌝ }
+    ensures { λ r. ⌜ r ≡ lineAfter size line labels rest ⌝ }
+{
+    match rest {
+        Rest::Refused(number) => Next::Ended(stopped_at(number, line, labels)),
+        Rest::Done { words, config, end } => {
+            if size <= end {
+                return Next::Ended(finished(labels, words, config));
+            }
+            Next::From(Cursor {
+                at: end + 1,
+                line: line + 1,
+                labels,
+                words,
+                config,
+            })
+        }
+    }
+}
+
 // Reads on from a line to the next label or the end.
 fn scan(
     source: &[u8],
@@ -202,32 +224,25 @@ fn scan(
     requires { ⌜ Scannable (now source) from ⌝ ∗ ⌜ Tables (now mnemonics) (now forms) (now slots) ⌝ }
     ensures { λ r. ⌜ ReadsOn present (now (source .entry)) (From from) r ⌝ }
 {
-    let mut at = from.at;
-    let mut line = from.line;
-    let mut words = from.words;
-    let mut config = from.config;
+    let mut cursor = from;
     loop {
-        let read = image_line::line::read_line(source, at, config, mnemonics, forms, slots);
+        let config = cursor.config;
+        let read = image_line::line::read_line(source, cursor.at, config, mnemonics, forms, slots);
         let effect = read.effect;
-        let rest = rest_of(effect, words, config, read.end);
+        let rest = rest_of(effect, cursor.words, config, read.end);
         if read.labelled {
-            return at_label(read.start, read.length, words, line, from.labels, rest);
+            return at_label(
+                read.start,
+                read.length,
+                cursor.words,
+                cursor.line,
+                cursor.labels,
+                rest,
+            );
         }
-        match rest {
-            Rest::Refused(number) => return Pass::Ended(stopped_at(number, line, from.labels)),
-            Rest::Done {
-                words: more,
-                config: changed,
-                end,
-            } => {
-                if source.len() <= end {
-                    return Pass::Ended(finished(from.labels, more, changed));
-                }
-                words = more;
-                config = changed;
-                at = end + 1;
-                line += 1;
-            }
+        match after_line(source.len(), cursor.line, cursor.labels, rest) {
+            Next::Ended(outcome) => return Pass::Ended(outcome),
+            Next::From(next) => cursor = next,
         }
     }
 }
@@ -286,21 +301,6 @@ pub fn go_on(source: &[u8], at: LabelLine, entered: Entered) -> Next
         Entered::Full => return Next::Ended(stopped_at(5, line, at.labels)),
         Entered::New => {}
     }
-    let labels = at.labels + 1;
     let rest = at.rest;
-    match rest {
-        Rest::Refused(number) => Next::Ended(stopped_at(number, line, labels)),
-        Rest::Done { words, config, end } => {
-            if source.len() <= end {
-                return Next::Ended(finished(labels, words, config));
-            }
-            Next::From(Cursor {
-                at: end + 1,
-                line: line + 1,
-                labels,
-                words,
-                config,
-            })
-        }
-    }
+    after_line(source.len(), line, at.labels + 1, rest)
 }
