@@ -1,3 +1,4 @@
+pub mod Starts
 pub mod Places
 pub mod Operands
 pub mod Lines

@@ -13,7 +13,7 @@ use Rattle.text_lexical.specs.Names.{Name}
 use Rattle.text_lexical.proofs.Tests.{split}
 use Rattle.text.specs.Tokens.{identifier, register, number, hex, binary, directive, comma, colon, opening, closing}
 use Rattle.text.specs.Tokens.{Token as Meant}
-use Rattle.text.specs.Lines.{indent, kept, readLine}
+use Rattle.text.specs.Lines.{kept, readLine}
 use Rattle.text.specs.Lines.{Line as Record}
 use Rattle.text.specs.NameSets.{Naming}
 use Rattle.text.specs.Places.{restAt}
@@ -31,10 +31,11 @@ use Rattle.instruction.specs.Kinds.{Kind, empty, labelled, config, ignored, pla
 use Rattle.image.specs.Assembling.{Context, nothing, setting, coding, afterLabel, readKind, readOn}
 use Rattle.image.specs.Assembling.{Effect as MeantEffect}
 use Rattle.image.specs.Contracts.{recordMeant}
-use Rattle.image_line.specs.Contracts.{effectMeant, InTable, EffectIs, endOf, LineIs, Recorded, RecordIs}
+use Rattle.image_line.specs.Contracts.{effectMeant, InTable, EffectIs, endOf, StartsAt, LineIs, Recorded, RecordIs}
 use Rattle.image_line.specs.declared.line.Effect.{Effect}
 use Rattle.image_line.specs.declared.line.Effect.the-variants.{Nothing, Faulty}
 use Rattle.image_line.specs.declared.line.Read.{Read}
+use Rattle.image_line.proofs.Starts.{starts-here}
 
 -- ---- the tokens of a record
 
@@ -213,17 +214,17 @@ two-tokens s ts count u e =
 
 -- ---- the line at a place
 
-module _ (names : List Name) (ok : Naming names) (s : List ℕ) (from : ℕ) (l : Line) (is : l ≡ recordAt names s from) (c : Context) where
-  h : LineRead names s from l
-  h = line-read names ok s from l is
+module _ (names : List Name) (ok : Naming names) (s : List ℕ) (start : ℕ) (starts : StartsAt s start) (l : Line) (is : l ≡ recordAt names s start) (c : Context) where
+  h : LineRead names s start l
+  h = line-read names ok s start l is
 
-  pub line-record : (start : ℕ) (r : Read) → l .bad ≡ false → start ≡ from + indent (restAt s from) → RecordIs s l start c r → LineIs names s from c r
+  pub line-record : (r : Read) → l .bad ≡ false → RecordIs s l start c r → LineIs names s start c r
   unfolding endOf
-  line-record start r b i q =
-      let e : readLine names (restAt s from) ≡ some (recordMeant s l) = h .means ∙ rw b in
+  line-record r b q =
+      let e : readLine names (restAt s start) ≡ some (recordMeant s l) = h .means ∙ rw b in
       record {
         reads = rw e (q .reads);
-        starts = q .starts ∙ i;
+        starts = q .starts ∙ starts-here starts;
         unlabelled = q .unlabelled;
         ends = rw (endOf, e) (q .ends ∙ h .ends b);
         in-text = q .in-text;
@@ -231,20 +232,19 @@ module _ (names : List Name) (ok : Naming names) (s : List ℕ) (from : ℕ) (l 
       }
 
   -- Its first token stands where its content starts.
-  pub first-starts : 0 < l .count → getD (l .tokens) 0 filler .start ≡ from + indent (restAt s from)
-  first-starts n = h .begins n
+  pub first-starts : 0 < l .count → getD (l .tokens) 0 filler .start ≡ start
+  first-starts n = h .begins n ∙ sym (starts-here starts)
 
   -- A line with a bad token.
-  pub line-bad : (start : ℕ) → l .bad ≡ true → start ≡ from + indent (restAt s from) → start ≤ length s
-      → LineIs names s from c (record { labelled = false; start = start; length = 0; effect = Faulty 3; end = l .end })
+  pub line-bad : l .bad ≡ true → LineIs names s start c (record { labelled = false; start = start; length = 0; effect = Faulty 3; end = l .end })
   unfolding readOn endOf
-  line-bad start b i inside =
-      let e : readLine names (restAt s from) ≡ none = h .means ∙ rw b in
+  line-bad b =
+      let e : readLine names (restAt s start) ≡ none = h .means ∙ rw b in
       record {
         reads = rw e;
-        starts = i;
+        starts = starts-here starts;
         unlabelled = λ _. refl;
-        ends = rw (endOf, e) (h .bad-ends b);
-        in-text = omega arith;
+        ends = rw (endOf, e) (h .bad-ends b ∙ starts-here starts);
+        in-text = omega (arith, starts .in-text);
         in-table = tt;
       }

@@ -196,9 +196,14 @@ labelIf false u = none
 abbrev pub readMeant : List ℕ → Read → MeantRead
 readMeant s r = record { label = labelIf (r .labelled) (take (r .length) (drop (r .start) s)); effect = effectMeant (r .effect) }
 
--- Where the line at a place ends; a bad token leaves that open, and the place itself is answered.
+-- Where the line at a place ends; a bad token leaves that open, and the start of its content is answered.
 unfoldable pub endOf : List Name → List ℕ → ℕ → ℕ
-endOf names s from = elim (readLine names (restAt s from)) [ none ↦ from | some l ↦ endAt s from ]
+endOf names s from = elim (readLine names (restAt s from)) [ none ↦ from + indent (restAt s from) | some l ↦ endAt s from ]
+
+-- The content of a line starts at a place: no margin is left before it.
+pub record StartsAt (s : List ℕ) (at : ℕ) : Type 0 where
+  pub in-text : at ≤ length s
+  pub no-indent : indent (restAt s at) ≡ 0
 
 -- The line at a place, with what those above it leave.
 pub record LineIs (names : List Name) (s : List ℕ) (from : ℕ) (c : Context) (r : Read) : Type 0 where
@@ -216,11 +221,11 @@ abbrev pub ReadsAs : List Name → List ℕ → ℕ → Read → Type 0
 ReadsAs names s from r = (c : Context) → LineIs names s from c r
 
 abbrev pub FastIs : List Name → List ℕ → ℕ → Fast → Type 0
-FastIs names s from (Instruction l start row o end) =
-    ReadsAs names s from (record { labelled = l .labelled; start = start; length = l .length; effect = Codes row o; end = end })
-FastIs names s from (Bare l start end) =
-    ReadsAs names s from (record { labelled = l .labelled; start = start; length = l .length; effect = Nothing; end = end })
-FastIs names s from NotFast = Unit {0}
+FastIs names s start (Instruction l row o end) =
+    ReadsAs names s start (record { labelled = l .labelled; start = start; length = l .length; effect = Codes row o; end = end })
+FastIs names s start (Bare l end) =
+    ReadsAs names s start (record { labelled = l .labelled; start = start; length = l .length; effect = Nothing; end = end })
+FastIs names s start NotFast = Unit {0}
 
 -- ---- a line by its record
 
