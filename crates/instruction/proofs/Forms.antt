@@ -310,6 +310,38 @@ none-marked no-mark = refl
 one-marked : {byte n : ℕ} {ms : List Place} → MarkPlaces (Is byte n) ms → (p : Place) × (MarkPlace p byte n × (ms ≡ p ∷ []))
 one-marked (one-mark {p = p} m) = (p, (m, refl))
 
+-- ---- how many tokens there are
+
+-- So many tokens are counted before an operand.
+pub record Counting (all : List Place) (n left : ℕ) : Type 0 where
+  ps : List Place
+  ahead : Ahead ps left
+  sum : n + length ps ≡ length all
+
+pub counting-begin : {all : List Place} {left : ℕ} → Ahead all left → Counting all 0 left
+counting-begin {all} a = record { ps = all; ahead = a; sum = omega arith }
+
+module _ {all : List Place} {n left : ℕ} (q : Counting all n left) where
+  pub counting-none : 0 < left → markOf (left % 8) ≡ Nothing → Counting all (n + 1) (left / 8)
+  counting-none h e =
+      let x = next-of (q .ahead) h in
+      let m = none-marked (subst (λ m. MarkPlaces m (x .marks)) e (x .mark-places)) in
+      record { ps = x .rest; ahead = x .ahead; sum = omega (arith, q .sum, ap length (rw m at (x .splits))) }
+
+  pub counting-mark : {byte k : ℕ} → 0 < left → markOf (left % 8) ≡ Is byte k → Counting all (n + 1 + 1) (left / 8)
+  counting-mark h e =
+      let x = next-of (q .ahead) h in
+      let (p, (m, l)) = one-marked (subst (λ m. MarkPlaces m (x .marks)) e (x .mark-places)) in
+      record { ps = x .rest; ahead = x .ahead; sum = omega (arith, q .sum, ap length (rw l at (x .splits))) }
+
+  pub counting-most : n ≤ length all
+  counting-most = omega (arith, q .sum)
+
+  pub counting-end : (0 < left → ⊥) → n ≡ length all
+  counting-end over = omega (arith, q .sum, ap length (none-ahead (q .ahead) over))
+
+-- ---- what has been read, by the digits
+
 -- Before an operand,
 pub record Reading (all : List Place) (pre : List Token) (count : ℕ) (rs : List Register) (w : Whole) (left : ℕ) : Type 0 where
   ps : List Place

@@ -27,9 +27,6 @@ returns c =
     let b = c .before .before .before in
     (λ s. row-refused (rowAt (b .args .row)) (b .args .form) (c .before .operand-count .result) _ _ (b .pre .1 .0) (c .before .operand-count .ensures) (c .if1 .taken), tt)
 
-six-behind-requires : tie.Need-six-behind-requires
-six-behind-requires c κs = search needs
-
 parse-operands-requires : tie.Need-parse-operands-requires
 parse-operands-requires c κs = search needs
 
@@ -40,16 +37,16 @@ enum-known-operands : tie.Need-enum-known-operands
 enum-known-operands c = search needs
 
 -- the row's operands, as they were read
-read : (c : tie.After-parse-operands) (s : List ℕ) → let b = c .before .before .before .before .before in
+read : (c : tie.After-parse-operands) (s : List ℕ) → let b = c .before .before .before .before in
     made (rowAt (b .args .row)) (operandMeant (places (rowAt (b .args .row) .form)) (c .parse-operands .result))
     ≡ readRow (rowAt (b .args .row)) (b .args .line .count - b .args .at - 1) (drop (b .args .at + 1) (firsts s (b .args .line .tokens) (b .args .line .count)))
 read c s =
-    let l = c .before .before in
+    let l = c .before in
     let n = l .before .operand-count in
     let b = l .before .before .before in
     let p = b .pre .1 in
-    row-read s (b .args .line .tokens) (b .args .at) (b .args .line .count) (p .1 .1 .1) (p .1 .1 .0) (rowAt (b .args .row)) (b .args .form) (n .result) (c .before .six-behind .result) (c .parse-operands .result)
-    (p .0) (n .ensures) (p .1 .0) (l .if1 .left) (c .before .six-behind .ensures) (c .parse-operands .ensures)
+    row-read s (b .args .line .tokens) (b .args .at) (b .args .line .count) (rowAt (b .args .row)) (b .args .form) (n .result) (c .parse-operands .result)
+    (p .0) (n .ensures) (p .1 .0) (l .if1 .left) (c .parse-operands .ensures)
 
 returns-2 : tie.Need-returns-2
 returns-2 c =
@@ -61,7 +58,7 @@ returns-3 : tie.Need-returns-3
 returns-3 c =
     let o = c .before in
     let k = o .before .before in
-    let b = k .before .before .before .before .before in
+    let b = k .before .before .before .before in
     (λ s. made-read (b .args .row) (o .operands .given .1) (read k s), b .pre .0)
 
 pub parse-row-spec : {M : Type 1} → statement M
@@ -72,7 +69,6 @@ parse-row-spec =
     sub-if1-2
     operand-count-requires
     returns
-    six-behind-requires
     parse-operands-requires
     enum-known-n
     enum-known-operands
