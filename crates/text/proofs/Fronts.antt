@@ -1,4 +1,4 @@
--- The token at a place of a text, in the code's terms: the text, the place, and where the scanner stopped.
+-- The token at a place of a text, by any set of names, in the code's terms: the text, the place, and where the scanner stopped.
 use mathlib.Core.Path.{_≡_, refl, sym, ap, _∙_}
 use Prim.Native.Nat.{ℕ, suc, _+_, _-_, _^_, _≤_, _<_}
 use native.Mathlib.Omega.{arith}
@@ -12,9 +12,9 @@ use lib.Seq.{drop-cons}
 use lib.Dec.{eqb}
 use lib.IntN.{pos}
 use borrow.Author.Tests.{eqb-true, eq-eqb, ne-eqb, lt-ltb, le-ltb, le-leb, lt-leb}
-use Rattle.text_lexical.specs.Bytes.{bytes, between, letter, digit, hexDigit, binaryDigit, mark, nameStart, namePart, every, before, run, isSome, each}
+use Rattle.text_lexical.specs.Bytes.{between, letter, digit, hexDigit, binaryDigit, mark, nameStart, namePart, before, run, isSome}
 use Rattle.text_lexical.specs.Numbers.{valueOf, minus}
-use Rattle.text_lexical.specs.Names.{Name, name, named, numbered, conventional, present}
+use Rattle.text_lexical.specs.Names.{Name, named}
 use Rattle.text_lexical.specs.Contracts.{nameMeant, nameNumber, fitting, baseOf, isDigitOf, digitsAt}
 use Rattle.text_lexical.specs.declared.number.Radix.{Radix}
 use Rattle.text_lexical.specs.declared.number.Radix.the-variants.{Binary as BinaryRadix, Decimal as DecimalRadix, Hex as HexRadix}
@@ -26,7 +26,8 @@ use Rattle.text_lexical.proofs.Tests.{split, by-test, not-true, no-both, or-lef
 use Rattle.text_lexical.proofs.Strings.{take-run, run-le, run-yes, run-no}
 use Rattle.text_lexical.proofs.Values.{fits-is, large-is}
 use Rattle.text_lexical.proofs.Registers.{register-index}
-use Rattle.text.specs.Tokens.{isIdentifier, isRegister, Class, Number, Hex, Binary, Directive, Mark, longest, Token, identifier, register, number, hex, binary, directive, within, numberToken, patternToken, registerToken, markToken, tokenOf, sized, matched, front}
+use Rattle.text.specs.Tokens.{isRegister, Class, Number, Hex, Binary, Directive, Mark, longest, Token, identifier, register, number, hex, binary, directive, within, numberToken, patternToken, registerToken, markToken, tokenOf, sized, matched, front}
+use Rattle.text.specs.NameSets.{Naming}
 use Rattle.text.specs.Contracts.{kindMeant, patternKind, kindFor, tokenAt, numberStart, IsDecimal, PrefixIs, Prefixed}
 use Rattle.text.specs.declared.lexer.Kind.{Kind}
 use Rattle.text.specs.declared.lexer.Kind.the-variants.{Identifier as IdentifierKind, Register as RegisterKind, NoRegister, Number as NumberKind, Negative}
@@ -48,71 +49,12 @@ part-cons s at e h l =
     let q : e - at ≡ suc (e - (at + 1)) = omega arith in
     rw (q, drop-cons s at 0 l, add-one at)
 
--- ---- the answers
-
-pub names-ok : each (λ n. isIdentifier (n .spelling)) present ≡ true
-unfolding each present numbered conventional name bytes isIdentifier every nameStart namePart letter digit between
-names-ok = refl
-
--- A token up to a place, whose kind is that of its meaning and its spelling.
-pub at-found : (s : List ℕ) (at e : ℕ) (k : Kind) → at ≤ e → kindFor (kindMeant k (take (e - at) (drop at s))) (take (e - at) (drop at s)) ≡ k
-    → front present (drop at s) ≡ sized (e - at) (some (kindMeant k (take (e - at) (drop at s))))
-    → Found (record { kind = k; start = at; length = e - at }) e ≡ tokenAt s at
-unfolding tokenAt sized
-at-found s at e k h f q =
-    let n : at + (e - at) ≡ e = omega arith in
-    rw (front-at present names-ok s at, q, f, n)
-
-pub at-none : (s : List ℕ) (at : ℕ) → front present (drop at s) ≡ none → Bad ≡ tokenAt s at
-unfolding tokenAt
-at-none s at q = rw (front-at present names-ok s at, q)
-
--- What the text begins with is what the scan finds.
-pub front-found : (s : List ℕ) (n : ℕ) (c : Class) → scan present s ≡ some (matching n c) → front present s ≡ sized n (tokenOf present c (take n s))
-unfolding matched matching
-front-found s n c h = front-scan present names-ok s ∙ rw h
-
-pub front-none : (s : List ℕ) → scan present s ≡ none → front present s ≡ none
-unfolding matched
-front-none s h = front-scan present names-ok s ∙ rw h
-
--- The longest match is what the scan finds.
-longest-found : (s : List ℕ) (n : ℕ) (c : Class) → scan present s ≡ some (matching n c) → longest present s (length s) ≡ some (record { size = n; class = c })
-unfolding matching
-longest-found s n c h = longest-scan present names-ok s ∙ h
-
-found-longest : (s : List ℕ) (n : ℕ) (c : Class) → longest present s (length s) ≡ some (record { size = n; class = c }) → scan present s ≡ some (matching n c)
-unfolding matching
-found-longest s n c h = sym (longest-scan present names-ok s) ∙ h
-
--- ---- a word
-
-scan-word : (b : ℕ) (t : List ℕ) → nameStart b ≡ true
-    → scan present (b ∷ t) ≡ some (matching (suc (run namePart t)) (wordClass (isRegister present (b ∷ before namePart t))))
-unfolding scan
-scan-word b t h = rw (scan, h)
-
-pub word-front : (s : List ℕ) (at e : ℕ) → at < length s → nameStart (getD s at 0) ≡ true → e ≡ at + 1 + run namePart (drop (at + 1) s)
-    → front present (drop at s)
-    ≡ sized (e - at) (tokenOf present (wordClass (isRegister present (take (e - at) (drop at s)))) (take (e - at) (drop at s)))
-word-front s at e l h q =
-    let t = drop (suc at) s in
-    let q′ : e - at ≡ suc (run namePart (drop (suc at) s)) = omega (arith, rw (add-one at) at q) in
-    rw (q′, drop-cons s at 0 l, take-run namePart t)
-    (front-found (getD s at 0 ∷ t) (suc (run namePart t)) (wordClass (isRegister present (getD s at 0 ∷ before namePart t))) (scan-word (getD s at 0) t h) ∙ rw (take-run namePart t))
+-- ---- words
 
 -- The token of a word, by the number that its name has.
 wordMeant : Option (Option ℕ) → List ℕ → Token
 wordMeant (some r) u = register r
 wordMeant none u = identifier u
-
-word-token : (u : List ℕ) → tokenOf present (wordClass (isRegister present u)) u ≡ some (wordMeant (nameNumber (named present u)) u)
-unfolding isRegister isSome tokenOf registerToken wordClass wordMeant
-word-token u = go (named present u) refl
-  where
-    go : (o : Option Name) → named present u ≡ o → tokenOf present (wordClass (isSome o)) u ≡ some (wordMeant (nameNumber o) u)
-    go none e = refl
-    go (some n) e = rw e
 
 -- A name's meaning, and the kind of token that it makes.
 abbrev pub nameKind : RegisterName → Kind
@@ -132,14 +74,7 @@ name-kind (Is r) u = ap RegisterKind (register-index r)
 name-kind NoSuch u = refl
 name-kind Other u = refl
 
-pub word-at : (s : List ℕ) (at e : ℕ) (n : RegisterName) → at < length s → nameStart (getD s at 0) ≡ true → e ≡ at + 1 + run namePart (drop (at + 1) s)
-    → nameMeant n ≡ nameNumber (named present (take (e - at) (drop at s))) → Found (record { kind = nameKind n; start = at; length = e - at }) e ≡ tokenAt s at
-word-at s at e n l h q m =
-    let u = take (e - at) (drop at s) in
-    at-found s at e (nameKind n) (omega arith) (name-kind n u)
-    (word-front s at e l h q ∙ ap (sized (e - at)) (word-token u ∙ ap (λ (o : Option (Option ℕ)). some (wordMeant o u)) (sym m) ∙ ap some (kind-word n u)))
-
--- ---- a number
+-- ---- numbers
 
 -- A byte that no number begins with.
 pub no-number-start : (b : ℕ) → numberStart b ≡ false → (digit b ≡ false) × (b ≡ 45 → ⊥)
@@ -163,28 +98,6 @@ minus-kind : (s : List ℕ) (at e n : ℕ) → at < e → at < length s → getD
     → kindFor (number (minus n)) (take (e - at) (drop at s)) ≡ Negative n
 minus-kind s at e n h l d = rw (part-cons s at e h l, d, abs-minus n)
 
-decimal-fits : (s : List ℕ) (at e v : ℕ) → at < e → e ≤ length s → digit (getD s at 0) ≡ true
-    → scan present (drop at s) ≡ some (matching (e - at) Number) → valueOf 10 (take (e - at) (drop at s)) ≡ v → v < 2 ^ 63
-    → front present (drop at s) ≡ sized (e - at) (some (number (pos v)))
-unfolding tokenOf numberToken within
-decimal-fits s at e v h l d q k m =
-    front-found (drop at s) (e - at) Number q
-    ∙ ap (sized (e - at)) (rw (part-cons s at e h (omega arith)) (go _ (rw (part-cons s at e h (omega arith)) at k)))
-  where
-    go : (u : List ℕ) → valueOf 10 (getD s at 0 ∷ u) ≡ v → numberToken (getD s at 0 ∷ u) ≡ some (number (pos v))
-    go u k′ = rw (numberToken, digit-no-minus (getD s at 0) d, k′, lt-ltb v (2 ^ 63) m)
-
-decimal-large : (s : List ℕ) (at e : ℕ) → at < e → e ≤ length s → digit (getD s at 0) ≡ true
-    → scan present (drop at s) ≡ some (matching (e - at) Number) → 2 ^ 63 ≤ valueOf 10 (take (e - at) (drop at s))
-    → front present (drop at s) ≡ none
-unfolding tokenOf numberToken within sized
-decimal-large s at e h l d q m =
-    let z : numberToken (take (e - at) (drop at s)) ≡ none = rw (part-cons s at e h (omega arith)) (go _ (rw (part-cons s at e h (omega arith)) at m)) in
-    front-found (drop at s) (e - at) Number q ∙ rw z
-  where
-    go : (u : List ℕ) → 2 ^ 63 ≤ valueOf 10 (getD s at 0 ∷ u) → numberToken (getD s at 0 ∷ u) ≡ none
-    go u m′ = rw (numberToken, digit-no-minus (getD s at 0) d, le-ltb _ (2 ^ 63) m′)
-
 digits-one : (b : ℕ) → digitScan b [] ≡ matching (suc (run digit [])) Number
 unfolding digitScan run before
 digits-one b = refl
@@ -196,51 +109,6 @@ digits-two b x h g =
     (λ t. let k = g (eqb-true b 48 t) in rw (digitScan, t, ne-eqb x 120 (k .0), ne-eqb x 98 (k .1)))
     (λ t. rw (digitScan, t))
 
--- Digits that no 0x or 0b begins
-digits-scan : (s : List ℕ) (at e : ℕ) → at < length s → digit (getD s at 0) ≡ true → e ≡ at + 1 + run digit (drop (at + 1) s)
-    → (getD s at 0 ≡ 48 → at + 1 < length s → (getD s (at + 1) 0 ≡ 120 → ⊥) × (getD s (at + 1) 0 ≡ 98 → ⊥))
-    → scan present (drop at s) ≡ some (matching (e - at) Number)
-unfolding scan
-digits-scan s at e l d q f =
-    let q′ : e - at ≡ suc (run digit (drop (suc at) s)) = omega (arith, rw (add-one at) at q) in
-    rw (q′, drop-cons s at 0 l, scan, digit-not-start (getD s at 0) d, d)
-    (ap some (split (suc at) (length s)
-    (λ m. rw (drop-cons s (suc at) 0 m) (digits-two (getD s at 0) (getD s (suc at) 0) (drop (suc (suc at)) s) (λ z. rw (← add-one at) (f z (omega arith)))))
-    (λ m. rw (drop-of-length-le s m) (digits-one (getD s at 0)))))
-
--- A minus
-scan-minus : (t : List ℕ) → scan present (45 ∷ t) ≡ atLeastOne Number (run digit t)
-unfolding scan nameStart letter digit between
-scan-minus t = refl
-
-scan-minus-none : (t : List ℕ) → run digit t ≡ 0 → scan present (45 ∷ t) ≡ none
-unfolding atLeastOne
-scan-minus-none t r = scan-minus t ∙ rw r
-
-scan-minus-some : (t : List ℕ) (n : ℕ) → run digit t ≡ suc n → scan present (45 ∷ t) ≡ some (matching (suc (suc n)) Number)
-unfolding atLeastOne
-scan-minus-some t n r = scan-minus t ∙ rw r
-
-minus-none : (s : List ℕ) (at e : ℕ) → at < length s → getD s at 0 ≡ 45 → e ≡ at + 1 + run digit (drop (at + 1) s) → e ≡ at + 1
-    → front present (drop at s) ≡ none
-minus-none s at e l b q z =
-    let r : run digit (drop (suc at) s) ≡ 0 = omega (arith, rw (add-one at) at q) in
-    rw (drop-cons s at 0 l, b) (front-none (45 ∷ drop (suc at) s) (scan-minus-none (drop (suc at) s) r))
-
-minus-front : (s : List ℕ) (at e : ℕ) → at < length s → getD s at 0 ≡ 45 → e ≡ at + 1 + run digit (drop (at + 1) s) → (e ≡ at + 1 → ⊥)
-    → front present (drop at s) ≡ sized (e - at) (numberToken (45 ∷ take (e - (at + 1)) (drop (at + 1) s)))
-unfolding tokenOf
-minus-front s at e l b q z =
-    let c = run-in digit s (at + 1) (omega (arith, add-one at)) in
-    front-found (drop at s) (e - at) Number scanned-as
-    ∙ rw (part-cons s at e (omega arith) l, b)
-  where
-    scanned-as : scan present (drop at s) ≡ some (matching (e - at) Number)
-    scanned-as =
-        let r : run digit (drop (suc at) s) ≡ suc (e - (at + 2)) = omega (arith, rw (add-one at) at q) in
-        let w : e - at ≡ suc (suc (e - (at + 2))) = omega (arith, rw (add-one at) at q) in
-        rw (w, drop-cons s at 0 l, b) (scan-minus-some (drop (suc at) s) (e - (at + 2)) r)
-
 number-minus : (u : List ℕ) (v : ℕ) → valueOf 10 u ≡ v → v ≤ 2 ^ 63 → numberToken (45 ∷ u) ≡ some (number (minus v))
 unfolding numberToken within
 number-minus u v k m = rw (numberToken, le-leb (valueOf 10 u) (2 ^ 63) (omega arith)) (ap (λ (n : ℕ). some (number (minus n))) k)
@@ -248,16 +116,6 @@ number-minus u v k m = rw (numberToken, le-leb (valueOf 10 u) (2 ^ 63) (omega ar
 number-minus-large : (u : List ℕ) → 2 ^ 63 < valueOf 10 u → numberToken (45 ∷ u) ≡ none
 unfolding numberToken within
 number-minus-large u m = rw (numberToken, lt-leb (valueOf 10 u) (2 ^ 63) m)
-
-minus-fits : (s : List ℕ) (at e v : ℕ) → at < length s → getD s at 0 ≡ 45 → e ≡ at + 1 + run digit (drop (at + 1) s) → (e ≡ at + 1 → ⊥)
-    → valueOf 10 (take (e - (at + 1)) (drop (at + 1) s)) ≡ v → v ≤ 2 ^ 63
-    → front present (drop at s) ≡ sized (e - at) (some (number (minus v)))
-minus-fits s at e v l b q z k m = minus-front s at e l b q z ∙ ap (sized (e - at)) (number-minus _ v k m)
-
-minus-large : (s : List ℕ) (at e : ℕ) → at < length s → getD s at 0 ≡ 45 → e ≡ at + 1 + run digit (drop (at + 1) s) → (e ≡ at + 1 → ⊥)
-    → 2 ^ 63 < valueOf 10 (take (e - (at + 1)) (drop (at + 1) s)) → front present (drop at s) ≡ none
-unfolding sized
-minus-large s at e l b q z m = minus-front s at e l b q z ∙ ap (sized (e - at)) (number-minus-large _ m)
 
 -- 0x and 0b
 hex-scan : (h : List ℕ) → digitScan 48 (120 ∷ h) ≡ radixOr Hex (run hexDigit h)
@@ -268,37 +126,23 @@ binary-scan : (h : List ℕ) → digitScan 48 (98 ∷ h) ≡ radixOr Binary (run
 unfolding digitScan
 binary-scan h = refl
 
-zero-first : (t : List ℕ) → scan present (48 ∷ t) ≡ some (digitScan 48 t)
-unfolding scan nameStart letter digit between
-zero-first t = refl
-
--- What the two have in common: the second byte, the class and the token class are given, with what the scan then is
-module _ (x : ℕ) (p : ℕ → Bool) (c : Class) (scan-is : (h : List ℕ) → digitScan 48 (x ∷ h) ≡ radixOr c (run p h)) where
-  radix-none : (s : List ℕ) (at e : ℕ) → at + 1 < length s → getD s at 0 ≡ 48 → getD s (at + 1) 0 ≡ x
-      → e ≡ at + 2 + run p (drop (at + 2) s) → e ≡ at + 2 → scan present (drop at s) ≡ some (matching (at + 1 - at) Number)
-  unfolding radixOr
-  radix-none s at e l b y q z =
-      let w : at + 1 - at ≡ 1 = omega arith in
-      let v : at + 2 ≡ suc (suc at) = omega arith in
-      let r : run p (drop (suc (suc at)) s) ≡ 0 = omega (arith, rw v at q) in
-      rw (w, drop-cons s at 0 (omega arith), b, drop-cons s (suc at) 0 (omega arith), rw (add-one at) at y)
-      (zero-first (x ∷ drop (suc (suc at)) s) ∙ ap some (scan-is (drop (suc (suc at)) s) ∙ ap (radixOr c) r))
-
-  radix-some : (s : List ℕ) (at e : ℕ) → at + 1 < length s → getD s at 0 ≡ 48 → getD s (at + 1) 0 ≡ x
-      → e ≡ at + 2 + run p (drop (at + 2) s) → (e ≡ at + 2 → ⊥) → scan present (drop at s) ≡ some (matching (e - at) c)
-  unfolding radixOr
-  radix-some s at e l b y q z =
-      let v : at + 2 ≡ suc (suc at) = omega arith in
-      let r : run p (drop (suc (suc at)) s) ≡ suc (e - (at + 3)) = omega (arith, rw v at q) in
-      let w : e - at ≡ suc (suc (suc (e - (at + 3)))) = omega (arith, rw v at q) in
-      rw (w, drop-cons s at 0 (omega arith), b, drop-cons s (suc at) 0 (omega arith), rw (add-one at) at y)
-      (zero-first (x ∷ drop (suc (suc at)) s) ∙ ap some (scan-is (drop (suc (suc at)) s) ∙ ap (radixOr c) r))
-
 -- What stands behind `0x`
 part-two : (s : List ℕ) (at e : ℕ) → at + 2 ≤ e → e ≤ length s → drop 2 (take (e - at) (drop at s)) ≡ take (e - (at + 2)) (drop (at + 2) s)
 part-two s at e h l =
     let v : at + 1 + 1 ≡ at + 2 = omega arith in
     rw (part-cons s at e (omega arith) (omega arith), part-cons s (at + 1) e (omega arith) (omega arith), v)
+
+pattern-fits : (make : ℕ → Token) (radix : ℕ) (u : List ℕ) (v : ℕ) → valueOf radix (drop 2 u) ≡ v → v < 2 ^ 64 → patternToken make radix u ≡ some (make v)
+unfolding patternToken within
+pattern-fits make radix u v k m = rw (k, lt-ltb v (2 ^ 64) m)
+
+pattern-large : (make : ℕ → Token) (radix : ℕ) (u : List ℕ) → 2 ^ 64 ≤ valueOf radix (drop 2 u) → patternToken make radix u ≡ none
+unfolding patternToken within
+pattern-large make radix u m = rw (le-ltb (valueOf radix (drop 2 u)) (2 ^ 64) m)
+
+zero-is-digit : (b : ℕ) → b ≡ 48 → digit b ≡ true
+unfolding digit between
+zero-is-digit b e = rw e
 
 -- ---- digits that have been read
 
@@ -328,199 +172,8 @@ module _ (radix : Radix) (s : List ℕ) (begin : ℕ) (d : Digits) (q : Digits-a
   value-large : d .value ≡ TooLarge → 2 ^ 64 ≤ valueOf (baseOf radix) (take (d .end - begin) (drop begin s))
   value-large e = large-is (valueOf (baseOf radix) (take (d .end - begin) (drop begin s))) (sym e ∙ q .value-is)
 
--- ---- decimal digits, without a sign
+-- ---- marks
 
--- No 0x or 0b begins them.
-pub decimal-here : (s : List ℕ) (at : ℕ) → at < length s → digit (getD s at 0) ≡ true
-    → (getD s at 0 ≡ 48 → at + 1 < length s → (getD s (at + 1) 0 ≡ 120 → ⊥) × (getD s (at + 1) 0 ≡ 98 → ⊥)) → IsDecimal s at
-decimal-here s at l d f =
-    let e = at + run digit (drop at s) in
-    let y = run-yes digit s at l d in
-    let q : at + run digit (drop at s) - at ≡ run digit (drop at s) = omega arith in
-    record { in-text = l; is-digit = d; is-number = rw q at (longest-found (drop at s) (at + run digit (drop at s) - at) Number (digits-scan s at (at + run digit (drop at s)) l d (rw (add-one at) (omega (arith, y))) f)) }
-
-module _ (s : List ℕ) (at : ℕ) (d : Digits) (h : IsDecimal s at) (q : Digits-are DecimalRadix s at d) where
-  some-digits : at < d .end
-  some-digits = omega (arith, q .ends, run-yes digit s at (h .in-text) (h .is-digit))
-
-  decimal-scanned : scan present (drop at s) ≡ some (matching (d .end - at) Number)
-  decimal-scanned =
-      let n : d .end - at ≡ run digit (drop at s) = omega (arith, q .ends) in
-      rw n (found-longest (drop at s) (run digit (drop at s)) Number (h .is-number))
-
-  pub decimal-found : (n : ℕ) → d .value ≡ Fits n → n < 2 ^ 63 → Found (record { kind = NumberKind n; start = at; length = d .end - at }) (d .end) ≡ tokenAt s at
-  decimal-found n e k =
-      at-found s at (d .end) (NumberKind n) (q .on) (number-kind s at (d .end) n some-digits (h .in-text) (h .is-digit))
-      (decimal-fits s at (d .end) n some-digits (q .in-text) (h .is-digit) decimal-scanned (value-fits DecimalRadix s at d q n e .0) k)
-
-  -- A value of 2^63 or more is bad, whether it fits 64 bits or not.
-  decimal-bad : 2 ^ 63 ≤ valueOf 10 (take (d .end - at) (drop at s)) → Bad ≡ tokenAt s at
-  decimal-bad k = at-none s at (decimal-large s at (d .end) some-digits (q .in-text) (h .is-digit) decimal-scanned k)
-
-  pub decimal-wide : d .value ≡ TooLarge → Bad ≡ tokenAt s at
-  decimal-wide e = decimal-bad (omega (arith, value-large DecimalRadix s at d q e))
-
-  pub decimal-over : (n : ℕ) → d .value ≡ Fits n → 2 ^ 63 ≤ n → Bad ≡ tokenAt s at
-  decimal-over n e k = decimal-bad (omega (arith, value-fits DecimalRadix s at d q n e .0))
-
--- ---- decimal digits after a sign
-
-module _ (s : List ℕ) (at : ℕ) (d : Digits) (l : at < length s) (b : getD s at 0 ≡ 45) (q : Digits-are DecimalRadix s (at + 1) d) where
-  pub minus-alone : d .end ≡ at + 1 → Bad ≡ tokenAt s at
-  minus-alone z = at-none s at (minus-none s at (d .end) l b (q .ends) z)
-
-  module _ (z : d .end ≡ at + 1 → ⊥) where
-    pub minus-found : (n : ℕ) → d .value ≡ Fits n → n ≤ 2 ^ 63 → Found (record { kind = Negative n; start = at; length = d .end - at }) (d .end) ≡ tokenAt s at
-    minus-found n e k =
-        at-found s at (d .end) (Negative n) (omega (arith, q .on)) (minus-kind s at (d .end) n (omega (arith, q .on)) l b)
-        (minus-fits s at (d .end) n l b (q .ends) z (value-fits DecimalRadix s (at + 1) d q n e .0) k)
-
-    minus-bad : 2 ^ 63 < valueOf 10 (take (d .end - (at + 1)) (drop (at + 1) s)) → Bad ≡ tokenAt s at
-    minus-bad k = at-none s at (minus-large s at (d .end) l b (q .ends) z k)
-
-    pub minus-wide : d .value ≡ TooLarge → Bad ≡ tokenAt s at
-    minus-wide e = minus-bad (omega (arith, value-large DecimalRadix s (at + 1) d q e))
-
-    pub minus-over : (n : ℕ) → d .value ≡ Fits n → 2 ^ 63 < n → Bad ≡ tokenAt s at
-    minus-over n e k = minus-bad (omega (arith, value-fits DecimalRadix s (at + 1) d q n e .0))
-
--- ---- a directive and a mark
-
-dot-first : (t : List ℕ) → scan present (46 ∷ t) ≡ dotScan t
-unfolding scan nameStart letter digit between
-dot-first t = refl
-
-pub directive-none : (s : List ℕ) (at : ℕ) → at < length s → getD s at 0 ≡ 46 → (at + 1 < length s → nameStart (getD s (at + 1) 0) ≡ false)
-    → front present (drop at s) ≡ none
-unfolding dotScan
-directive-none s at l b f =
-    rw (drop-cons s at 0 l, b) (front-none (46 ∷ drop (suc at) s) (dot-first (drop (suc at) s) ∙
-    split (suc at) (length s)
-    (λ m. rw (drop-cons s (suc at) 0 m, dotScan, rw (add-one at) at (f (omega arith))))
-    (λ m. rw (drop-of-length-le s m))))
-
-pub directive-front : (s : List ℕ) (at e : ℕ) → at + 1 < length s → getD s at 0 ≡ 46 → nameStart (getD s (at + 1) 0) ≡ true
-    → e ≡ at + 1 + 1 + run namePart (drop (at + 1 + 1) s)
-    → front present (drop at s) ≡ sized (e - at) (some (directive (drop 1 (take (e - at) (drop at s)))))
-unfolding dotScan tokenOf
-directive-front s at e l b n q =
-    let v : at + 1 + 1 ≡ suc (suc at) = omega arith in
-    let w : e - at ≡ suc (suc (run namePart (drop (suc (suc at)) s))) = omega (arith, rw v at q) in
-    front-found (drop at s) (e - at) Directive
-    (rw (w, drop-cons s at 0 (omega arith), b, drop-cons s (suc at) 0 (omega arith))
-    (dot-first (getD s (suc at) 0 ∷ drop (suc (suc at)) s) ∙ rw (dotScan, rw (add-one at) at n)))
-
-scan-mark : (b : ℕ) (t : List ℕ) → nameStart b ≡ false → digit b ≡ false → (b ≡ 45 → ⊥) → (b ≡ 46 → ⊥) → mark b ≡ true → scan present (b ∷ t) ≡ some (matching 1 Mark)
-unfolding scan
-scan-mark b t n d m p k = rw (scan, n, d, ne-eqb b 45 m, ne-eqb b 46 p, k)
-
-scan-bad : (b : ℕ) (t : List ℕ) → nameStart b ≡ false → digit b ≡ false → (b ≡ 45 → ⊥) → (b ≡ 46 → ⊥) → mark b ≡ false → scan present (b ∷ t) ≡ none
-unfolding scan
-scan-bad b t n d m p k = rw (scan, n, d, ne-eqb b 45 m, ne-eqb b 46 p, k)
-
-pub mark-none : (s : List ℕ) (at : ℕ) → at < length s → nameStart (getD s at 0) ≡ false → digit (getD s at 0) ≡ false
-    → (getD s at 0 ≡ 45 → ⊥) → (getD s at 0 ≡ 46 → ⊥) → mark (getD s at 0) ≡ false → front present (drop at s) ≡ none
-mark-none s at l n d m p k = rw (drop-cons s at 0 l) (front-none _ (scan-bad (getD s at 0) (drop (suc at) s) n d m p k))
-
-pub mark-front : (s : List ℕ) (at : ℕ) (t : Token) → at < length s → nameStart (getD s at 0) ≡ false → digit (getD s at 0) ≡ false
-    → (getD s at 0 ≡ 45 → ⊥) → (getD s at 0 ≡ 46 → ⊥) → mark (getD s at 0) ≡ true → markToken (getD s at 0 ∷ []) ≡ some t
-    → front present (drop at s) ≡ sized 1 (some t)
-unfolding tokenOf
-mark-front s at t l n d m p k e =
-    rw (drop-cons s at 0 l) (front-found (getD s at 0 ∷ drop (suc at) s) 1 Mark (scan-mark (getD s at 0) (drop (suc at) s) n d m p k) ∙ ap (sized 1) e)
-
--- ---- what `0x` and `0b` mean
-
-pattern-fits : (make : ℕ → Token) (radix : ℕ) (u : List ℕ) (v : ℕ) → valueOf radix (drop 2 u) ≡ v → v < 2 ^ 64 → patternToken make radix u ≡ some (make v)
-unfolding patternToken within
-pattern-fits make radix u v k m = rw (k, lt-ltb v (2 ^ 64) m)
-
-pattern-large : (make : ℕ → Token) (radix : ℕ) (u : List ℕ) → 2 ^ 64 ≤ valueOf radix (drop 2 u) → patternToken make radix u ≡ none
-unfolding patternToken within
-pattern-large make radix u m = rw (le-ltb (valueOf radix (drop 2 u)) (2 ^ 64) m)
-
-module _ (c : Class) (make : ℕ → Token) (radix : ℕ) (token-is : (u : List ℕ) → tokenOf present c u ≡ patternToken make radix u) where
-  radix-fits : (s : List ℕ) (at e v : ℕ) → at + 2 ≤ e → e ≤ length s → scan present (drop at s) ≡ some (matching (e - at) c)
-      → valueOf radix (take (e - (at + 2)) (drop (at + 2) s)) ≡ v → v < 2 ^ 64
-      → front present (drop at s) ≡ sized (e - at) (some (make v))
-  radix-fits s at e v h l q k m =
-      front-found (drop at s) (e - at) c q
-      ∙ ap (sized (e - at)) (token-is (take (e - at) (drop at s)) ∙ pattern-fits make radix _ v (ap (valueOf radix) (part-two s at e h l) ∙ k) m)
-
-  radix-large : (s : List ℕ) (at e : ℕ) → at + 2 ≤ e → e ≤ length s → scan present (drop at s) ≡ some (matching (e - at) c)
-      → 2 ^ 64 ≤ valueOf radix (take (e - (at + 2)) (drop (at + 2) s)) → front present (drop at s) ≡ none
-  unfolding sized
-  radix-large s at e h l q m =
-      front-found (drop at s) (e - at) c q
-      ∙ ap (sized (e - at)) (token-is (take (e - at) (drop at s)) ∙ pattern-large make radix _ (rw (part-two s at e h l) m))
-
-hex-means : (u : List ℕ) → tokenOf present Hex u ≡ patternToken hex 16 u
-unfolding tokenOf
-hex-means u = refl
-
-binary-means : (u : List ℕ) → tokenOf present Binary u ≡ patternToken binary 2 u
-unfolding tokenOf
-binary-means u = refl
-
-zero-is-digit : (b : ℕ) → b ≡ 48 → digit b ≡ true
-unfolding digit between
-zero-is-digit b e = rw e
-
--- ---- digits after `0x` and `0b`: one argument for both
-
--- What a radix' prefix, class and token are.
-record Pattern (radix : Radix) (x : ℕ) : Type 0 where
-  class : Class
-  make : ℕ → Token
-  scan-is : (h : List ℕ) → digitScan 48 (x ∷ h) ≡ radixOr class (run (isDigitOf radix) h)
-  token-is : (u : List ℕ) → tokenOf present class u ≡ patternToken make (baseOf radix) u
-  kind-meant : (n : ℕ) (u : List ℕ) → kindMeant (patternKind radix n) u ≡ make n
-  kind-for : (n : ℕ) (u : List ℕ) → kindFor (make n) u ≡ patternKind radix n
-  no-digit : digit x ≡ false
-
-hex-pattern : Pattern HexRadix 120
-unfolding digit between
-hex-pattern = record { class = Hex; make = hex; scan-is = hex-scan; token-is = hex-means; kind-meant = λ n u. refl; kind-for = λ n u. refl; no-digit = refl }
-
-binary-pattern : Pattern BinaryRadix 98
-unfolding digit between
-binary-pattern = record { class = Binary; make = binary; scan-is = binary-scan; token-is = binary-means; kind-meant = λ n u. refl; kind-for = λ n u. refl; no-digit = refl }
-
-pattern-of : (radix : Radix) (b : ℕ) → PrefixIs radix b → Pattern radix b
-pattern-of HexRadix b e = rw e hex-pattern
-pattern-of BinaryRadix b e = rw e binary-pattern
-pattern-of DecimalRadix b e = absurd e
-
-module _ (s : List ℕ) (at : ℕ) (radix : Radix) (d : Digits) (h : Prefixed s at radix) (q : Digits-are radix s (at + 2) d) where
-  abbrev here : Pattern radix (getD s (at + 1) 0)
-  here = pattern-of radix (getD s (at + 1) 0) (h .is-prefix)
-
-  -- No digit follows: `0` is the token.
-  pub prefix-alone : d .end ≡ at + 2 → IsDecimal s at
-  prefix-alone z =
-      let m = radix-none (getD s (at + 1) 0) (isDigitOf radix) (here .class) (here .scan-is) s at (d .end) (h .in-text) (h .is-zero) refl (q .ends) z in
-      let o = zero-is-digit _ (h .is-zero) in
-      let y = run-yes digit s at (omega (arith, h .in-text)) o in
-      let n = run-no digit s (at + 1) (h .in-text) (here .no-digit) in
-      let w : at + 1 - at ≡ run digit (drop at s) = omega (arith, rw (add-one at) at n, y) in
-      record { in-text = omega (arith, h .in-text); is-digit = o; is-number = rw w at (longest-found (drop at s) (at + 1 - at) Number m) }
-
-  module _ (z : d .end ≡ at + 2 → ⊥) where
-    scanned : scan present (drop at s) ≡ some (matching (d .end - at) (here .class))
-    scanned = radix-some (getD s (at + 1) 0) (isDigitOf radix) (here .class) (here .scan-is) s at (d .end) (h .in-text) (h .is-zero) refl (q .ends) z
-
-    pub prefix-found : (n : ℕ) → d .value ≡ Fits n → Found (record { kind = patternKind radix n; start = at; length = d .end - at }) (d .end) ≡ tokenAt s at
-    prefix-found n e =
-        let u = take (d .end - at) (drop at s) in
-        let (v, k) = value-fits radix s (at + 2) d q n e in
-        at-found s at (d .end) (patternKind radix n) (omega (arith, q .on)) (rw (here .kind-meant n u) (here .kind-for n u))
-        (rw (here .kind-meant n u) (radix-fits (here .class) (here .make) (baseOf radix) (here .token-is) s at (d .end) n (q .on) (q .in-text) scanned v k))
-
-    pub prefix-wide : d .value ≡ TooLarge → Bad ≡ tokenAt s at
-    prefix-wide e =
-        at-none s at (radix-large (here .class) (here .make) (baseOf radix) (here .token-is) s at (d .end) (q .on) (q .in-text) scanned (value-large radix s (at + 2) d q e))
-
--- The marks
 pub mark-yes : (b : ℕ) → (b ≡ 44) ⊎ ((b ≡ 58) ⊎ ((b ≡ 40) ⊎ (b ≡ 41))) → mark b ≡ true
 unfolding mark
 mark-yes b (inl e) = rw e
@@ -534,3 +187,354 @@ mark-no b f g h k = rw (ne-eqb b 44 f, ne-eqb b 58 g, ne-eqb b 40 h, ne-eqb b 41
 
 pub mark-token : (b k : ℕ) (t : Token) → b ≡ k → markToken (k ∷ []) ≡ some t → markToken (b ∷ []) ≡ some t
 mark-token b k t e h = rw e h
+
+-- ---- what the scan finds, by any set of names
+
+module _ (names : List Name) where
+  scan-word : (b : ℕ) (t : List ℕ) → nameStart b ≡ true
+      → scan names (b ∷ t) ≡ some (matching (suc (run namePart t)) (wordClass (isRegister names (b ∷ before namePart t))))
+  unfolding scan
+  scan-word b t h = rw (scan, h)
+
+  word-token : (u : List ℕ) → tokenOf names (wordClass (isRegister names u)) u ≡ some (wordMeant (nameNumber (named names u)) u)
+  unfolding isRegister isSome tokenOf registerToken wordClass wordMeant
+  word-token u = go (named names u) refl
+    where
+      go : (o : Option Name) → named names u ≡ o → tokenOf names (wordClass (isSome o)) u ≡ some (wordMeant (nameNumber o) u)
+      go none e = refl
+      go (some n) e = rw e
+
+  -- Digits that no 0x or 0b begins
+  digits-scan : (s : List ℕ) (at e : ℕ) → at < length s → digit (getD s at 0) ≡ true → e ≡ at + 1 + run digit (drop (at + 1) s)
+      → (getD s at 0 ≡ 48 → at + 1 < length s → (getD s (at + 1) 0 ≡ 120 → ⊥) × (getD s (at + 1) 0 ≡ 98 → ⊥))
+      → scan names (drop at s) ≡ some (matching (e - at) Number)
+  unfolding scan
+  digits-scan s at e l d q f =
+      let q′ : e - at ≡ suc (run digit (drop (suc at) s)) = omega (arith, rw (add-one at) at q) in
+      rw (q′, drop-cons s at 0 l, scan, digit-not-start (getD s at 0) d, d)
+      (ap some (split (suc at) (length s)
+      (λ m. rw (drop-cons s (suc at) 0 m) (digits-two (getD s at 0) (getD s (suc at) 0) (drop (suc (suc at)) s) (λ z. rw (← add-one at) (f z (omega arith)))))
+      (λ m. rw (drop-of-length-le s m) (digits-one (getD s at 0)))))
+
+  -- A minus
+  scan-minus : (t : List ℕ) → scan names (45 ∷ t) ≡ atLeastOne Number (run digit t)
+  unfolding scan nameStart letter digit between
+  scan-minus t = refl
+
+  scan-minus-none : (t : List ℕ) → run digit t ≡ 0 → scan names (45 ∷ t) ≡ none
+  unfolding atLeastOne
+  scan-minus-none t r = scan-minus t ∙ rw r
+
+  scan-minus-some : (t : List ℕ) (n : ℕ) → run digit t ≡ suc n → scan names (45 ∷ t) ≡ some (matching (suc (suc n)) Number)
+  unfolding atLeastOne
+  scan-minus-some t n r = scan-minus t ∙ rw r
+
+  zero-first : (t : List ℕ) → scan names (48 ∷ t) ≡ some (digitScan 48 t)
+  unfolding scan nameStart letter digit between
+  zero-first t = refl
+
+  -- What the two have in common: the second byte, the class and the token class are given, with what the scan then is
+  module _ (x : ℕ) (p : ℕ → Bool) (c : Class) (scan-is : (h : List ℕ) → digitScan 48 (x ∷ h) ≡ radixOr c (run p h)) where
+    radix-none : (s : List ℕ) (at e : ℕ) → at + 1 < length s → getD s at 0 ≡ 48 → getD s (at + 1) 0 ≡ x
+        → e ≡ at + 2 + run p (drop (at + 2) s) → e ≡ at + 2 → scan names (drop at s) ≡ some (matching (at + 1 - at) Number)
+    unfolding radixOr
+    radix-none s at e l b y q z =
+        let w : at + 1 - at ≡ 1 = omega arith in
+        let v : at + 2 ≡ suc (suc at) = omega arith in
+        let r : run p (drop (suc (suc at)) s) ≡ 0 = omega (arith, rw v at q) in
+        rw (w, drop-cons s at 0 (omega arith), b, drop-cons s (suc at) 0 (omega arith), rw (add-one at) at y)
+        (zero-first (x ∷ drop (suc (suc at)) s) ∙ ap some (scan-is (drop (suc (suc at)) s) ∙ ap (radixOr c) r))
+
+    radix-some : (s : List ℕ) (at e : ℕ) → at + 1 < length s → getD s at 0 ≡ 48 → getD s (at + 1) 0 ≡ x
+        → e ≡ at + 2 + run p (drop (at + 2) s) → (e ≡ at + 2 → ⊥) → scan names (drop at s) ≡ some (matching (e - at) c)
+    unfolding radixOr
+    radix-some s at e l b y q z =
+        let v : at + 2 ≡ suc (suc at) = omega arith in
+        let r : run p (drop (suc (suc at)) s) ≡ suc (e - (at + 3)) = omega (arith, rw v at q) in
+        let w : e - at ≡ suc (suc (suc (e - (at + 3)))) = omega (arith, rw v at q) in
+        rw (w, drop-cons s at 0 (omega arith), b, drop-cons s (suc at) 0 (omega arith), rw (add-one at) at y)
+        (zero-first (x ∷ drop (suc (suc at)) s) ∙ ap some (scan-is (drop (suc (suc at)) s) ∙ ap (radixOr c) r))
+
+  dot-first : (t : List ℕ) → scan names (46 ∷ t) ≡ dotScan t
+  unfolding scan nameStart letter digit between
+  dot-first t = refl
+
+  scan-mark : (b : ℕ) (t : List ℕ) → nameStart b ≡ false → digit b ≡ false → (b ≡ 45 → ⊥) → (b ≡ 46 → ⊥) → mark b ≡ true → scan names (b ∷ t) ≡ some (matching 1 Mark)
+  unfolding scan
+  scan-mark b t n d m p k = rw (scan, n, d, ne-eqb b 45 m, ne-eqb b 46 p, k)
+
+  scan-bad : (b : ℕ) (t : List ℕ) → nameStart b ≡ false → digit b ≡ false → (b ≡ 45 → ⊥) → (b ≡ 46 → ⊥) → mark b ≡ false → scan names (b ∷ t) ≡ none
+  unfolding scan
+  scan-bad b t n d m p k = rw (scan, n, d, ne-eqb b 45 m, ne-eqb b 46 p, k)
+
+  hex-means : (u : List ℕ) → tokenOf names Hex u ≡ patternToken hex 16 u
+  unfolding tokenOf
+  hex-means u = refl
+
+  binary-means : (u : List ℕ) → tokenOf names Binary u ≡ patternToken binary 2 u
+  unfolding tokenOf
+  binary-means u = refl
+
+  -- What a radix' prefix, class and token are.
+  record Pattern (radix : Radix) (x : ℕ) : Type 0 where
+    class : Class
+    make : ℕ → Token
+    scan-is : (h : List ℕ) → digitScan 48 (x ∷ h) ≡ radixOr class (run (isDigitOf radix) h)
+    token-is : (u : List ℕ) → tokenOf names class u ≡ patternToken make (baseOf radix) u
+    kind-meant : (n : ℕ) (u : List ℕ) → kindMeant (patternKind radix n) u ≡ make n
+    kind-for : (n : ℕ) (u : List ℕ) → kindFor (make n) u ≡ patternKind radix n
+    no-digit : digit x ≡ false
+
+  hex-pattern : Pattern HexRadix 120
+  unfolding digit between
+  hex-pattern = record { class = Hex; make = hex; scan-is = hex-scan; token-is = hex-means; kind-meant = λ n u. refl; kind-for = λ n u. refl; no-digit = refl }
+
+  binary-pattern : Pattern BinaryRadix 98
+  unfolding digit between
+  binary-pattern = record { class = Binary; make = binary; scan-is = binary-scan; token-is = binary-means; kind-meant = λ n u. refl; kind-for = λ n u. refl; no-digit = refl }
+
+  pattern-of : (radix : Radix) (b : ℕ) → PrefixIs radix b → Pattern radix b
+  pattern-of HexRadix b e = rw e hex-pattern
+  pattern-of BinaryRadix b e = rw e binary-pattern
+  pattern-of DecimalRadix b e = absurd e
+
+  module _ (ok : Naming names) where
+    -- ---- the answers
+
+    -- A token up to a place, whose kind is that of its meaning and its spelling.
+    pub at-found : (s : List ℕ) (at e : ℕ) (k : Kind) → at ≤ e → kindFor (kindMeant k (take (e - at) (drop at s))) (take (e - at) (drop at s)) ≡ k
+        → front names (drop at s) ≡ sized (e - at) (some (kindMeant k (take (e - at) (drop at s))))
+        → Found (record { kind = k; start = at; length = e - at }) e ≡ tokenAt names s at
+    unfolding tokenAt sized
+    at-found s at e k h f q =
+        let n : at + (e - at) ≡ e = omega arith in
+        rw (front-at names (ok .identifiers) s at, q, f, n)
+
+    pub at-none : (s : List ℕ) (at : ℕ) → front names (drop at s) ≡ none → Bad ≡ tokenAt names s at
+    unfolding tokenAt
+    at-none s at q = rw (front-at names (ok .identifiers) s at, q)
+
+    -- What the text begins with is what the scan finds.
+    pub front-found : (s : List ℕ) (n : ℕ) (c : Class) → scan names s ≡ some (matching n c) → front names s ≡ sized n (tokenOf names c (take n s))
+    unfolding matched matching
+    front-found s n c h = front-scan names (ok .identifiers) s ∙ rw h
+
+    pub front-none : (s : List ℕ) → scan names s ≡ none → front names s ≡ none
+    unfolding matched
+    front-none s h = front-scan names (ok .identifiers) s ∙ rw h
+
+    -- The longest match is what the scan finds.
+    longest-found : (s : List ℕ) (n : ℕ) (c : Class) → scan names s ≡ some (matching n c) → longest names s (length s) ≡ some (record { size = n; class = c })
+    unfolding matching
+    longest-found s n c h = longest-scan names (ok .identifiers) s ∙ h
+
+    found-longest : (s : List ℕ) (n : ℕ) (c : Class) → longest names s (length s) ≡ some (record { size = n; class = c }) → scan names s ≡ some (matching n c)
+    unfolding matching
+    found-longest s n c h = sym (longest-scan names (ok .identifiers) s) ∙ h
+
+    -- ---- a word
+
+    pub word-front : (s : List ℕ) (at e : ℕ) → at < length s → nameStart (getD s at 0) ≡ true → e ≡ at + 1 + run namePart (drop (at + 1) s)
+        → front names (drop at s)
+        ≡ sized (e - at) (tokenOf names (wordClass (isRegister names (take (e - at) (drop at s)))) (take (e - at) (drop at s)))
+    word-front s at e l h q =
+        let t = drop (suc at) s in
+        let q′ : e - at ≡ suc (run namePart (drop (suc at) s)) = omega (arith, rw (add-one at) at q) in
+        rw (q′, drop-cons s at 0 l, take-run namePart t)
+        (front-found (getD s at 0 ∷ t) (suc (run namePart t)) (wordClass (isRegister names (getD s at 0 ∷ before namePart t))) (scan-word (getD s at 0) t h) ∙ rw (take-run namePart t))
+
+    pub word-at : (s : List ℕ) (at e : ℕ) (n : RegisterName) → at < length s → nameStart (getD s at 0) ≡ true → e ≡ at + 1 + run namePart (drop (at + 1) s)
+        → nameMeant n ≡ nameNumber (named names (take (e - at) (drop at s))) → Found (record { kind = nameKind n; start = at; length = e - at }) e ≡ tokenAt names s at
+    word-at s at e n l h q m =
+        let u = take (e - at) (drop at s) in
+        at-found s at e (nameKind n) (omega arith) (name-kind n u)
+        (word-front s at e l h q ∙ ap (sized (e - at)) (word-token u ∙ ap (λ (o : Option (Option ℕ)). some (wordMeant o u)) (sym m) ∙ ap some (kind-word n u)))
+
+    -- ---- a number
+
+    decimal-fits : (s : List ℕ) (at e v : ℕ) → at < e → e ≤ length s → digit (getD s at 0) ≡ true
+        → scan names (drop at s) ≡ some (matching (e - at) Number) → valueOf 10 (take (e - at) (drop at s)) ≡ v → v < 2 ^ 63
+        → front names (drop at s) ≡ sized (e - at) (some (number (pos v)))
+    unfolding tokenOf numberToken within
+    decimal-fits s at e v h l d q k m =
+        front-found (drop at s) (e - at) Number q
+        ∙ ap (sized (e - at)) (rw (part-cons s at e h (omega arith)) (go _ (rw (part-cons s at e h (omega arith)) at k)))
+      where
+        go : (u : List ℕ) → valueOf 10 (getD s at 0 ∷ u) ≡ v → numberToken (getD s at 0 ∷ u) ≡ some (number (pos v))
+        go u k′ = rw (numberToken, digit-no-minus (getD s at 0) d, k′, lt-ltb v (2 ^ 63) m)
+
+    decimal-large : (s : List ℕ) (at e : ℕ) → at < e → e ≤ length s → digit (getD s at 0) ≡ true
+        → scan names (drop at s) ≡ some (matching (e - at) Number) → 2 ^ 63 ≤ valueOf 10 (take (e - at) (drop at s))
+        → front names (drop at s) ≡ none
+    unfolding tokenOf numberToken within sized
+    decimal-large s at e h l d q m =
+        let z : numberToken (take (e - at) (drop at s)) ≡ none = rw (part-cons s at e h (omega arith)) (go _ (rw (part-cons s at e h (omega arith)) at m)) in
+        front-found (drop at s) (e - at) Number q ∙ rw z
+      where
+        go : (u : List ℕ) → 2 ^ 63 ≤ valueOf 10 (getD s at 0 ∷ u) → numberToken (getD s at 0 ∷ u) ≡ none
+        go u m′ = rw (numberToken, digit-no-minus (getD s at 0) d, le-ltb _ (2 ^ 63) m′)
+
+    minus-none : (s : List ℕ) (at e : ℕ) → at < length s → getD s at 0 ≡ 45 → e ≡ at + 1 + run digit (drop (at + 1) s) → e ≡ at + 1
+        → front names (drop at s) ≡ none
+    minus-none s at e l b q z =
+        let r : run digit (drop (suc at) s) ≡ 0 = omega (arith, rw (add-one at) at q) in
+        rw (drop-cons s at 0 l, b) (front-none (45 ∷ drop (suc at) s) (scan-minus-none (drop (suc at) s) r))
+
+    minus-front : (s : List ℕ) (at e : ℕ) → at < length s → getD s at 0 ≡ 45 → e ≡ at + 1 + run digit (drop (at + 1) s) → (e ≡ at + 1 → ⊥)
+        → front names (drop at s) ≡ sized (e - at) (numberToken (45 ∷ take (e - (at + 1)) (drop (at + 1) s)))
+    unfolding tokenOf
+    minus-front s at e l b q z =
+        let c = run-in digit s (at + 1) (omega (arith, add-one at)) in
+        front-found (drop at s) (e - at) Number scanned-as
+        ∙ rw (part-cons s at e (omega arith) l, b)
+      where
+        scanned-as : scan names (drop at s) ≡ some (matching (e - at) Number)
+        scanned-as =
+            let r : run digit (drop (suc at) s) ≡ suc (e - (at + 2)) = omega (arith, rw (add-one at) at q) in
+            let w : e - at ≡ suc (suc (e - (at + 2))) = omega (arith, rw (add-one at) at q) in
+            rw (w, drop-cons s at 0 l, b) (scan-minus-some (drop (suc at) s) (e - (at + 2)) r)
+
+    minus-fits : (s : List ℕ) (at e v : ℕ) → at < length s → getD s at 0 ≡ 45 → e ≡ at + 1 + run digit (drop (at + 1) s) → (e ≡ at + 1 → ⊥)
+        → valueOf 10 (take (e - (at + 1)) (drop (at + 1) s)) ≡ v → v ≤ 2 ^ 63
+        → front names (drop at s) ≡ sized (e - at) (some (number (minus v)))
+    minus-fits s at e v l b q z k m = minus-front s at e l b q z ∙ ap (sized (e - at)) (number-minus _ v k m)
+
+    minus-large : (s : List ℕ) (at e : ℕ) → at < length s → getD s at 0 ≡ 45 → e ≡ at + 1 + run digit (drop (at + 1) s) → (e ≡ at + 1 → ⊥)
+        → 2 ^ 63 < valueOf 10 (take (e - (at + 1)) (drop (at + 1) s)) → front names (drop at s) ≡ none
+    unfolding sized
+    minus-large s at e l b q z m = minus-front s at e l b q z ∙ ap (sized (e - at)) (number-minus-large _ m)
+
+    -- ---- decimal digits, without a sign
+
+    -- No 0x or 0b begins them.
+    pub decimal-here : (s : List ℕ) (at : ℕ) → at < length s → digit (getD s at 0) ≡ true
+        → (getD s at 0 ≡ 48 → at + 1 < length s → (getD s (at + 1) 0 ≡ 120 → ⊥) × (getD s (at + 1) 0 ≡ 98 → ⊥)) → IsDecimal names s at
+    decimal-here s at l d f =
+        let e = at + run digit (drop at s) in
+        let y = run-yes digit s at l d in
+        let q : at + run digit (drop at s) - at ≡ run digit (drop at s) = omega arith in
+        record { in-text = l; is-digit = d; is-number = rw q at (longest-found (drop at s) (at + run digit (drop at s) - at) Number (digits-scan s at (at + run digit (drop at s)) l d (rw (add-one at) (omega (arith, y))) f)) }
+
+    module _ (s : List ℕ) (at : ℕ) (d : Digits) (h : IsDecimal names s at) (q : Digits-are DecimalRadix s at d) where
+      some-digits : at < d .end
+      some-digits = omega (arith, q .ends, run-yes digit s at (h .in-text) (h .is-digit))
+
+      decimal-scanned : scan names (drop at s) ≡ some (matching (d .end - at) Number)
+      decimal-scanned =
+          let n : d .end - at ≡ run digit (drop at s) = omega (arith, q .ends) in
+          rw n (found-longest (drop at s) (run digit (drop at s)) Number (h .is-number))
+
+      pub decimal-found : (n : ℕ) → d .value ≡ Fits n → n < 2 ^ 63 → Found (record { kind = NumberKind n; start = at; length = d .end - at }) (d .end) ≡ tokenAt names s at
+      decimal-found n e k =
+          at-found s at (d .end) (NumberKind n) (q .on) (number-kind s at (d .end) n some-digits (h .in-text) (h .is-digit))
+          (decimal-fits s at (d .end) n some-digits (q .in-text) (h .is-digit) decimal-scanned (value-fits DecimalRadix s at d q n e .0) k)
+
+      -- A value of 2^63 or more is bad, whether it fits 64 bits or not.
+      decimal-bad : 2 ^ 63 ≤ valueOf 10 (take (d .end - at) (drop at s)) → Bad ≡ tokenAt names s at
+      decimal-bad k = at-none s at (decimal-large s at (d .end) some-digits (q .in-text) (h .is-digit) decimal-scanned k)
+
+      pub decimal-wide : d .value ≡ TooLarge → Bad ≡ tokenAt names s at
+      decimal-wide e = decimal-bad (omega (arith, value-large DecimalRadix s at d q e))
+
+      pub decimal-over : (n : ℕ) → d .value ≡ Fits n → 2 ^ 63 ≤ n → Bad ≡ tokenAt names s at
+      decimal-over n e k = decimal-bad (omega (arith, value-fits DecimalRadix s at d q n e .0))
+
+    -- ---- decimal digits after a sign
+
+    module _ (s : List ℕ) (at : ℕ) (d : Digits) (l : at < length s) (b : getD s at 0 ≡ 45) (q : Digits-are DecimalRadix s (at + 1) d) where
+      pub minus-alone : d .end ≡ at + 1 → Bad ≡ tokenAt names s at
+      minus-alone z = at-none s at (minus-none s at (d .end) l b (q .ends) z)
+
+      module _ (z : d .end ≡ at + 1 → ⊥) where
+        pub minus-found : (n : ℕ) → d .value ≡ Fits n → n ≤ 2 ^ 63 → Found (record { kind = Negative n; start = at; length = d .end - at }) (d .end) ≡ tokenAt names s at
+        minus-found n e k =
+            at-found s at (d .end) (Negative n) (omega (arith, q .on)) (minus-kind s at (d .end) n (omega (arith, q .on)) l b)
+            (minus-fits s at (d .end) n l b (q .ends) z (value-fits DecimalRadix s (at + 1) d q n e .0) k)
+
+        minus-bad : 2 ^ 63 < valueOf 10 (take (d .end - (at + 1)) (drop (at + 1) s)) → Bad ≡ tokenAt names s at
+        minus-bad k = at-none s at (minus-large s at (d .end) l b (q .ends) z k)
+
+        pub minus-wide : d .value ≡ TooLarge → Bad ≡ tokenAt names s at
+        minus-wide e = minus-bad (omega (arith, value-large DecimalRadix s (at + 1) d q e))
+
+        pub minus-over : (n : ℕ) → d .value ≡ Fits n → 2 ^ 63 < n → Bad ≡ tokenAt names s at
+        minus-over n e k = minus-bad (omega (arith, value-fits DecimalRadix s (at + 1) d q n e .0))
+
+    -- ---- a directive and a mark
+
+    pub directive-none : (s : List ℕ) (at : ℕ) → at < length s → getD s at 0 ≡ 46 → (at + 1 < length s → nameStart (getD s (at + 1) 0) ≡ false)
+        → front names (drop at s) ≡ none
+    unfolding dotScan
+    directive-none s at l b f =
+        rw (drop-cons s at 0 l, b) (front-none (46 ∷ drop (suc at) s) (dot-first (drop (suc at) s) ∙
+        split (suc at) (length s)
+        (λ m. rw (drop-cons s (suc at) 0 m, dotScan, rw (add-one at) at (f (omega arith))))
+        (λ m. rw (drop-of-length-le s m))))
+
+    pub directive-front : (s : List ℕ) (at e : ℕ) → at + 1 < length s → getD s at 0 ≡ 46 → nameStart (getD s (at + 1) 0) ≡ true
+        → e ≡ at + 1 + 1 + run namePart (drop (at + 1 + 1) s)
+        → front names (drop at s) ≡ sized (e - at) (some (directive (drop 1 (take (e - at) (drop at s)))))
+    unfolding dotScan tokenOf
+    directive-front s at e l b n q =
+        let v : at + 1 + 1 ≡ suc (suc at) = omega arith in
+        let w : e - at ≡ suc (suc (run namePart (drop (suc (suc at)) s))) = omega (arith, rw v at q) in
+        front-found (drop at s) (e - at) Directive
+        (rw (w, drop-cons s at 0 (omega arith), b, drop-cons s (suc at) 0 (omega arith))
+        (dot-first (getD s (suc at) 0 ∷ drop (suc (suc at)) s) ∙ rw (dotScan, rw (add-one at) at n)))
+
+    pub mark-none : (s : List ℕ) (at : ℕ) → at < length s → nameStart (getD s at 0) ≡ false → digit (getD s at 0) ≡ false
+        → (getD s at 0 ≡ 45 → ⊥) → (getD s at 0 ≡ 46 → ⊥) → mark (getD s at 0) ≡ false → front names (drop at s) ≡ none
+    mark-none s at l n d m p k = rw (drop-cons s at 0 l) (front-none _ (scan-bad (getD s at 0) (drop (suc at) s) n d m p k))
+
+    pub mark-front : (s : List ℕ) (at : ℕ) (t : Token) → at < length s → nameStart (getD s at 0) ≡ false → digit (getD s at 0) ≡ false
+        → (getD s at 0 ≡ 45 → ⊥) → (getD s at 0 ≡ 46 → ⊥) → mark (getD s at 0) ≡ true → markToken (getD s at 0 ∷ []) ≡ some t
+        → front names (drop at s) ≡ sized 1 (some t)
+    unfolding tokenOf
+    mark-front s at t l n d m p k e =
+        rw (drop-cons s at 0 l) (front-found (getD s at 0 ∷ drop (suc at) s) 1 Mark (scan-mark (getD s at 0) (drop (suc at) s) n d m p k) ∙ ap (sized 1) e)
+
+    -- ---- what `0x` and `0b` mean
+
+    module _ (c : Class) (make : ℕ → Token) (radix : ℕ) (token-is : (u : List ℕ) → tokenOf names c u ≡ patternToken make radix u) where
+      radix-fits : (s : List ℕ) (at e v : ℕ) → at + 2 ≤ e → e ≤ length s → scan names (drop at s) ≡ some (matching (e - at) c)
+          → valueOf radix (take (e - (at + 2)) (drop (at + 2) s)) ≡ v → v < 2 ^ 64
+          → front names (drop at s) ≡ sized (e - at) (some (make v))
+      radix-fits s at e v h l q k m =
+          front-found (drop at s) (e - at) c q
+          ∙ ap (sized (e - at)) (token-is (take (e - at) (drop at s)) ∙ pattern-fits make radix _ v (ap (valueOf radix) (part-two s at e h l) ∙ k) m)
+
+      radix-large : (s : List ℕ) (at e : ℕ) → at + 2 ≤ e → e ≤ length s → scan names (drop at s) ≡ some (matching (e - at) c)
+          → 2 ^ 64 ≤ valueOf radix (take (e - (at + 2)) (drop (at + 2) s)) → front names (drop at s) ≡ none
+      unfolding sized
+      radix-large s at e h l q m =
+          front-found (drop at s) (e - at) c q
+          ∙ ap (sized (e - at)) (token-is (take (e - at) (drop at s)) ∙ pattern-large make radix _ (rw (part-two s at e h l) m))
+
+    module _ (s : List ℕ) (at : ℕ) (radix : Radix) (d : Digits) (h : Prefixed s at radix) (q : Digits-are radix s (at + 2) d) where
+      abbrev here : Pattern radix (getD s (at + 1) 0)
+      here = pattern-of radix (getD s (at + 1) 0) (h .is-prefix)
+
+      -- No digit follows: `0` is the token.
+      pub prefix-alone : d .end ≡ at + 2 → IsDecimal names s at
+      prefix-alone z =
+          let m = radix-none (getD s (at + 1) 0) (isDigitOf radix) (here .class) (here .scan-is) s at (d .end) (h .in-text) (h .is-zero) refl (q .ends) z in
+          let o = zero-is-digit _ (h .is-zero) in
+          let y = run-yes digit s at (omega (arith, h .in-text)) o in
+          let n = run-no digit s (at + 1) (h .in-text) (here .no-digit) in
+          let w : at + 1 - at ≡ run digit (drop at s) = omega (arith, rw (add-one at) at n, y) in
+          record { in-text = omega (arith, h .in-text); is-digit = o; is-number = rw w at (longest-found (drop at s) (at + 1 - at) Number m) }
+
+      module _ (z : d .end ≡ at + 2 → ⊥) where
+        scanned : scan names (drop at s) ≡ some (matching (d .end - at) (here .class))
+        scanned = radix-some (getD s (at + 1) 0) (isDigitOf radix) (here .class) (here .scan-is) s at (d .end) (h .in-text) (h .is-zero) refl (q .ends) z
+
+        pub prefix-found : (n : ℕ) → d .value ≡ Fits n → Found (record { kind = patternKind radix n; start = at; length = d .end - at }) (d .end) ≡ tokenAt names s at
+        prefix-found n e =
+            let u = take (d .end - at) (drop at s) in
+            let (v, k) = value-fits radix s (at + 2) d q n e in
+            at-found s at (d .end) (patternKind radix n) (omega (arith, q .on)) (rw (here .kind-meant n u) (here .kind-for n u))
+            (rw (here .kind-meant n u) (radix-fits (here .class) (here .make) (baseOf radix) (here .token-is) s at (d .end) n (q .on) (q .in-text) scanned v k))
+
+        pub prefix-wide : d .value ≡ TooLarge → Bad ≡ tokenAt names s at
+        prefix-wide e =
+            at-none s at (radix-large (here .class) (here .make) (baseOf radix) (here .token-is) s at (d .end) (q .on) (q .in-text) scanned (value-large radix s (at + 2) d q e))

@@ -242,6 +242,10 @@ kept-more : (b : ℕ) (c : ℕ) (t : List ℕ) → keptByte b (c ∷ t) ≡ b �
 unfolding keptByte
 kept-more b c t = refl
 
+kept-nil : (b : ℕ) (t : List ℕ) → keptByte b t ≡ [] → t ≡ []
+kept-nil b [] h = refl
+kept-nil b (c ∷ t) h = let z : _≡_ {A = List ℕ} (b ∷ c ∷ t) [] = sym (kept-more b c t) ∙ h in let y : _≡_ {A = ℕ} 0 1 = cc in absurd (omega arith)
+
 kept-none : (b : ℕ) → edge b ≡ true → keptByte b [] ≡ []
 unfolding keptByte
 kept-none b h = rw (keptByte, h)
@@ -342,14 +346,14 @@ left-ended (b ∷ m) v h e =
     ∙ ap (keptByte b) (left-ended m v (every-tail margin b m h) e)
     ∙ kept-none b (margin-parts b (every-head margin b m h) .0)
 
--- Margin before a solid byte is kept.
-left-kept : (m : List ℕ) (b : ℕ) (v : List ℕ) → every margin m ≡ true → solid b ≡ true → (x : List ℕ) × (left (m ++ b ∷ v) ≡ m ++ b ∷ x)
-left-kept [] b v h e = (left v, left-solid b v e)
-left-kept (c ∷ []) b v h e =
-    (left v, left-margin c (b ∷ v) (every-head margin c [] h) ∙ ap (keptByte c) (left-solid b v e) ∙ kept-more c b (left v))
-left-kept (c ∷ d ∷ m) b v h e =
-    let (x, q) = left-kept (d ∷ m) b v (every-tail margin c (d ∷ m) h) e in
-    (x, left-margin c (d ∷ m ++ b ∷ v) (every-head margin c (d ∷ m) h) ∙ ap (keptByte c) q ∙ kept-more c d (m ++ b ∷ x))
+-- Margin before a solid byte: something is left.
+left-some : (m : List ℕ) (b : ℕ) (v : List ℕ) → every margin m ≡ true → solid b ≡ true → left (m ++ b ∷ v) ≡ [] → ⊥
+left-some [] b v h e q =
+    let z : _≡_ {A = List ℕ} (b ∷ left v) [] = sym (left-solid b v e) ∙ q in
+    let y : _≡_ {A = ℕ} 0 1 = cc in
+    absurd (omega arith)
+left-some (c ∷ m) b v h e q =
+    left-some m b v (every-tail margin c m h) e (kept-nil c (left (m ++ b ∷ v)) (sym (left-margin c (m ++ b ∷ v) (every-head margin c m h)) ∙ q))
 
 -- ---- what is read of it
 
@@ -394,10 +398,6 @@ module _ (names : List Name) (ok : each (λ n. isIdentifier (n .spelling)) names
       ∙ tokens-front names b (left t) m n (edge-blank b he) (ap (front names) (sym (left-solid b t e)) ∙ left-front (b ∷ t) ∙ h)
       ∙ ap (λ (x : List ℕ). infront m (tokens names x)) (left-drop n t (omega (arith, rw (before, e) at q))))
       (λ e. absurd (omega (arith, rw (before, e) at q)))
-
-  -- no token in front of what is left
-  left-bad : (b : ℕ) (t x : List ℕ) → left (b ∷ t) ≡ b ∷ x → blank b ≡ false → front names (b ∷ t) ≡ none → tokens names (left (b ∷ t)) ≡ none
-  left-bad b t x e h f = ap (tokens names) e ∙ tokens-bad names b x h (ap (front names) (sym e) ∙ left-front (b ∷ t) ∙ f)
 
 -- ---- at a place of a text
 
@@ -468,15 +468,9 @@ nothing-left s at l h =
         (λ m. rw (drop-drop (run margin (drop at s)) at s, drop-cons s (at + run margin (drop at s)) 0 m) (h m))
         (λ m. rw (drop-drop (run margin (drop at s)) at s, drop-of-length-le s m) tt)
 
--- Then no token is read, and what is read of a bad line is something.
+-- Then no token is read.
 pub none-read : (names : List Name) (s : List ℕ) (at : ℕ) → leftAt s at ≡ [] → tokens names (leftAt s at) ≡ some []
 none-read names s at e = ap (tokens names) e ∙ tokens-nil names
-
-pub bad-left : (names : List Name) (s : List ℕ) (at : ℕ) → tokens names (leftAt s at) ≡ none → leftAt s at ≡ [] → ⊥
-bad-left names s at h e =
-    let k : _≡_ {A = Option (List Token)} none (some []) = sym h ∙ none-read names s at e in
-    let z : _≡_ {A = ℕ} 0 1 = cc in
-    absurd (omega arith)
 
 -- No token in front of what is left.
 pub left-read-bad : (names : List Name) → each (λ n. isIdentifier (n .spelling)) names ≡ true → (s : List ℕ) (at : ℕ) → (leftAt s at ≡ [] → ⊥)
@@ -497,30 +491,18 @@ other-solid b h n k =
     let e : edge b ≡ false = rw i at h in
     rw (e, ne-eqb b 35 k)
 
--- Margin before a solid byte: the first byte is left.
-left-some : (m : List ℕ) (b : ℕ) (v : List ℕ) → every margin m ≡ true → solid b ≡ true → (c : ℕ) (u : List ℕ) → m ++ b ∷ v ≡ c ∷ u → (x : List ℕ) × (left (c ∷ u) ≡ c ∷ x)
-left-some [] b v h e c u q =
-    let z : b ≡ c = cc in
-    (left v, ap left (sym q) ∙ left-solid b v e ∙ ap (λ (y : ℕ). y ∷ left v) z)
-left-some (d ∷ m) b v h e c u q =
-    let (x, k) = left-kept (d ∷ m) b v h e in
-    let z : d ≡ c = cc in
-    (m ++ b ∷ x, ap left (sym q) ∙ k ∙ ap (λ (y : ℕ). y ∷ m ++ b ∷ x) z)
-
--- Margin before anything else, and no token in front.
-pub bad-at : (names : List Name) → each (λ n. isIdentifier (n .spelling)) names ≡ true → (s : List ℕ) (at : ℕ) → at < length s → blank (getD s at 0) ≡ false
-    → front names (drop at s) ≡ none → at + run margin (drop at s) < length s
-    → (getD s (at + run margin (drop at s)) 0 ≡ 10 → ⊥) → (getD s (at + run margin (drop at s)) 0 ≡ 35 → ⊥)
-    → tokens names (leftAt s at) ≡ none
-bad-at names ok s at l hb f m n k =
+-- Margin before anything else: something is left.
+pub something-left : (s : List ℕ) (at : ℕ) → at + run margin (drop at s) < length s
+    → (getD s (at + run margin (drop at s)) 0 ≡ 10 → ⊥) → (getD s (at + run margin (drop at s)) 0 ≡ 35 → ⊥) → leftAt s at ≡ [] → ⊥
+something-left s at m n k e =
     let t = drop at s in
     let r = run margin t in
     let g : getD t r 0 ≡ getD s (at + r) 0 = getD-drop at s r 0 in
     let stop : margin (getD s (at + r) 0) ≡ false = rw (← g) (run-stop margin t (rw (length-drop at s) (omega arith))) in
-    let q : before margin t ++ getD s (at + r) 0 ∷ drop (suc (at + r)) s ≡ getD s at 0 ∷ drop (suc at) s
-    = ap (λ (x : List ℕ). before margin t ++ x) (sym (drop-drop r at s ∙ drop-cons s (at + r) 0 m)) ∙ margin-split t ∙ drop-cons s at 0 l in
-    let (x, e) = left-some (before margin t) (getD s (at + r) 0) (drop (suc (at + r)) s) (every-run margin t) (other-solid (getD s (at + r) 0) stop n k) (getD s at 0) (drop (suc at) s) q in
-    ap (tokens names) (left-is s at) ∙ rw (drop-cons s at 0 l) (left-bad names ok (getD s at 0) (drop (suc at) s) x e hb (rw (drop-cons s at 0 l) at f))
+    let q : before margin t ++ getD s (at + r) 0 ∷ drop (suc (at + r)) s ≡ t
+    = ap (λ (x : List ℕ). before margin t ++ x) (sym (drop-drop r at s ∙ drop-cons s (at + r) 0 m)) ∙ margin-split t in
+    left-some (before margin t) (getD s (at + r) 0) (drop (suc (at + r)) s) (every-run margin t) (other-solid (getD s (at + r) 0) stop n k)
+    (ap left q ∙ sym (left-is s at) ∙ e)
 
 -- ---- the end of a line
 

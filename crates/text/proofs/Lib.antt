@@ -2,8 +2,10 @@ pub mod Scanning
 pub mod Tokens
 pub mod Lines
 pub mod Left
+pub mod Endings
 pub mod Meanings
 pub mod Fronts
 pub mod Stepping
 pub mod Recording
+pub mod NameSets
 pub mod Within

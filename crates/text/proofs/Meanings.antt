@@ -1,24 +1,25 @@
 -- A token's kind, by its meaning and its spelling, means that token again, has the sign of that spelling, and the token's number.
 use Prim.Native.Nat.{ℕ, zero, suc, _^_}
-use mathlib.Core.Path.{_≡_, refl, ap}
+use mathlib.Core.Path.{_≡_, refl, ap, _∙_}
 use native.Mathlib.Omega.{arith}
 use mathlib.Core.Bool.{Bool, true, false}
 use mathlib.Core.Option.{Option, none, some}
 use mathlib.Core.List.{List, [], _∷_}
 use lib.ListN.{take, drop, getD}
 use lib.Dec.{leb, ltb, eqb}
-use lib.IntN.{pos, natAbs}
+use lib.IntN.{ℤ, pos, natAbs}
 use borrow.Author.Tests.{ltb-true, eqb-true, eq-eqb}
-use Rattle.text_lexical.specs.Bytes.{each, same}
+use Rattle.text_lexical.specs.Bytes.{Result, value, refused, same}
 use Rattle.text_lexical.specs.Numbers.{valueOf, minus}
-use Rattle.text_lexical.specs.Names.{Name, name, named, numbered, conventional, present}
+use Rattle.text_lexical.specs.Names.{Name, named}
 use Rattle.text_lexical.proofs.Tests.{by-test, no-both}
 use Rattle.text_lexical.proofs.Strings.{found}
 use Rattle.text_lexical.proofs.Registers.{index-register}
+use Rattle.text_lexical.proofs.Numbers.{whole-meant}
 use Rattle.text.specs.Tokens.{Class, Register, Identifier, Number, Hex, Binary, Directive, Mark, Match, Token, identifier, register, number, hex, binary, directive, comma, colon, opening, closing, within, numberToken, patternToken, registerToken, markToken, tokenOf, Sized, sized, matched, front, longest}
 use Rattle.text.specs.Values.{readNumber}
-use Rattle.text.specs.NameSets.{isNumbered}
-use Rattle.text.specs.Contracts.{extracted, extractMeant, kindMeant, registerKind, kindFor}
+use Rattle.text.specs.NameSets.{isNumbered, Naming}
+use Rattle.text.specs.Contracts.{extractFor, extracted, extractMeant, kindMeant, registerKind, kindFor}
 use Rattle.text.specs.declared.lexer.Kind.{Kind}
 use Rattle.text.specs.declared.lexer.Kind.the-variants.{Identifier as IdentifierKind, Register as RegisterKind, NoRegister, Number as NumberKind, Negative, Hex as HexKind, Binary as BinaryKind, Directive as DirectiveKind, Comma, Colon, LParen, RParen}
 
@@ -35,11 +36,6 @@ no-token e = let z : _≡_ {A = ℕ} 0 1 = cc in absurd (omega arith)
 same-token : {t m : Token} → _≡_ {A = Option Token} (some t) (some m) → t ≡ m
 same-token e = cc
 
--- Each register that is named is one of sixteen.
-sixteen : each (λ n. isNumbered (n .number)) present ≡ true
-unfolding each present numbered conventional name isNumbered
-sixteen = refl
-
 -- A token's kind means the token.
 Means : Token → List ℕ → Type 0
 Means m u = kindMeant (kindFor m u) u ≡ m
@@ -48,13 +44,6 @@ register-means : (u : List ℕ) (r : Option ℕ) → isNumbered r ≡ true → M
 unfolding Means isNumbered
 register-means u none h = refl
 register-means u (some n) h = ap (λ (x : ℕ). register (some x)) (index-register n (ltb-true n 16 h))
-
-named-means : (u : List ℕ) (m : Token) (o : Option Name) → named present u ≡ o → registerToken o ≡ some m → Means m u
-unfolding registerToken named
-named-means u m none e h = absurd (no-token h)
-named-means u m (some n) e h =
-    let (p, q) = found (λ x. same (x .spelling) u) (λ x. isNumbered (x .number)) present n e sixteen in
-    rw (← same-token h) (register-means u (n .number) q)
 
 within-means : (u : List ℕ) (b : Bool) (t m : Token) → within b t ≡ some m → Means t u → Means m u
 unfolding within
@@ -87,31 +76,39 @@ mark-means (b ∷ s) m h = go (eqb b 44) (eqb b 58) (eqb b 40) h
     go false false true h = rw (← same-token h)
     go false false false h = rw (← same-token h)
 
-token-means : (c : Class) (u : List ℕ) (m : Token) → tokenOf present c u ≡ some m → Means m u
-unfolding tokenOf patternToken Means
-token-means Register u m h = named-means u m (named present u) refl h
-token-means Identifier u m h = rw (← same-token h)
-token-means Number u m h = number-means u m h
-token-means Hex u m h = within-means u _ (hex (valueOf 16 (drop 2 u))) m h refl
-token-means Binary u m h = within-means u _ (binary (valueOf 2 (drop 2 u))) m h refl
-token-means Directive u m h = rw (← same-token h)
-token-means Mark u m h = mark-means u m h
+module _ (names : List Name) (ok : Naming names) where
+  named-means : (u : List ℕ) (m : Token) (o : Option Name) → named names u ≡ o → registerToken o ≡ some m → Means m u
+  unfolding registerToken named
+  named-means u m none e h = absurd (no-token h)
+  named-means u m (some n) e h =
+      let (p, q) = found (λ x. same (x .spelling) u) (λ x. isNumbered (x .number)) names n e (ok .sixteen) in
+      rw (← same-token h) (register-means u (n .number) q)
 
--- The kind of the token that a text begins with.
-pub front-means : (s : List ℕ) (t : Sized) → front present s ≡ some t → kindMeant (kindFor (t .token) (take (t .size) s)) (take (t .size) s) ≡ t .token
-unfolding front matched Means sized
-front-means s t h = by-match (longest present s _) h
-  where
-    by-token : (n : ℕ) (c : Class) (o : Option Token) → tokenOf present c (take n s) ≡ o → sized n o ≡ some t
-        → kindMeant (kindFor (t .token) (take (t .size) s)) (take (t .size) s) ≡ t .token
-    by-token n c none e g = let z : _≡_ {A = ℕ} 0 1 = cc in absurd (omega arith)
-    by-token n c (some m) e g =
-        let q : _≡_ {A = Sized} (record { token = m; size = n }) t = cc in
-        rw (← q) (token-means c (take n s) m e)
+  token-means : (c : Class) (u : List ℕ) (m : Token) → tokenOf names c u ≡ some m → Means m u
+  unfolding tokenOf patternToken Means
+  token-means Register u m h = named-means u m (named names u) refl h
+  token-means Identifier u m h = rw (← same-token h)
+  token-means Number u m h = number-means u m h
+  token-means Hex u m h = within-means u _ (hex (valueOf 16 (drop 2 u))) m h refl
+  token-means Binary u m h = within-means u _ (binary (valueOf 2 (drop 2 u))) m h refl
+  token-means Directive u m h = rw (← same-token h)
+  token-means Mark u m h = mark-means u m h
 
-    by-match : (o : Option Match) → matched present s o ≡ some t → kindMeant (kindFor (t .token) (take (t .size) s)) (take (t .size) s) ≡ t .token
-    by-match none g = let z : _≡_ {A = ℕ} 0 1 = cc in absurd (omega arith)
-    by-match (some m) g = by-token (m .size) (m .class) (tokenOf present (m .class) (take (m .size) s)) refl g
+  -- The kind of the token that a text begins with.
+  pub front-means : (s : List ℕ) (t : Sized) → front names s ≡ some t → kindMeant (kindFor (t .token) (take (t .size) s)) (take (t .size) s) ≡ t .token
+  unfolding front matched Means sized
+  front-means s t h = by-match (longest names s _) h
+    where
+      by-token : (n : ℕ) (c : Class) (o : Option Token) → tokenOf names c (take n s) ≡ o → sized n o ≡ some t
+          → kindMeant (kindFor (t .token) (take (t .size) s)) (take (t .size) s) ≡ t .token
+      by-token n c none e g = let z : _≡_ {A = ℕ} 0 1 = cc in absurd (omega arith)
+      by-token n c (some m) e g =
+          let q : _≡_ {A = Sized} (record { token = m; size = n }) t = cc in
+          rw (← q) (token-means c (take n s) m e)
+
+      by-match : (o : Option Match) → matched names s o ≡ some t → kindMeant (kindFor (t .token) (take (t .size) s)) (take (t .size) s) ≡ t .token
+      by-match none g = let z : _≡_ {A = ℕ} 0 1 = cc in absurd (omega arith)
+      by-match (some m) g = by-token (m .size) (m .class) (tokenOf names (m .class) (take (m .size) s)) refl g
 
 -- ---- the sign
 
@@ -158,18 +155,25 @@ kind-sign m u n = ((λ e. kind-signed m u .0 (ap signed e)), (λ e. kind-signed 
 
 -- ---- the number
 
--- The number of a kind is the one that its token means.
-pub extracted-number : (k : Kind) (u : List ℕ) → extractMeant (extracted k) ≡ readNumber (kindMeant k u)
+-- What is read of a kind is the number that its token means.
+pub extracted-for : (k : Kind) (u : List ℕ) → extracted k ≡ extractFor (readNumber (kindMeant k u))
 unfolding readNumber
-extracted-number IdentifierKind u = refl
-extracted-number (RegisterKind r) u = refl
-extracted-number NoRegister u = refl
-extracted-number (NumberKind n) u = refl
-extracted-number (Negative n) u = refl
-extracted-number (HexKind n) u = refl
-extracted-number (BinaryKind n) u = refl
-extracted-number DirectiveKind u = refl
-extracted-number Comma u = refl
-extracted-number Colon u = refl
-extracted-number LParen u = refl
-extracted-number RParen u = refl
+extracted-for IdentifierKind u = refl
+extracted-for (RegisterKind r) u = refl
+extracted-for NoRegister u = refl
+extracted-for (NumberKind n) u = refl
+extracted-for (Negative n) u = refl
+extracted-for (HexKind n) u = refl
+extracted-for (BinaryKind n) u = refl
+extracted-for DirectiveKind u = refl
+extracted-for Comma u = refl
+extracted-for Colon u = refl
+extracted-for LParen u = refl
+extracted-for RParen u = refl
+
+for-meant : (o : Result ℤ) → extractMeant (extractFor o) ≡ o
+for-meant (value z) = ap value (whole-meant z)
+for-meant (refused n) = refl
+
+pub extracted-number : (k : Kind) (u : List ℕ) → extractMeant (extracted k) ≡ readNumber (kindMeant k u)
+extracted-number k u = ap extractMeant (extracted-for k u) ∙ for-meant (readNumber (kindMeant k u))

@@ -8,13 +8,14 @@ use mathlib.Core.Option.{Option, none, some}
 use lib.ListN.{length, take, drop, getD, set, replicate, length-append, length-drop, length-take, length-map, length-replicate, List·getD-append}
 use lib.Seq.{take-all, take-append-le, take-append-seam, set-at, getD-append-add, getD-drop, getD-take}
 use Rattle.text_lexical.specs.Bytes.{blank, run, inside, margin}
-use Rattle.text_lexical.specs.Names.{present}
+use Rattle.text_lexical.specs.Names.{Name}
 use Rattle.text_lexical.proofs.Tests.{split, not-true, no-both}
 use Rattle.text_lexical.proofs.Strings.{run-no, run-end, run-stop}
 use Rattle.text.specs.Tokens.{infront, tokens}
 use Rattle.text.specs.Tokens.{Token as Meant}
 use Rattle.text.specs.Lines.{indent, kept, lineOf, recordOf, readLine}
 use Rattle.text.specs.Lines.{Line as Record}
+use Rattle.text.specs.NameSets.{Naming}
 use Rattle.text.specs.Places.{restAt, leftAt, endAt}
 use Rattle.text.specs.Contracts.{meant, past, scanAt, infrontOf, followed, tokensFrom, allFrom, filler, firstKept, spoiled, lineWith, recordAt, firsts}
 use Rattle.text.specs.declared.lexer.Token.{Token}
@@ -22,7 +23,8 @@ use Rattle.text.specs.declared.lexer.Scan.{Scan}
 use Rattle.text.specs.declared.lexer.Scan.the-variants.{Found, Bad, End}
 use Rattle.text.specs.declared.parser.Line.{Line}
 use Rattle.text.proofs.Left.{blank-margin, left-byte, none-read, content-at, indent-at}
-use Rattle.text.proofs.Stepping.{margin-on, Leads, Stepped, stepped}
+use Rattle.text.proofs.Endings.{margin-on}
+use Rattle.text.proofs.Stepping.{Leads, Stepped, stepped}
 
 -- ---- the tokens of a line
 
@@ -44,18 +46,6 @@ past-end s at h = go (leftAt s at) refl
     go [] e = refl
     go (b ∷ l) e = absurd (omega (arith, left-byte s at b l e .0))
 
--- They are the tokens that are read of the line.
-tokens-from : (n : ℕ) (s : List ℕ) (at : ℕ) → length s < n + at → tokens present (leftAt s at) ≡ meantAll s (tokensFrom n s at)
-unfolding tokensFrom meantAll
-tokens-from zero s at h = none-read present s at (past-end s at (omega arith))
-tokens-from (suc n) s at h = go (scanAt s at) (stepped s at (scanAt s at) refl) (λ next l. tokens-from n s next (omega arith))
-  where
-    go : (r : Scan) → Stepped s at r → ((next : ℕ) → at < next → tokens present (leftAt s next) ≡ meantAll s (tokensFrom n s next))
-        → tokens present (leftAt s at) ≡ meantAll s (followed r (tokensFrom n s))
-    go (Found t next) p f = p .means ∙ ap (infront (meant s t)) (f next (p .leads .3)) ∙ meant-infront s t (tokensFrom n s next)
-    go Bad p f = p .means
-    go (End stop) p f = p .means
-
 -- Each takes a byte at least, and is a part of the text.
 Parts : List ℕ → List Token → Type 0
 Parts s [] = Unit {0}
@@ -64,20 +54,6 @@ Parts s (t ∷ ts) = (0 < t .length) × (t .start + t .length ≤ length s) × P
 AllParts : List ℕ → Option (List Token) → Type 0
 AllParts s none = Unit {0}
 AllParts s (some ts) = Parts s ts
-
-tokens-parts : (n : ℕ) (s : List ℕ) (at : ℕ) → AllParts s (tokensFrom n s at)
-unfolding tokensFrom AllParts Parts
-tokens-parts zero s at = tt
-tokens-parts (suc n) s at = go (scanAt s at) (stepped s at (scanAt s at) refl .leads) (tokens-parts n s)
-  where
-    infront-parts : (t : Token) (o : Option (List Token)) → 0 < t .length → t .start + t .length ≤ length s → AllParts s o → AllParts s (infrontOf t o)
-    infront-parts t none p l h = tt
-    infront-parts t (some ts) p l h = (p, l, h)
-
-    go : (r : Scan) → Leads s at r → ((next : ℕ) → AllParts s (tokensFrom n s next)) → AllParts s (followed r (tokensFrom n s))
-    go (Found t next) l f = infront-parts t (tokensFrom n s next) (l .2) (omega (arith, l .1, l .4)) (f next)
-    go Bad l f = tt
-    go (End stop) l f = tt
 
 part-at : (s : List ℕ) (ts : List Token) (i : ℕ) → Parts s ts → i < length ts → (0 < getD ts i filler .length) × (getD ts i filler .start + getD ts i filler .length ≤ length s)
 unfolding Parts
@@ -90,20 +66,6 @@ FirstAt : ℕ → Option (List Token) → Type 0
 FirstAt at none = Unit {0}
 FirstAt at (some []) = Unit {0}
 FirstAt at (some (t ∷ ts)) = t .start ≡ at
-
-first-at : (n : ℕ) (s : List ℕ) (at : ℕ) → FirstAt (past s at) (tokensFrom n s at)
-unfolding tokensFrom FirstAt
-first-at zero s at = tt
-first-at (suc n) s at = go (scanAt s at) (stepped s at (scanAt s at) refl .leads)
-  where
-    infront-first : (t : Token) (o : Option (List Token)) → t .start ≡ past s at → FirstAt (past s at) (infrontOf t o)
-    infront-first t none e = tt
-    infront-first t (some ts) e = e
-
-    go : (r : Scan) → Leads s at r → FirstAt (past s at) (followed r (tokensFrom n s))
-    go (Found t next) l = infront-first t (tokensFrom n s next) (l .0)
-    go Bad l = tt
-    go (End stop) l = tt
 
 -- ---- the places of a record
 
@@ -182,65 +144,12 @@ no-blank s from at q =
     run-no blank s at l (not-true (blank (getD s at 0)) (λ e. no-both (blank-margin (getD s at 0) e) m)))
     (λ l. run-end blank s at l)
 
--- What the record of a line has to say.
-pub record LineRead (s : List ℕ) (from : ℕ) (r : Line) : Type 0 where
-  pub means : readLine present (restAt s from) ≡ lineMeant s r
-  -- where the line ends, unless a token is bad
-  pub ends : r .bad ≡ false → r .end ≡ endAt s from
-  pub bad-ends : r .bad ≡ true → r .end ≡ from
-  -- the first token begins where the line's content does
-  pub begins : 0 < r .count → getD (r .tokens) 0 filler .start ≡ from + indent (restAt s from)
-  pub places : length (r .tokens) ≡ kept
-  -- each token is a part of the text, and each that is kept takes a byte at least
-  pub inside-text : (i : ℕ) → getD (r .tokens) i filler .start + getD (r .tokens) i filler .length ≤ length s
-  pub solid : (i : ℕ) → i < kept → i < r .count → 0 < getD (r .tokens) i filler .length
-
 -- Where the tokens begin: after the line's margin.
 abbrev begin : List ℕ → ℕ → ℕ
 begin s from = from + run margin (drop from s)
 
-line-with : (s : List ℕ) (from : ℕ) (o : Option (List Token)) → AllParts s o → FirstAt (begin s from) o
-    → readLine present (restAt s from) ≡ recordOf (meantAll s o) → LineRead s from (lineWith s from o)
-unfolding AllParts FirstAt
-line-with s from none p f e =
-    record {
-      means = e ∙ record-means s from none;
-      ends = λ h. absurd (true≢false h);
-      bad-ends = λ h. refl;
-      begins = λ h. absurd (omega arith);
-      places = refl;
-      inside-text = λ i. rw (fillers kept i) (omega arith);
-      solid = λ i h k. absurd (omega arith);
-    }
-line-with s from (some ts) p f e =
-    record {
-      means = e ∙ record-means s from (some ts);
-      ends = λ h. refl;
-      bad-ends = λ h. absurd (true≢false (sym h));
-      begins = λ h. ap (λ (t : Token). t .start) (kept-at ts 0 (omega arith) h) ∙ first ts f h ∙ ap (λ (x : ℕ). from + x) (sym (indent-at s from));
-      places = length-kept ts;
-      inside-text = λ i. split i (length (take kept ts))
-          (λ l. let n = length-take kept ts in rw (kept-at ts i (omega arith) (omega arith)) (part-at s ts i p (omega arith) .1))
-          (λ l. rw (kept-filled ts i l) (omega arith));
-      solid = λ i h k. rw (kept-at ts i h k) (part-at s ts i p k .0);
-    }
-  where
-    first : (us : List Token) → FirstAt (begin s from) (some us) → 0 < length us → getD us 0 filler .start ≡ begin s from
-    first [] g h = absurd (omega arith)
-    first (t ∷ us) g h = g
+-- ---- tokens that are read, and those to come
 
--- The record of the line from a place on says all of it.
-pub line-read : (s : List ℕ) (from : ℕ) (r : Line) → r ≡ recordAt s from → LineRead s from r
-unfolding readLine recordAt
-line-read s from r e =
-    let at = begin s from in
-    let p : past s at ≡ at = omega (arith, no-blank s from at refl) in
-    rw e (line-with s from (allFrom s at) (tokens-parts (suc (length s)) s at) (rw p at (first-at (suc (length s)) s at))
-    (ap recordOf (ap (tokens present) (content-at s from) ∙ tokens-from (suc (length s)) s at (omega arith))))
-
--- ---- the loop
-
--- Tokens that are read, and those to come.
 joined : List Token → Option (List Token) → Option (List Token)
 joined ds none = none
 joined ds (some ts) = some (ds ++ ts)
@@ -255,65 +164,167 @@ unfolding joined
 joined-more ds t none = refl
 joined-more ds t (some ts) = rw (append-assoc ds (t ∷ []) ts)
 
--- The state of the loop, after `count` tokens, at the place `at`.
-pub record Reading (s : List ℕ) (from : ℕ) (ts : List Token) (count at : ℕ) : Type 0 where
-  pub place : at ≤ length s
-  pub few : count ≤ at
-  read : List Token
-  keeps : ts ≡ firstKept read
-  counts : count ≡ length read
-  all : allFrom s (begin s from) ≡ joined read (tokensFrom (suc (length s) - count) s at)
-  ends : endAt s at ≡ endAt s from
+-- ---- by any set of names
 
-pub reading-begin : (s : List ℕ) (from at : ℕ) → from ≤ length s → at ≡ from + run margin (drop from s) → Reading s from (replicate kept filler) 0 at
-unfolding firstKept
-reading-begin s from at h q =
-    let (a, b, c) = margin-on s from at h q in
-    let n : suc (length s) - 0 ≡ suc (length s) = omega arith in
-    record {
-      place = b;
-      few = omega arith;
-      read = [];
-      keeps = refl;
-      counts = refl;
-      all = rw (n, q) (joined-none (allFrom s (begin s from)));
-      ends = c;
-    }
+module _ (names : List Name) where
+  -- ---- what a record says of its line
 
-module _ (s : List ℕ) (from : ℕ) (ts : List Token) (n at : ℕ) (r : Reading s from ts n at) where
-  -- what is found next, and what is then left
-  goes-on : (x : Scan) → x ≡ scanAt s at → allFrom s (begin s from) ≡ joined (r .read) (followed x (tokensFrom (suc (length s) - (n + 1)) s))
-  unfolding tokensFrom
-  goes-on x e =
-      let m : suc (length s) - n ≡ suc (suc (length s) - (n + 1)) = omega (arith, r .few, r .place) in
-      rw e (rw m at (r .all))
+  -- What the record of a line has to say.
+  pub record LineRead (s : List ℕ) (from : ℕ) (r : Line) : Type 0 where
+    pub means : readLine names (restAt s from) ≡ lineMeant s r
+    -- where the line ends, unless a token is bad
+    pub ends : r .bad ≡ false → r .end ≡ endAt s from
+    pub bad-ends : r .bad ≡ true → r .end ≡ from
+    -- the first token begins where the line's content does
+    pub begins : 0 < r .count → getD (r .tokens) 0 filler .start ≡ from + indent (restAt s from)
+    pub places : length (r .tokens) ≡ kept
+    -- each token is a part of the text, and each that is kept takes a byte at least
+    pub inside-text : (i : ℕ) → getD (r .tokens) i filler .start + getD (r .tokens) i filler .length ≤ length s
+    pub solid : (i : ℕ) → i < kept → i < r .count → 0 < getD (r .tokens) i filler .length
 
-  more : (us : List Token) (t : Token) (next : ℕ) → us ≡ firstKept (r .read ++ (t ∷ [])) → Found t next ≡ scanAt s at → Reading s from us (n + 1) next
-  more us t next k e =
-      let (st, sz, p, f, l, end) = stepped s at _ e .leads in
+  line-with : (s : List ℕ) (from : ℕ) (o : Option (List Token)) → AllParts s o → FirstAt (begin s from) o
+      → readLine names (restAt s from) ≡ recordOf (meantAll s o) → LineRead s from (lineWith s from o)
+  unfolding AllParts FirstAt
+  line-with s from none p f e =
       record {
-        place = l;
-        few = omega (arith, r .few);
-        read = r .read ++ (t ∷ []);
-        keeps = k;
-        counts = omega (arith, r .counts, length-append (r .read) (t ∷ []));
-        all = goes-on _ e ∙ joined-more (r .read) t (tokensFrom (suc (length s) - (n + 1)) s next);
-        ends = end ∙ r .ends;
+        means = e ∙ record-means s from none;
+        ends = λ h. absurd (true≢false h);
+        bad-ends = λ h. refl;
+        begins = λ h. absurd (omega arith);
+        places = refl;
+        inside-text = λ i. rw (fillers kept i) (omega arith);
+        solid = λ i h k. absurd (omega arith);
+      }
+  line-with s from (some ts) p f e =
+      record {
+        means = e ∙ record-means s from (some ts);
+        ends = λ h. refl;
+        bad-ends = λ h. absurd (true≢false (sym h));
+        begins = λ h. ap (λ (t : Token). t .start) (kept-at ts 0 (omega arith) h) ∙ first ts f h ∙ ap (λ (x : ℕ). from + x) (sym (indent-at s from));
+        places = length-kept ts;
+        inside-text = λ i. split i (length (take kept ts))
+            (λ l. let n = length-take kept ts in rw (kept-at ts i (omega arith) (omega arith)) (part-at s ts i p (omega arith) .1))
+            (λ l. rw (kept-filled ts i l) (omega arith));
+        solid = λ i h k. rw (kept-at ts i h k) (part-at s ts i p k .0);
+      }
+    where
+      first : (us : List Token) → FirstAt (begin s from) (some us) → 0 < length us → getD us 0 filler .start ≡ begin s from
+      first [] g h = absurd (omega arith)
+      first (t ∷ us) g h = g
+
+  -- ---- the loop
+
+  -- The state of the loop, after `count` tokens, at the place `at`.
+  pub record Reading (s : List ℕ) (from : ℕ) (ts : List Token) (count at : ℕ) : Type 0 where
+    pub place : at ≤ length s
+    pub few : count ≤ at
+    read : List Token
+    keeps : ts ≡ firstKept read
+    counts : count ≡ length read
+    all : allFrom names s (begin s from) ≡ joined read (tokensFrom names (suc (length s) - count) s at)
+    ends : endAt s at ≡ endAt s from
+
+  pub reading-begin : (s : List ℕ) (from at : ℕ) → from ≤ length s → at ≡ from + run margin (drop from s) → Reading s from (replicate kept filler) 0 at
+  unfolding firstKept
+  reading-begin s from at h q =
+      let (a, b, c) = margin-on s from at h q in
+      let n : suc (length s) - 0 ≡ suc (length s) = omega arith in
+      record {
+        place = b;
+        few = omega arith;
+        read = [];
+        keeps = refl;
+        counts = refl;
+        all = rw (n, q) (joined-none (allFrom names s (begin s from)));
+        ends = c;
       }
 
-  pub reading-store : (t : Token) (next : ℕ) → n < kept → Found t next ≡ scanAt s at → Reading s from (set ts n t) (n + 1) next
-  reading-store t next h e = more (set ts n t) t next (ap (λ (x : List Token). set x n t) (r .keeps) ∙ kept-stored (r .read) n t (r .counts) h) e
+  module _ (ok : Naming names) where
+    -- ---- the tokens of a line
 
-  pub reading-full : (t : Token) (next : ℕ) → kept ≤ n → Found t next ≡ scanAt s at → Reading s from ts (n + 1) next
-  reading-full t next h e = more ts t next (r .keeps ∙ kept-full (r .read) t (omega (arith, r .counts))) e
+    -- The tokens that are found one after the other are those that are read of the line.
+    tokens-from : (n : ℕ) (s : List ℕ) (at : ℕ) → length s < n + at → tokens names (leftAt s at) ≡ meantAll s (tokensFrom names n s at)
+    unfolding tokensFrom meantAll
+    tokens-from zero s at h = none-read names s at (past-end s at (omega arith))
+    tokens-from (suc n) s at h = go (scanAt names s at) (stepped names ok s at (scanAt names s at) refl) (λ next l. tokens-from n s next (omega arith))
+      where
+        go : (r : Scan) → Stepped names s at r → ((next : ℕ) → at < next → tokens names (leftAt s next) ≡ meantAll s (tokensFrom names n s next))
+            → tokens names (leftAt s at) ≡ meantAll s (followed r (tokensFrom names n s))
+        go (Found t next) p f = p .means ∙ ap (infront (meant s t)) (f next (p .leads .3)) ∙ meant-infront s t (tokensFrom names n s next)
+        go Bad p f = p .means
+        go (End stop) p f = p .means
 
-  pub reading-end : (stop end : ℕ) → End stop ≡ scanAt s at → end ≡ stop + run inside (drop stop s)
-      → record { tokens = ts; count = n; bad = false; end = end } ≡ recordAt s from
-  unfolding endAt restAt run recordAt joined
-  reading-end stop end e q =
-      let z : end ≡ endAt s from = q ∙ stepped s at _ e .leads (r .place) .2 ∙ r .ends in
-      rw (r .keeps, r .counts, z, goes-on _ e, append-nil (r .read))
+    tokens-parts : (n : ℕ) (s : List ℕ) (at : ℕ) → AllParts s (tokensFrom names n s at)
+    unfolding tokensFrom AllParts Parts
+    tokens-parts zero s at = tt
+    tokens-parts (suc n) s at = go (scanAt names s at) (stepped names ok s at (scanAt names s at) refl .leads) (tokens-parts n s)
+      where
+        infront-parts : (t : Token) (o : Option (List Token)) → 0 < t .length → t .start + t .length ≤ length s → AllParts s o → AllParts s (infrontOf t o)
+        infront-parts t none p l h = tt
+        infront-parts t (some ts) p l h = (p, l, h)
 
-  pub reading-bad : Bad ≡ scanAt s at → spoiled from ≡ recordAt s from
-  unfolding recordAt joined
-  reading-bad e = rw (goes-on _ e)
+        go : (r : Scan) → Leads s at r → ((next : ℕ) → AllParts s (tokensFrom names n s next)) → AllParts s (followed r (tokensFrom names n s))
+        go (Found t next) l f = infront-parts t (tokensFrom names n s next) (l .2) (omega (arith, l .1, l .4)) (f next)
+        go Bad l f = tt
+        go (End stop) l f = tt
+
+    first-at : (n : ℕ) (s : List ℕ) (at : ℕ) → FirstAt (past s at) (tokensFrom names n s at)
+    unfolding tokensFrom FirstAt
+    first-at zero s at = tt
+    first-at (suc n) s at = go (scanAt names s at) (stepped names ok s at (scanAt names s at) refl .leads)
+      where
+        infront-first : (t : Token) (o : Option (List Token)) → t .start ≡ past s at → FirstAt (past s at) (infrontOf t o)
+        infront-first t none e = tt
+        infront-first t (some ts) e = e
+
+        go : (r : Scan) → Leads s at r → FirstAt (past s at) (followed r (tokensFrom names n s))
+        go (Found t next) l = infront-first t (tokensFrom names n s next) (l .0)
+        go Bad l = tt
+        go (End stop) l = tt
+
+    -- The record of the line from a place on says all of it.
+    pub line-read : (s : List ℕ) (from : ℕ) (r : Line) → r ≡ recordAt names s from → LineRead s from r
+    unfolding readLine recordAt
+    line-read s from r e =
+        let at = begin s from in
+        let p : past s at ≡ at = omega (arith, no-blank s from at refl) in
+        rw e (line-with s from (allFrom names s at) (tokens-parts (suc (length s)) s at) (rw p at (first-at (suc (length s)) s at))
+        (ap recordOf (ap (tokens names) (content-at s from) ∙ tokens-from (suc (length s)) s at (omega arith))))
+
+    module _ (s : List ℕ) (from : ℕ) (ts : List Token) (n at : ℕ) (r : Reading s from ts n at) where
+      -- what is found next, and what is then left
+      goes-on : (x : Scan) → x ≡ scanAt names s at → allFrom names s (begin s from) ≡ joined (r .read) (followed x (tokensFrom names (suc (length s) - (n + 1)) s))
+      unfolding tokensFrom
+      goes-on x e =
+          let m : suc (length s) - n ≡ suc (suc (length s) - (n + 1)) = omega (arith, r .few, r .place) in
+          rw e (rw m at (r .all))
+
+      more : (us : List Token) (t : Token) (next : ℕ) → us ≡ firstKept (r .read ++ (t ∷ [])) → Found t next ≡ scanAt names s at → Reading s from us (n + 1) next
+      more us t next k e =
+          let (st, sz, p, f, l, end) = stepped names ok s at _ e .leads in
+          record {
+            place = l;
+            few = omega (arith, r .few);
+            read = r .read ++ (t ∷ []);
+            keeps = k;
+            counts = omega (arith, r .counts, length-append (r .read) (t ∷ []));
+            all = goes-on _ e ∙ joined-more (r .read) t (tokensFrom names (suc (length s) - (n + 1)) s next);
+            ends = end ∙ r .ends;
+          }
+
+      pub reading-store : (t : Token) (next : ℕ) → n < kept → Found t next ≡ scanAt names s at → Reading s from (set ts n t) (n + 1) next
+      reading-store t next h e = more (set ts n t) t next (ap (λ (x : List Token). set x n t) (r .keeps) ∙ kept-stored (r .read) n t (r .counts) h) e
+
+      pub reading-full : (t : Token) (next : ℕ) → kept ≤ n → Found t next ≡ scanAt names s at → Reading s from ts (n + 1) next
+      reading-full t next h e = more ts t next (r .keeps ∙ kept-full (r .read) t (omega (arith, r .counts))) e
+
+      pub reading-end : (stop end : ℕ) → End stop ≡ scanAt names s at → end ≡ stop + run inside (drop stop s)
+          → record { tokens = ts; count = n; bad = false; end = end } ≡ recordAt names s from
+      unfolding endAt restAt run recordAt joined
+      reading-end stop end e q =
+          let z : end ≡ endAt s from = q ∙ stepped names ok s at _ e .leads (r .place) .2 ∙ r .ends in
+          rw (r .keeps, r .counts, z, goes-on _ e, append-nil (r .read))
+
+      pub reading-bad : Bad ≡ scanAt names s at → spoiled from ≡ recordAt names s from
+      unfolding recordAt joined
+      reading-bad e = rw (goes-on _ e)

@@ -9,12 +9,13 @@ use lib.Dec.{eqb}
 use lib.IntN.{ℤ, pos, natAbs}
 use Rattle.text_lexical.specs.Bytes.{Result, value, refused, digit, nameStart, blank, margin, run}
 use Rattle.text_lexical.specs.Numbers.{minus}
-use Rattle.text_lexical.specs.Names.{present}
-use Rattle.text_lexical.specs.Contracts.{indexOf, registerAt, wholeMeant}
+use Rattle.text_lexical.specs.Names.{Name}
+use Rattle.text_lexical.specs.Contracts.{indexOf, registerAt, wholeMeant, wholeFor}
 use Rattle.text_lexical.specs.declared.number.Radix.{Radix}
 use Rattle.text_lexical.specs.declared.number.Radix.the-variants.{Binary as BinaryRadix, Decimal as DecimalRadix, Hex as HexRadix}
 use Rattle.text.specs.Tokens.{identifier, register, number, hex, binary, directive, comma, colon, opening, closing, Number as NumberClass, longest, Sized, front}
 use Rattle.text.specs.Tokens.{Token as Meant}
+use Rattle.text.specs.Values.{readNumber}
 use Rattle.text.specs.Lines.{kept}
 use Rattle.text.specs.Places.{leftAt, endAt}
 use Rattle.text.specs.declared.lexer.Kind.{Kind}
@@ -22,6 +23,8 @@ use Rattle.text.specs.declared.lexer.Kind.the-variants.{Identifier, Regi
 use Rattle.text.specs.declared.lexer.Token.{Token}
 use Rattle.text.specs.declared.lexer.Scan.{Scan}
 use Rattle.text.specs.declared.lexer.Scan.the-variants.{Found, Bad, End}
+use Rattle.text.specs.declared.lexer.Ending.{Ending}
+use Rattle.text.specs.declared.lexer.Ending.the-variants.{Line as LineEnd, Comment, Other}
 use Rattle.text.specs.declared.parser.Extracted.{Extracted}
 use Rattle.text.specs.declared.parser.Extracted.the-variants.{Number as Extract, Refused as NoNumber}
 use Rattle.text.specs.declared.parser.Line.{Line}
@@ -29,20 +32,10 @@ use Rattle.text.specs.declared.reader.Reader.{Reader}
 
 -- ---- numbers
 
--- The whole number of a kind, by its sign and its magnitude: only a kind with a sign is negative. It means what `Values.readNumber` reads.
-abbrev pub extracted : Kind → Extracted
-extracted (Number n) = Extract (record { negative = false; magnitude = n })
-extracted (Negative n) = Extract (record { negative = true; magnitude = n })
-extracted (Hex n) = Extract (record { negative = false; magnitude = n })
-extracted (Binary n) = Extract (record { negative = false; magnitude = n })
-extracted Identifier = NoNumber 8
-extracted (RegisterKind r) = NoNumber 8
-extracted NoRegister = NoNumber 8
-extracted Directive = NoNumber 8
-extracted Comma = NoNumber 8
-extracted Colon = NoNumber 8
-extracted LParen = NoNumber 8
-extracted RParen = NoNumber 8
+-- What is answered for the number that is read of a token, or for its refusal.
+abbrev pub extractFor : Result ℤ → Extracted
+extractFor (value z) = Extract (wholeFor z)
+extractFor (refused n) = NoNumber n
 
 abbrev pub extractMeant : Extracted → Result ℤ
 extractMeant (Extract w) = value (wholeMeant w)
@@ -64,6 +57,10 @@ kindMeant Comma u = comma
 kindMeant Colon u = colon
 kindMeant LParen u = opening
 kindMeant RParen u = closing
+
+-- What is read of a kind, whatever its spelling: the number is in the kind.
+abbrev pub extracted : Kind → Extracted
+extracted k = extractFor (readNumber (kindMeant k []))
 
 -- The spelling of a token of a text, and the token that it means.
 abbrev pub spelling : List ℕ → Token → List ℕ
@@ -99,6 +96,16 @@ kindFor colon u = Colon
 kindFor opening u = LParen
 kindFor closing u = RParen
 
+-- ---- where reading a line ends
+
+-- What stands at a place up to which nothing is left of a line: a comment, by its `#`, or the line's end, byte 10 or the text's end.
+abbrev pub endedAt : List ℕ → ℕ → Ending
+endedAt s stop = elim (eqb (getD s stop 0) 35) [ true ↦ Comment stop | false ↦ LineEnd stop ]
+
+-- Where reading the line from a place on ends: past the margin, if nothing is left of the line.
+unfoldable pub endingAt : List ℕ → ℕ → Ending
+endingAt s at = elim (leftAt s at) [ [] ↦ endedAt s (at + run margin (drop at s)) | b ∷ l ↦ Other ]
+
 -- ---- the next token of a line
 
 -- A token of so many bytes at a place, and the place after it; or none.
@@ -106,31 +113,31 @@ abbrev pub foundAt : List ℕ → ℕ → Option Sized → Scan
 foundAt s at none = Bad
 foundAt s at (some t) = Found (record { kind = kindFor (t .token) (take (t .size) (drop at s)); start = at; length = t .size }) (at + t .size)
 
--- The token that what is left of the line begins with.
-unfoldable pub tokenAt : List ℕ → ℕ → Scan
-tokenAt s at = foundAt s at (front present (leftAt s at))
+-- The token that what is left of the line begins with, by a set of names.
+unfoldable pub tokenAt : List Name → List ℕ → ℕ → Scan
+tokenAt names s at = foundAt s at (front names (leftAt s at))
 
 -- What stands at a place: a token, or something that is none; where nothing is left, the end, with the place after the margin.
-unfoldable pub standsAt : List ℕ → ℕ → Scan
-standsAt s at = elim (leftAt s at) [ [] ↦ End (at + run margin (drop at s)) | b ∷ l ↦ tokenAt s at ]
+unfoldable pub standsAt : List Name → List ℕ → ℕ → Scan
+standsAt names s at = elim (leftAt s at) [ [] ↦ End (at + run margin (drop at s)) | b ∷ l ↦ tokenAt names s at ]
 
 -- The place past the blanks from a place on.
 abbrev pub past : List ℕ → ℕ → ℕ
 past s from = from + run blank (drop from s)
 
 -- What is found next from a place on.
-unfoldable pub scanAt : List ℕ → ℕ → Scan
-scanAt s from = standsAt s (past s from)
+unfoldable pub scanAt : List Name → List ℕ → ℕ → Scan
+scanAt names s from = standsAt names s (past s from)
 
 -- A number's first byte: a digit or `-`.
 unfoldable pub numberStart : ℕ → Bool
 numberStart b = digit b || eqb b 45
 
 -- Decimal digits at a place, which no longer match begins.
-pub record IsDecimal (s : List ℕ) (at : ℕ) : Type 0 where
+pub record IsDecimal (names : List Name) (s : List ℕ) (at : ℕ) : Type 0 where
   pub in-text : at < length s
   pub is-digit : digit (getD s at 0) ≡ true
-  pub is-number : longest present (drop at s) (length (drop at s)) ≡ some (record { size = run digit (drop at s); class = NumberClass })
+  pub is-number : longest names (drop at s) (length (drop at s)) ≡ some (record { size = run digit (drop at s); class = NumberClass })
 
 -- The byte after the `0` of a number that is not decimal.
 abbrev pub PrefixIs : Radix → ℕ → Type 0
@@ -175,13 +182,13 @@ followed Bad rest = none
 followed (End e) rest = some []
 
 -- The tokens of a line from a place on, one after the other, up to the n-th; none: a bad token.
-unfoldable pub tokensFrom : ℕ → List ℕ → ℕ → Option (List Token)
-tokensFrom zero s at = some []
-tokensFrom (suc n) s at = followed (scanAt s at) (tokensFrom n s)
+unfoldable pub tokensFrom : List Name → ℕ → List ℕ → ℕ → Option (List Token)
+tokensFrom names zero s at = some []
+tokensFrom names (suc n) s at = followed (scanAt names s at) (tokensFrom names n s)
 
 -- All of them: each takes a byte at least, so that there are no more than bytes.
-abbrev pub allFrom : List ℕ → ℕ → Option (List Token)
-allFrom s at = tokensFrom (suc (length s)) s at
+abbrev pub allFrom : List Name → List ℕ → ℕ → Option (List Token)
+allFrom names s at = tokensFrom names (suc (length s)) s at
 
 -- What fills the places that no token takes.
 abbrev pub filler : Token
@@ -201,8 +208,8 @@ lineWith s from none = spoiled from
 lineWith s from (some ts) = record { tokens = firstKept ts; count = length ts; bad = false; end = endAt s from }
 
 -- The record of the line from a place on, whose tokens begin after its margin.
-unfoldable pub recordAt : List ℕ → ℕ → Line
-recordAt s from = lineWith s from (allFrom s (from + run margin (drop from s)))
+unfoldable pub recordAt : List Name → List ℕ → ℕ → Line
+recordAt names s from = lineWith s from (allFrom names s (from + run margin (drop from s)))
 
 -- The tokens that a record keeps: of its places the first `count`, so all of them where there are more.
 abbrev pub firsts : List ℕ → List Token → ℕ → List Meant

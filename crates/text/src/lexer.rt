@@ -4,7 +4,8 @@ ghost use mathlib.Core.Bool.{true, false};
 ghost use Prim.Native.Nat.{_+_, _-_, _≤_, _<_};
 ghost use lib.ListN.{length, getD};
 ghost use Rattle.text_lexical.specs.Bytes.{nameStart, digit, mark, blank};
-ghost use Rattle.text.specs.Contracts.{patternKind, tokenAt, scanAt, numberStart, IsDecimal, Prefixed, NoWord};
+ghost use Rattle.text_lexical.specs.Names.{present};
+ghost use Rattle.text.specs.Contracts.{patternKind, endingAt, tokenAt, scanAt, numberStart, IsDecimal, Prefixed, NoWord};
 use text_lexical::bytes::Class;
 use text_lexical::name::RegisterName;
 use text_lexical::number::Radix;
@@ -42,6 +43,13 @@ pub enum Scan {
     End(usize),
 }
 
+// Where reading a line ends: at the line's end, or at a comment; or something is left to read.
+pub enum Ending {
+    Line(usize),
+    Comment(usize),
+    Other,
+}
+
 fn found(kind: Kind, at: usize, end: usize) -> Scan
     requires { ⌜ at ≤ end ⌝ }
     ensures { λ r. ⌜ r ≡ Scan.Found (record { kind = kind; start = at; length = end - at }) end ⌝ }
@@ -59,7 +67,7 @@ fn found(kind: Kind, at: usize, end: usize) -> Scan
 // A word: a Register or an Identifier.
 fn word(text: &[u8], at: usize) -> Scan
     requires { ⌜ at < length (now text) ⌝ ∗ ⌜ nameStart (getD (now text) at 0) ≡ true ⌝ }
-    ensures { λ r. ⌜ r ≡ tokenAt (now (text .entry)) at ⌝ }
+    ensures { λ r. ⌜ r ≡ tokenAt present (now (text .entry)) at ⌝ }
 {
     let end = text_lexical::bytes::run_end(text, at + 1, Class::NamePart);
     match text_lexical::name::parse_register(&text[at..end]) {
@@ -71,8 +79,8 @@ fn word(text: &[u8], at: usize) -> Scan
 
 // Decimal digits at `at`, all of which make the token.
 fn decimal(text: &[u8], at: usize) -> Scan
-    requires { ⌜ IsDecimal (now text) at ⌝ }
-    ensures { λ r. ⌜ r ≡ tokenAt (now (text .entry)) at ⌝ }
+    requires { ⌜ IsDecimal present (now text) at ⌝ }
+    ensures { λ r. ⌜ r ≡ tokenAt present (now (text .entry)) at ⌝ }
 {
     let digits = text_lexical::number::digits_at(text, at, Radix::Decimal);
     let end = digits.end;
@@ -92,7 +100,7 @@ fn decimal(text: &[u8], at: usize) -> Scan
 // `-` at `at`.
 fn minus(text: &[u8], at: usize) -> Scan
     requires { ⌜ at < length (now text) ⌝ ∗ ⌜ getD (now text) at 0 ≡ 45 ⌝ }
-    ensures { λ r. ⌜ r ≡ tokenAt (now (text .entry)) at ⌝ }
+    ensures { λ r. ⌜ r ≡ tokenAt present (now (text .entry)) at ⌝ }
 {
     let begin = at + 1;
     let digits = text_lexical::number::digits_at(text, begin, Radix::Decimal);
@@ -127,7 +135,7 @@ fn pattern(radix: Radix, magnitude: u64) -> Kind
 // `0x` or `0b` at `at`; without a digit after it, only `0` is the token.
 fn prefixed(text: &[u8], at: usize, radix: Radix) -> Scan
     requires { ⌜ Prefixed (now text) at radix ⌝ }
-    ensures { λ r. ⌜ r ≡ tokenAt (now (text .entry)) at ⌝ }
+    ensures { λ r. ⌜ r ≡ tokenAt present (now (text .entry)) at ⌝ }
 {
     let begin = at + 2;
     let digits = text_lexical::number::digits_at(text, begin, radix);
@@ -145,7 +153,7 @@ fn prefixed(text: &[u8], at: usize, radix: Radix) -> Scan
 // A digit at `at`.
 fn digits(text: &[u8], at: usize) -> Scan
     requires { ⌜ at < length (now text) ⌝ ∗ ⌜ digit (getD (now text) at 0) ≡ true ⌝ }
-    ensures { λ r. ⌜ r ≡ tokenAt (now (text .entry)) at ⌝ }
+    ensures { λ r. ⌜ r ≡ tokenAt present (now (text .entry)) at ⌝ }
 {
     let second = at + 1;
     if text[at] == b'0' && second < text.len() {
@@ -169,7 +177,7 @@ pub fn is_number_start(b: u8) -> bool
 // A number at `at`.
 pub fn number(text: &[u8], at: usize) -> Scan
     requires { ⌜ at < length (now text) ⌝ ∗ ⌜ numberStart (getD (now text) at 0) ≡ true ⌝ }
-    ensures { λ r. ⌜ r ≡ tokenAt (now (text .entry)) at ⌝ }
+    ensures { λ r. ⌜ r ≡ tokenAt present (now (text .entry)) at ⌝ }
 {
     if text[at] == b'-' {
         return minus(text, at);
@@ -180,7 +188,7 @@ pub fn number(text: &[u8], at: usize) -> Scan
 // `.` at `at`.
 fn directive(text: &[u8], at: usize) -> Scan
     requires { ⌜ at < length (now text) ⌝ ∗ ⌜ getD (now text) at 0 ≡ 46 ⌝ }
-    ensures { λ r. ⌜ r ≡ tokenAt (now (text .entry)) at ⌝ }
+    ensures { λ r. ⌜ r ≡ tokenAt present (now (text .entry)) at ⌝ }
 {
     let second = at + 1;
     if text.len() <= second {
@@ -193,25 +201,38 @@ fn directive(text: &[u8], at: usize) -> Scan
     found(Kind::Directive, at, end)
 }
 
-// A byte that begins no token: the line's end, a comment, or margin before one of them; anything else is bad.
-fn ending(text: &[u8], at: usize) -> Scan
-    requires { ⌜ at < length (now text) ⌝ ∗ ⌜ NoWord (getD (now text) at 0) ⌝ ∗ ⌜ mark (getD (now text) at 0) ≡ false ⌝ }
-    ensures { λ r. ⌜ r ≡ scanAt (now (text .entry)) at ⌝ }
+// Where reading the line from `at` on ends, if nothing but margin is left of it.
+pub fn ending_at(text: &[u8], at: usize) -> Ending
+    requires { ⌜ at ≤ length (now text) ⌝ }
+    ensures { λ r. ⌜ r ≡ endingAt (now (text .entry)) at ⌝ }
 {
     let stop = text_lexical::bytes::run_end(text, at, Class::Margin);
     if text.len() <= stop {
-        return Scan::End(stop);
+        return Ending::Line(stop);
     }
     match text[stop] {
-        b'\n' | b'#' => Scan::End(stop),
-        _ => Scan::Bad,
+        b'\n' => Ending::Line(stop),
+        b'#' => Ending::Comment(stop),
+        _ => Ending::Other,
+    }
+}
+
+// A byte that begins no token: reading the line ends here, or it is bad.
+fn end_or_bad(text: &[u8], at: usize) -> Scan
+    requires { ⌜ at < length (now text) ⌝ ∗ ⌜ NoWord (getD (now text) at 0) ⌝ ∗ ⌜ mark (getD (now text) at 0) ≡ false ⌝ }
+    ensures { λ r. ⌜ r ≡ scanAt present (now (text .entry)) at ⌝ }
+{
+    match ending_at(text, at) {
+        Ending::Line(stop) => Scan::End(stop),
+        Ending::Comment(stop) => Scan::End(stop),
+        Ending::Other => Scan::Bad,
     }
 }
 
 // A mark at `at`, or no token.
 fn mark_or_ending(text: &[u8], at: usize) -> Scan
     requires { ⌜ at < length (now text) ⌝ ∗ ⌜ NoWord (getD (now text) at 0) ⌝ }
-    ensures { λ r. ⌜ r ≡ scanAt (now (text .entry)) at ⌝ }
+    ensures { λ r. ⌜ r ≡ scanAt present (now (text .entry)) at ⌝ }
 {
     let end = at + 1;
     match text[at] {
@@ -219,14 +240,14 @@ fn mark_or_ending(text: &[u8], at: usize) -> Scan
         b':' => found(Kind::Colon, at, end),
         b'(' => found(Kind::LParen, at, end),
         b')' => found(Kind::RParen, at, end),
-        _ => ending(text, at),
+        _ => end_or_bad(text, at),
     }
 }
 
 // What stands at `at`.
 fn front(text: &[u8], at: usize) -> Scan
     requires { ⌜ at < length (now text) ⌝ ∗ ⌜ blank (getD (now text) at 0) ≡ false ⌝ }
-    ensures { λ r. ⌜ r ≡ scanAt (now (text .entry)) at ⌝ }
+    ensures { λ r. ⌜ r ≡ scanAt present (now (text .entry)) at ⌝ }
 {
     let b = text[at];
     if text_lexical::bytes::is_name_start(b) {
@@ -244,7 +265,7 @@ fn front(text: &[u8], at: usize) -> Scan
 // The next token of the line from `from` on.
 pub(crate) fn next_token(text: &[u8], from: usize) -> Scan
     requires { ⌜ from ≤ length (now text) ⌝ }
-    ensures { λ r. ⌜ r ≡ scanAt (now (text .entry)) from ⌝ }
+    ensures { λ r. ⌜ r ≡ scanAt present (now (text .entry)) from ⌝ }
 {
     let at = text_lexical::bytes::run_end(text, from, Class::Blank);
     if at < text.len() {

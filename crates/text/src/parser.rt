@@ -2,6 +2,7 @@
 ghost use mathlib.Core.Path.{_≡_};
 ghost use Prim.Native.Nat.{_≤_};
 ghost use lib.ListN.{length};
+ghost use Rattle.text_lexical.specs.Names.{present};
 ghost use Rattle.text.specs.Contracts.{extracted, recordAt};
 ghost use Rattle.text.specs.Contracts.{spoiled as spoiledLine};
 use crate::lexer::Kind;
@@ -16,7 +17,7 @@ pub enum Extracted {
     Refused(u8),
 }
 
-// The whole number that a token means, with the sign of its spelling: 8. Operands and `.config` read their numbers by this function.
+// The whole number that a token means, or refusal 8; -0 is 0. Operands and `.config` read their numbers by this function.
 pub fn extract_number(kind: Kind) -> Extracted
     ensures { λ r. ⌜ r ≡ extracted kind ⌝ }
 {
@@ -27,7 +28,7 @@ pub fn extract_number(kind: Kind) -> Extracted
                 magnitude,
             }),
         Kind::Negative(magnitude) => Extracted::Number(Whole {
-            negative: true,
+            negative: 0 < magnitude,
             magnitude,
         }),
         _ => Extracted::Refused(8),
@@ -67,7 +68,7 @@ fn spoiled(from: usize) -> Line
 // The record of the line that begins at `from`.
 pub fn tokenize(text: &[u8], from: usize) -> Line
     requires { ⌜ from ≤ length (now text) ⌝ }
-    ensures { λ r. ⌜ r ≡ recordAt (now (text .entry)) from ⌝ }
+    ensures { λ r. ⌜ r ≡ recordAt present (now (text .entry)) from ⌝ }
 {
     let mut tokens = FILLER;
     let mut count: usize = 0;

@@ -3,6 +3,7 @@
 ghost use mathlib.Core.Path.{_≡_};
 ghost use Prim.Native.Nat.{_≤_};
 ghost use lib.ListN.{length};
+ghost use Rattle.text_lexical.specs.Names.{present};
 ghost use Rattle.text.specs.Contracts.{scanAt, placeAfter, moved};
 use crate::lexer::Scan;
 
@@ -33,7 +34,7 @@ impl<'a> Reader<'a> {
     // The next token, after which the reader then stands; at a bad token and at the end it stays.
     fn next(&mut self) -> Scan
         requires { ⌜ now self .position ≤ length (now (now self .text)) ⌝ }
-        ensures { λ r. ⌜ (r ≡ scanAt (now (now (self .entry) .text)) (now (self .entry) .position))
+        ensures { λ r. ⌜ (r ≡ scanAt present (now (now (self .entry) .text)) (now (self .entry) .position))
             × (now (self .exit) ≡ moved (now (self .entry)) r) ⌝ }
     {
         let from = self.position;
@@ -46,7 +47,7 @@ impl<'a> Reader<'a> {
 // The next token of the line from `from` on, read by a reader.
 pub fn token_at(text: &[u8], from: usize) -> Scan
     requires { ⌜ from ≤ length (now text) ⌝ }
-    ensures { λ r. ⌜ r ≡ scanAt (now (text .entry)) from ⌝ }
+    ensures { λ r. ⌜ r ≡ scanAt present (now (text .entry)) from ⌝ }
 {
     let mut reader = Reader::new(text, from);
     reader.next()

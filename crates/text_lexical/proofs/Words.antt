@@ -5,14 +5,16 @@ use native.Mathlib.Nat.{pow-suc, pow-le-pow-right, mul-add, mul-assoc, mul-comm,
 use native.Mathlib.Omega.{arith}
 use mathlib.Core.Bool.{true, false}
 use mathlib.Core.List.{List, [], _∷_, _++_, map, map-append}
-use lib.ListN.{length, drop, getD, length-map, length-take, length-drop}
-use lib.Seq.{drop-drop, take-suc, getD-drop}
+use lib.ListN.{length, take, drop, getD, length-map, length-take, length-drop}
+use lib.Seq.{drop-drop, take-all, take-length, take-suc, getD-drop}
 use borrow.Author.Tests.{le-leb, lt-leb}
-use Rattle.text_lexical.specs.Bytes.{between, namePart, lower, every, run}
+use Rattle.text_lexical.specs.Bytes.{namePart, lower, every, before, run}
 use Rattle.text_lexical.specs.Contracts.{packed, keyOf}
-use Rattle.text_lexical.specs.Words.{part, WordIs}
-use Rattle.text_lexical.proofs.Tests.{split, by-test, between-true}
-use Rattle.text_lexical.proofs.Strings.{every-append, every-cons, run-le, run-past, run-yes, run-no, run-end}
+use Rattle.text_lexical.specs.Words.{part, WordIs, wordKey}
+use Rattle.text_lexical.specs.declared.name.Word.{Word}
+use Rattle.text_lexical.proofs.Tests.{split}
+use Rattle.text_lexical.proofs.Strings.{every-append, every-cons, take-run, every-run, past-run, run-le, run-past, run-yes, run-no, run-end}
+use Rattle.text_lexical.proofs.Keys.{lower-below}
 
 -- A byte more after a spelling.
 packed-after : (u : List ℕ) (b : ℕ) → packed (u ++ (b ∷ [])) + 256 ^ length u ≡ packed u + 256 ^ length u * (b + 256)
@@ -22,10 +24,6 @@ packed-after (x ∷ u) b =
     let e = packed-after u b in
     let a : 256 * 256 ^ length u * (b + 256) ≡ 256 * (256 ^ length u * (b + 256)) = mul-assoc 256 (256 ^ length u) (b + 256) in
     rw (pow-suc 256 (length u)) (omega arith)
-
-pub lower-small : (b : ℕ) → b < 256 → lower b < 256
-unfolding lower
-lower-small b h = by-test (between 65 90 b) (λ e. rw (lower, e) (omega (arith, between-true 65 90 b e .1))) (λ e. rw (lower, e) h)
 
 -- The first bytes of a word, and their key so far.
 pub record Spelling (s : List ℕ) (at sum scale i : ℕ) : Type 0 where
@@ -76,7 +74,7 @@ spelling-more s at sum scale i q l k h byte =
     let e : scale ≡ 256 ^ length u = q .scale-is ∙ ap (λ (x : ℕ). 256 ^ x) (sym n) in
     let p : packed (u ++ (b ∷ [])) + scale ≡ packed u + scale * (b + 256) = rw e (packed-after u b) in
     let d : scale * (b + 256) ≡ b * scale + scale * 256 = mul-add scale b 256 ∙ ap (λ (x : ℕ). x + scale * 256) (mul-comm scale b) in
-    let w = product-small b scale (lower-small (getD s i 0) byte) in
+    let w = product-small b scale (lower-below (getD s i 0) byte) in
     record {
       on = omega (arith, q .on);
       in-text = omega arith;
@@ -118,3 +116,23 @@ spelling-long s at sum scale i end q l k h e =
       ends = omega (arith, r, q .on);
       key-is = sym (rw (keyOf, lt-leb (length (map lower (part s at (end - at)))) 7 (omega (arith, length-part s at end (omega arith) in-text))));
     }
+
+-- ---- a spelling
+
+module _ (s : List ℕ) (w : Word) (is : WordIs s 0 w) where
+  -- It is a word, up to its end.
+  pub whole-word : length s ≤ w .end → w .key ≡ wordKey s
+  unfolding wordKey
+  whole-word l =
+      let n : run namePart s ≡ length s = omega (arith, is .ends, run-le namePart s) in
+      let e : before namePart s ≡ s = sym (take-run namePart s) ∙ ap (λ (k : ℕ). take k s) n ∙ take-length s in
+      let p : every namePart s ≡ true = rw e at (every-run namePart s) in
+      let t : part s 0 (w .end - 0) ≡ s = take-all (w .end - 0) s (omega arith) in
+      rw (wordKey, p) (rw t at (is .key-is))
+
+  -- Another byte follows: it is no word.
+  pub no-word : w .end < length s → 0 ≡ wordKey s
+  unfolding wordKey
+  no-word l =
+      let p : every namePart s ≡ false = rw (take-length s) at (past-run namePart s (length s) (omega (arith, is .ends)) (omega arith)) in
+      rw (wordKey, p)

@@ -2,6 +2,8 @@
 use native.Mathlib.Omega.{arith}
 use borrow.Author.Needs.{needs}
 use Rattle.text_lexical.specs.declared.number.Radix.the-variants.{Decimal}
+use Rattle.text_lexical.specs.Names.{present}
+use Rattle.text.proofs.NameSets.{present-naming}
 use Rattle.text.proofs.Fronts.{Digits-are, digits-are, decimal-found, decimal-wide, decimal-over}
 use Rattle.text.proofs.lexer.decimal.Statement.{statement}
 use Rattle.text.proofs.lexer.decimal.Tie as tie
@@ -28,7 +30,7 @@ returns : tie.Need-returns
 returns c =
     let d = c .before .before in
     let b = d .before .before in
-    decimal-wide (b .args .text .now) (b .args .at) (d .digits-at .result) (b .pre) (read d) (c .enum-told .given .1)
+    decimal-wide present present-naming (b .args .text .now) (b .args .at) (d .digits-at .result) (b .pre) (read d) (c .enum-told .given .1)
 
 returns-2 : tie.Need-returns-2
 returns-2 c =
@@ -36,14 +38,14 @@ returns-2 c =
     let d = v .before .before in
     let b = d .before .before in
     rw (c .found .ensures)
-    (decimal-found (b .args .text .now) (b .args .at) (d .digits-at .result) (b .pre) (read d) (v .value .given .0 .0) (v .value .given .1) (c .before .if1 .taken))
+    (decimal-found present present-naming (b .args .text .now) (b .args .at) (d .digits-at .result) (b .pre) (read d) (v .value .given .0 .0) (v .value .given .1) (c .before .if1 .taken))
 
 returns-3 : tie.Need-returns-3
 returns-3 c =
     let v = c .before .before in
     let d = v .before .before in
     let b = d .before .before in
-    decimal-over (b .args .text .now) (b .args .at) (d .digits-at .result) (b .pre) (read d) (v .value .given .0 .0) (v .value .given .1) (c .if1 .left)
+    decimal-over present present-naming (b .args .text .now) (b .args .at) (d .digits-at .result) (b .pre) (read d) (v .value .given .0 .0) (v .value .given .1) (c .if1 .left)
 
 pub decimal-spec : {M : Type 1} → statement M
 decimal-spec = tie.close (tie.spec digits-at-requires enum-told enum-known-value found-requires returns returns-2 returns-3)

@@ -6,6 +6,8 @@ use lib.ListN.{length, getD}
 use mathlib.Core.Logic.{⊎-elim}
 use borrow.Author.Needs.{needs}
 use borrow.Author.Tests.{ltb-false}
+use Rattle.text_lexical.specs.Names.{present}
+use Rattle.text.proofs.NameSets.{present-naming}
 use Rattle.text.proofs.Fronts.{decimal-here}
 use Rattle.text.proofs.lexer.digits.Statement.{statement}
 use Rattle.text.proofs.lexer.digits.Tie as tie
@@ -45,7 +47,7 @@ returns-2 c = search needs
 decimal-requires : tie.Need-decimal-requires
 decimal-requires c κs =
     let b = c .before .before .before in
-    decimal-here (b .args .text .now) (b .args .at) (b .pre .0) (b .pre .1) (second c)
+    decimal-here present present-naming (b .args .text .now) (b .args .at) (b .pre .0) (b .pre .1) (second c)
 
 returns-3 : tie.Need-returns-3
 returns-3 c = search needs

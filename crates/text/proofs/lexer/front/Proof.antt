@@ -1,6 +1,7 @@
 -- `text::lexer::front` meets its contract.
 use mathlib.Core.Path.{sym, _∙_}
 use native.Mathlib.Omega.{arith}
+use Rattle.text_lexical.specs.Names.{present}
 use Rattle.text.proofs.Left.{start-solid, high-solid}
 use Rattle.text.proofs.Stepping.{solid-step, number-step}
 use borrow.Author.Needs.{needs}
@@ -20,7 +21,7 @@ returns : tie.Need-returns
 returns c =
     let n = c .before .before in
     let r = n .before .before .before in
-    solid-step (r .args .text .now) (r .args .at) (c .word .result) (r .pre .0) (start-solid _ (sym (n .is-name-start .ensures) ∙ c .before .if1 .taken)) (c .word .ensures)
+    solid-step present (r .args .text .now) (r .args .at) (c .word .result) (r .pre .0) (start-solid _ (sym (n .is-name-start .ensures) ∙ c .before .if1 .taken)) (c .word .ensures)
 
 is-number-start-requires : tie.Need-is-number-start-requires
 is-number-start-requires c κs = search needs
@@ -32,7 +33,7 @@ returns-2 : tie.Need-returns-2
 returns-2 c =
     let d = c .before .before in
     let r = d .before .before .before .before .before in
-    number-step (r .args .text .now) (r .args .at) (c .number .result) (r .pre .0) (sym (d .is-number-start .ensures) ∙ c .before .if2 .taken) (c .number .ensures)
+    number-step present (r .args .text .now) (r .args .at) (c .number .result) (r .pre .0) (sym (d .is-number-start .ensures) ∙ c .before .if2 .taken) (c .number .ensures)
 
 directive-requires : tie.Need-directive-requires
 directive-requires c κs = search needs
@@ -40,7 +41,7 @@ directive-requires c κs = search needs
 returns-3 : tie.Need-returns-3
 returns-3 c =
     let r = c .before .before .before .before .before .before .before .before in
-    solid-step (r .args .text .now) (r .args .at) (c .directive .result) (r .pre .0) (high-solid _ (omega (arith, c .before .if3 .taken))) (c .directive .ensures)
+    solid-step present (r .args .text .now) (r .args .at) (c .directive .result) (r .pre .0) (high-solid _ (omega (arith, c .before .if3 .taken))) (c .directive .ensures)
 
 mark-or-ending-requires : tie.Need-mark-or-ending-requires
 mark-or-ending-requires c κs =

@@ -2,8 +2,10 @@
 use lib.ListN.{getD}
 use mathlib.Core.Path.{refl}
 use mathlib.Core.Logic.{inl, inr}
+use Rattle.text_lexical.specs.Names.{present}
 use Rattle.text.specs.Tokens.{markToken, comma, colon, opening, closing}
 use Rattle.text.specs.declared.lexer.Kind.the-variants.{Comma, Colon, LParen, RParen}
+use Rattle.text.proofs.NameSets.{present-naming}
 use Rattle.text.proofs.Fronts.{mark-yes, mark-no, mark-token}
 use Rattle.text.proofs.Stepping.{mark-step}
 use borrow.Author.Needs.{needs}
@@ -28,8 +30,8 @@ found-requires-3 c κs = search needs
 found-requires-4 : tie.Need-found-requires-4
 found-requires-4 c κs = search needs
 
-ending-requires : tie.Need-ending-requires
-ending-requires c κs =
+end-or-bad-requires : tie.Need-end-or-bad-requires
+end-or-bad-requires c κs =
     let r = c .before .before .before in
     let a = r .args in
     let n = c .match .rest in
@@ -43,7 +45,7 @@ returns c =
     let a = r .args in
     let k = m .match .keys1 in
     let b = getD (a .text .now) (a .at) 0 in
-    rw (c .found .ensures) (mark-step (a .text .now) (a .at) Comma comma (r .pre .0) (r .pre .1) (mark-yes b (inl k)) (mark-token b 44 comma k refl) (λ u. refl) (λ u. refl))
+    rw (c .found .ensures) (mark-step present present-naming (a .text .now) (a .at) Comma comma (r .pre .0) (r .pre .1) (mark-yes b (inl k)) (mark-token b 44 comma k refl) (λ u. refl) (λ u. refl))
 
 returns-2 : tie.Need-returns-2
 unfolding markToken
@@ -53,7 +55,7 @@ returns-2 c =
     let a = r .args in
     let k = m .match .keys2 in
     let b = getD (a .text .now) (a .at) 0 in
-    rw (c .found2 .ensures) (mark-step (a .text .now) (a .at) Colon colon (r .pre .0) (r .pre .1) (mark-yes b (inr (inl k))) (mark-token b 58 colon k refl) (λ u. refl) (λ u. refl))
+    rw (c .found2 .ensures) (mark-step present present-naming (a .text .now) (a .at) Colon colon (r .pre .0) (r .pre .1) (mark-yes b (inr (inl k))) (mark-token b 58 colon k refl) (λ u. refl) (λ u. refl))
 
 returns-3 : tie.Need-returns-3
 unfolding markToken
@@ -63,7 +65,7 @@ returns-3 c =
     let a = r .args in
     let k = m .match .keys3 in
     let b = getD (a .text .now) (a .at) 0 in
-    rw (c .found3 .ensures) (mark-step (a .text .now) (a .at) LParen opening (r .pre .0) (r .pre .1) (mark-yes b (inr (inr (inl k)))) (mark-token b 40 opening k refl) (λ u. refl) (λ u. refl))
+    rw (c .found3 .ensures) (mark-step present present-naming (a .text .now) (a .at) LParen opening (r .pre .0) (r .pre .1) (mark-yes b (inr (inr (inl k)))) (mark-token b 40 opening k refl) (λ u. refl) (λ u. refl))
 
 returns-4 : tie.Need-returns-4
 unfolding markToken
@@ -73,7 +75,7 @@ returns-4 c =
     let a = r .args in
     let k = m .match .keys4 in
     let b = getD (a .text .now) (a .at) 0 in
-    rw (c .found4 .ensures) (mark-step (a .text .now) (a .at) RParen closing (r .pre .0) (r .pre .1) (mark-yes b (inr (inr (inr k)))) (mark-token b 41 closing k refl) (λ u. refl) (λ u. refl))
+    rw (c .found4 .ensures) (mark-step present present-naming (a .text .now) (a .at) RParen closing (r .pre .0) (r .pre .1) (mark-yes b (inr (inr (inr k)))) (mark-token b 41 closing k refl) (λ u. refl) (λ u. refl))
 
 returns-5 : tie.Need-returns-5
 returns-5 c = search needs
@@ -88,7 +90,7 @@ mark-or-ending-spec =
     found-requires-2
     found-requires-3
     found-requires-4
-    ending-requires
+    end-or-bad-requires
     returns
     returns-2
     returns-3

@@ -3,6 +3,8 @@ use Prim.Native.Nat.{_+_}
 use native.Mathlib.Omega.{arith}
 use borrow.Author.Needs.{needs}
 use Rattle.text_lexical.specs.declared.number.Radix.the-variants.{Decimal}
+use Rattle.text_lexical.specs.Names.{present}
+use Rattle.text.proofs.NameSets.{present-naming}
 use Rattle.text.proofs.Fronts.{Digits-are, digits-are, minus-alone, minus-found, minus-wide, minus-over}
 use Rattle.text.proofs.lexer.minus.Statement.{statement}
 use Rattle.text.proofs.lexer.minus.Tie as tie
@@ -23,7 +25,7 @@ returns : tie.Need-returns
 returns c =
     let d = c .before in
     let b = d .before .before in
-    minus-alone (b .args .text .now) (b .args .at) (d .digits-at .result) (b .pre .0) (b .pre .1) (read d) (c .if1 .taken)
+    minus-alone present present-naming (b .args .text .now) (b .args .at) (d .digits-at .result) (b .pre .0) (b .pre .1) (read d) (c .if1 .taken)
 
 enum-told : tie.Need-enum-told
 enum-told c = search needs
@@ -39,7 +41,7 @@ returns-2 c =
     let k = c .before .before in
     let d = k .before in
     let b = d .before .before in
-    minus-wide (b .args .text .now) (b .args .at) (d .digits-at .result) (b .pre .0) (b .pre .1) (read d) (k .if1 .left) (c .enum-told .given .1)
+    minus-wide present present-naming (b .args .text .now) (b .args .at) (d .digits-at .result) (b .pre .0) (b .pre .1) (read d) (k .if1 .left) (c .enum-told .given .1)
 
 returns-3 : tie.Need-returns-3
 returns-3 c =
@@ -48,7 +50,7 @@ returns-3 c =
     let d = k .before in
     let b = d .before .before in
     rw (c .found .ensures)
-    (minus-found (b .args .text .now) (b .args .at) (d .digits-at .result) (b .pre .0) (b .pre .1) (read d) (k .if1 .left) (v .value .given .0 .0) (v .value .given .1) (c .before .if2 .taken))
+    (minus-found present present-naming (b .args .text .now) (b .args .at) (d .digits-at .result) (b .pre .0) (b .pre .1) (read d) (k .if1 .left) (v .value .given .0 .0) (v .value .given .1) (c .before .if2 .taken))
 
 returns-4 : tie.Need-returns-4
 returns-4 c =
@@ -56,7 +58,7 @@ returns-4 c =
     let k = v .before .before in
     let d = k .before in
     let b = d .before .before in
-    minus-over (b .args .text .now) (b .args .at) (d .digits-at .result) (b .pre .0) (b .pre .1) (read d) (k .if1 .left) (v .value .given .0 .0) (v .value .given .1) (c .if2 .left)
+    minus-over present present-naming (b .args .text .now) (b .args .at) (d .digits-at .result) (b .pre .0) (b .pre .1) (read d) (k .if1 .left) (v .value .given .0 .0) (v .value .given .1) (c .if2 .left)
 
 pub minus-spec : {M : Type 1} → statement M
 minus-spec =

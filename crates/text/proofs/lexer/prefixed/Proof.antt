@@ -2,6 +2,8 @@
 use Prim.Native.Nat.{_+_}
 use native.Mathlib.Omega.{arith}
 use borrow.Author.Needs.{needs}
+use Rattle.text_lexical.specs.Names.{present}
+use Rattle.text.proofs.NameSets.{present-naming}
 use Rattle.text.proofs.Fronts.{Digits-are, digits-are, prefix-alone, prefix-found, prefix-wide}
 use Rattle.text.proofs.lexer.prefixed.Statement.{statement}
 use Rattle.text.proofs.lexer.prefixed.Tie as tie
@@ -22,7 +24,7 @@ decimal-requires : tie.Need-decimal-requires
 decimal-requires c κs =
     let d = c .before in
     let b = d .before .before in
-    prefix-alone (b .args .text .now) (b .args .at) (b .args .radix) (d .digits-at .result) (b .pre) (read d) (c .if1 .taken)
+    prefix-alone present present-naming (b .args .text .now) (b .args .at) (b .args .radix) (d .digits-at .result) (b .pre) (read d) (c .if1 .taken)
 
 returns : tie.Need-returns
 returns c = search needs
@@ -44,7 +46,7 @@ returns-2 c =
     let k = c .before .before in
     let d = k .before in
     let b = d .before .before in
-    prefix-wide (b .args .text .now) (b .args .at) (b .args .radix) (d .digits-at .result) (b .pre) (read d) (k .if1 .left) (c .enum-told .given .1)
+    prefix-wide present present-naming (b .args .text .now) (b .args .at) (b .args .radix) (d .digits-at .result) (b .pre) (read d) (k .if1 .left) (c .enum-told .given .1)
 
 returns-3 : tie.Need-returns-3
 returns-3 c =
@@ -53,7 +55,7 @@ returns-3 c =
     let d = k .before in
     let b = d .before .before in
     rw (c .found .ensures, c .before .pattern .ensures)
-    (prefix-found (b .args .text .now) (b .args .at) (b .args .radix) (d .digits-at .result) (b .pre) (read d) (k .if1 .left) (v .value .given .0 .0) (v .value .given .1))
+    (prefix-found present present-naming (b .args .text .now) (b .args .at) (b .args .radix) (d .digits-at .result) (b .pre) (read d) (k .if1 .left) (v .value .given .0 .0) (v .value .given .1))
 
 pub prefixed-spec : {M : Type 1} → statement M
 prefixed-spec =

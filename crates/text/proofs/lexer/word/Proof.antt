@@ -6,8 +6,10 @@ use lib.ListN.{length}
 use Rattle.text_lexical.specs.Bytes.{namePart}
 use Rattle.text_lexical.specs.Contracts.{nameMeant}
 use Rattle.text_lexical.specs.declared.name.RegisterName.{RegisterName}
+use Rattle.text_lexical.specs.Names.{present}
 use Rattle.text.specs.Contracts.{tokenAt}
 use Rattle.text.specs.declared.lexer.Scan.the-variants.{Found}
+use Rattle.text.proofs.NameSets.{present-naming}
 use Rattle.text.proofs.Fronts.{run-in, nameKind, word-at}
 use borrow.Author.Needs.{needs}
 use Rattle.text.proofs.lexer.word.Statement.{statement}
@@ -16,11 +18,11 @@ use Rattle.text.proofs.lexer.word.Tie as tie
 -- what stands at the place, by what the spelling names
 word-is : (c : tie.After-parse-register) (n : RegisterName) → c .parse-register .result ≡ n
     → let r = c .before .before in let a = r .before .before .args in
-    Found (record { kind = nameKind n; start = a .at; length = r .run-end .result - a .at }) (r .run-end .result) ≡ tokenAt (a .text .now) (a .at)
+    Found (record { kind = nameKind n; start = a .at; length = r .run-end .result - a .at }) (r .run-end .result) ≡ tokenAt present (a .text .now) (a .at)
 word-is c n e =
     let r = c .before .before in
     let a = r .before .before .args in
-    word-at (a .text .now) (a .at) (r .run-end .result) n (r .before .before .pre .0) (r .before .before .pre .1) (r .run-end .ensures) (ap nameMeant (sym e) ∙ c .parse-register .ensures)
+    word-at present present-naming (a .text .now) (a .at) (r .run-end .result) n (r .before .before .pre .0) (r .before .before .pre .1) (r .run-end .ensures) (ap nameMeant (sym e) ∙ c .parse-register .ensures)
 
 add-run-end : tie.Need-add-run-end
 add-run-end c = search needs

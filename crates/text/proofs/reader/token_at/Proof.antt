@@ -44,6 +44,7 @@ use denote.Triple.Spec.{Meets, tripleOf}
 use denote.Triple.Table.{entered, cited}
 use denote.Triple.Walked.{says, needs, Stays, stay-none, stay-none-slice, walkOf, goes-none, goes-none-slice, Walks, ends-at, walked, walk-meets}
 use denote.Exit.{yes}
+use Rattle.text_lexical.specs.Names.{present}
 use Rattle.text.specs.Contracts.{scanAt, moved}
 use Rattle.text.specs.declared.lexer.Scan.{Scan}
 use Rattle.text.specs.declared.reader.Reader.{Reader}
@@ -144,7 +145,7 @@ module _ {M : Type 1} (𝓤 : URA M) (H : Heap 𝓤) (A : Atoms 𝓤) (W : Given
       qed W (‵ (flft (ν ∷ κ) (PosShare·left q)) ∷ ‵ (flft κ (PosShare·right q)) ∷ ‵ (MutRef (named 0) (ν ∷ κ) (B 𝓤 H A W κ) .own (lent l γ) (vptr l 0 ∷ [])) ∷ []) ∵ says ! within $
       nothing ! $ move ! (2 ∷ 0 ∷ []) $ join ! $ move ! (1 ∷ 0 ∷ []) $ join ! $ frame ! $ nothing ! $ move ! (1 ∷ 0 ∷ []) $ fjoin ! $ done !
 
-  exits : (r : Scan) (u : Val) → Is S.the-row r (u ∷ []) → r ≡ scanAt (now text) n → ent 𝓤 (⋆ 𝓤 H A (‵ (flft κ q) ∷ ‵ Own ∷ [])) (Post u)
+  exits : (r : Scan) (u : Val) → Is S.the-row r (u ∷ []) → r ≡ scanAt present (now text) n → ent 𝓤 (⋆ 𝓤 H A (‵ (flft κ q) ∷ ‵ Own ∷ [])) (Post u)
   exits r u is step =
       qed W (‵ (flft κ q) ∷ ‵ Own ∷ []) ∵
       suffices ! _ (ends-at 𝓤 H A token-at.ended stayed (token-at.clauses 𝓤 H A at-mem run) W (((κ, tt), (q, tt), tt, args, vals), tt) u r (tt, (tt, tt)) (tt, (tt, tt))) $ says ! step $
@@ -179,8 +180,8 @@ module _ {M : Type 1} (𝓤 : URA M) (H : Heap 𝓤) (A : Atoms 𝓤) (W : Given
         -- [what `next` asks; what is kept of ν; …; the lender's part; what the text owns; _5; …; _4; …; …; _2; …; _1; …; room for _0; …]
         calls-at ! fm (Next 𝓤 H A at-mem run) known-next (to-next ν l₃ γ) (and-then ! (load ! (from ! (stop !)) (look ! 5 refl)) (no-more !)) (λ w.
         use1 W (later (some (λ (r : Scan). ((‵ (flft (ν ∷ κ) (PosShare·left q)) ⊛ ‵ (flft κ (PosShare·right q)) ⊛ ‵ ftrue) ⊛ ‵ (S.the-row .own r (w ∷ []))) ⊛ raw (ensured 𝓤 H A next.ended (next.clauses 𝓤 H A at-mem run) (ν ∷ κ, (κ, tt)) (lent l₃ γ, tt) tt r)))) (id⊢ 𝓤 _) $ await ! tt $ pick ! (λ r.
-        split ! $ move ! (1 ∷ []) $ use1 W (some (λ (ds : Reader × Unit {0}). ‵ (lasts next.ended (ν ∷ κ, (κ, tt)) (lent l₃ γ, tt) ds) ⊛ raw (fact 𝓤 ((r ≡ scanAt (now text) n) × (ds .0 ≡ moved made r))))) (id⊢ 𝓤 _) $ pick ! (λ ds.
-        split ! $ drop ! $ heard ! ((r ≡ scanAt (now text) n) × (ds .0 ≡ moved made r)) (λ said. split ! $ move ! (1 ∷ []) $ peeks ! S.the-row (Is S.the-row) (shows 𝓤 H A S.the-row) r (w ∷ []) (λ is-r. drop ! $
+        split ! $ move ! (1 ∷ []) $ use1 W (some (λ (ds : Reader × Unit {0}). ‵ (lasts next.ended (ν ∷ κ, (κ, tt)) (lent l₃ γ, tt) ds) ⊛ raw (fact 𝓤 ((r ≡ scanAt present (now text) n) × (ds .0 ≡ moved made r))))) (id⊢ 𝓤 _) $ pick ! (λ ds.
+        split ! $ drop ! $ heard ! ((r ≡ scanAt present (now text) n) × (ds .0 ≡ moved made r)) (λ said. split ! $ move ! (1 ∷ []) $ peeks ! S.the-row (Is S.the-row) (shows 𝓤 H A S.the-row) r (w ∷ []) (λ is-r. drop ! $
         -- [the tokens; what is kept of ν; …; the lender's part; what the text owns; _5; …; _4; …; …; _2; …; _1; …; room for _0; …]
         land ! (from ! (stop !)) (init ! 14 refl (EL.lawful S.the-type S′.the-laws 𝓤 H A W tt .typed r _ is-r .0)) $
         -- the lifetime is ended, and the local's place comes back

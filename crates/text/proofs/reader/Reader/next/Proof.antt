@@ -45,6 +45,7 @@ use denote.Triple.Entry.{onEntry}
 use denote.Triple.Spec.{Meets, tripleOf}
 use denote.Triple.Table.{entered, cited}
 use denote.Triple.Walked.{says, needs, Stays, stay-ref, walkOf, goes-ref, Walks, ends-at, walked, walk-meets}
+use Rattle.text_lexical.specs.Names.{present}
 use Rattle.text.specs.Contracts.{scanAt, placeAfter}
 use Rattle.text.specs.declared.lexer.Scan.{Scan}
 use Rattle.text.specs.declared.reader.Reader.{Reader}
@@ -139,8 +140,8 @@ module _ {M : Type 1} (𝓤 : URA M) (H : Heap 𝓤) (A : Atoms 𝓤) (W : Given
       asked : ent 𝓤 (onEntry 𝓤 H A token.signature (κ′, tt) (q′, tt) (d .text, (d .position, tt)) (v ∷ [], (vint w64 (d .position) ∷ [], tt))) (NextToken 𝓤 H A at-mem run .pre to-token)
       asked = qed W ((‵ (flft κ′ q′) ⊛ ‵ ftrue) ∷ ‵ (owns (ShrSlice (named 0) κ′ u8 ∷ usize ∷ []) (d .text, (d .position, tt)) (v ∷ [], (vint w64 (d .position) ∷ [], tt))) ∷ []) ∵ says ! within $ join ! $ done !
 
-  token-said : (r : Scan) → ent 𝓤 (ensured 𝓤 H A token.ended (token.clauses 𝓤 H A at-mem run) (κ′, tt) (d .text, (d .position, tt)) tt r) (fact 𝓤 (r ≡ scanAt (now (d .text)) (d .position)))
-  token-said r = exE 𝓤 _ (λ ws. snd∗ 𝓤 (sem 𝓤 H A (lasts token.ended (κ′, tt) (d .text, (d .position, tt)) ws)) (fact 𝓤 (r ≡ scanAt (now (d .text)) (d .position))))
+  token-said : (r : Scan) → ent 𝓤 (ensured 𝓤 H A token.ended (token.clauses 𝓤 H A at-mem run) (κ′, tt) (d .text, (d .position, tt)) tt r) (fact 𝓤 (r ≡ scanAt present (now (d .text)) (d .position)))
+  token-said r = exE 𝓤 _ (λ ws. snd∗ 𝓤 (sem 𝓤 H A (lasts token.ended (κ′, tt) (d .text, (d .position, tt)) ws)) (fact 𝓤 (r ≡ scanAt present (now (d .text)) (d .position))))
 
   -- the call of `place_after`, at the answer r with the machine value u
   abbrev to-place : Scan → Val → PlaceAfter 𝓤 H A at-mem run .Ghost
@@ -158,7 +159,7 @@ module _ {M : Type 1} (𝓤 : URA M) (H : Heap 𝓤) (A : Atoms 𝓤) (W : Given
   again : (m : ℕ) → m < 2 ^ 64 → ent 𝓤 (sem 𝓤 H A Own) (sem 𝓤 H A (B .own (at m) (mach m ∷ [])))
   again m fits = qed W (‵ Own ∷ []) ∵ owned ! usize (Is usize) (uint-makes 𝓤 H A W w64) m _ (refl, fits) $ move ! (1 ∷ 0 ∷ []) $ by ! (own-put 𝓤 H A W D L 1 fields m (mach (d .position)))
 
-  exits : (r : Scan) (u : Val) (m : ℕ) → Is S.the-row r (u ∷ []) → r ≡ scanAt (now (d .text)) (d .position) → m ≡ placeAfter r (d .position)
+  exits : (r : Scan) (u : Val) (m : ℕ) → Is S.the-row r (u ∷ []) → r ≡ scanAt present (now (d .text)) (d .position) → m ≡ placeAfter r (d .position)
       → ent 𝓤 (⋆ 𝓤 H A (‵ (fobs γ (B .coded .code (at m))) ∷ ‵ (fbor κ (Body (mem B) b o γ)) ∷ ‵ (flft κ q) ∷ (‵ (flft κ′ q′) ⊛ ‵ ftrue) ∷ [])) (Post u)
   exits r u m is step e =
       qed W (‵ (fobs γ (B .coded .code (at m))) ∷ ‵ (fbor κ (Body (mem B) b o γ)) ∷ ‵ (flft κ q) ∷ (‵ (flft κ′ q′) ⊛ ‵ ftrue) ∷ []) ∵
@@ -184,7 +185,7 @@ module _ {M : Type 1} (𝓤 : URA M) (H : Heap 𝓤) (A : Atoms 𝓤) (W : Given
         move ! (1 ∷ 5 ∷ []) $ use2 W (raw (NextToken 𝓤 H A at-mem run .pre to-token) ⊛ ‵ Own) (apart (place-fits is) within) $ split ! $
         calls-at ! fm (NextToken 𝓤 H A at-mem run) known-token to-token (and-then ! (load ! (from ! (stop !)) (look ! 9 refl)) (and-then ! (load ! (from ! (stop !)) (look ! 13 refl)) (no-more !))) (λ u.
         use1 W (later (some (λ (r : Scan). ((‵ (flft κ′ q′) ⊛ ‵ ftrue) ⊛ ‵ (S.the-row .own r (u ∷ []))) ⊛ raw (ensured 𝓤 H A token.ended (token.clauses 𝓤 H A at-mem run) (κ′, tt) (d .text, (d .position, tt)) tt r)))) (id⊢ 𝓤 _) $ await ! tt $ pick ! (λ r.
-        split ! $ move ! (1 ∷ []) $ use1 W (raw (fact 𝓤 (r ≡ scanAt (now (d .text)) (d .position)))) (token-said r) $ heard ! (r ≡ scanAt (now (d .text)) (d .position)) (λ step. split ! $ move ! (1 ∷ []) $
+        split ! $ move ! (1 ∷ []) $ use1 W (raw (fact 𝓤 (r ≡ scanAt present (now (d .text)) (d .position)))) (token-said r) $ heard ! (r ≡ scanAt present (now (d .text)) (d .position)) (λ step. split ! $ move ! (1 ∷ []) $
         peeks ! S.the-row (Is S.the-row) (shows 𝓤 H A S.the-row) r (u ∷ []) (λ is-r. drop ! $
         -- ['a's token; what the reader owns; its cell; the open borrow; obs; auth; …; _5; …; _4; …; room for _3; …; _2; …; _1; …; room for _0; …]
         land ! (from ! (stop !)) (init ! 11 refl (EL.lawful S.the-type S′.the-laws 𝓤 H A W tt .typed r _ is-r .0)) $
