@@ -11,6 +11,7 @@ use lib.Dec.{eqb}
 use borrow.Author.Tests.{eq-eqb, ne-eqb}
 use Rattle.text_lexical.specs.Bytes.{Result, value, refused, lower, find}
 use Rattle.text_lexical.specs.Contracts.{keyOf}
+use Rattle.text_lexical.specs.Words.{wordKey}
 use Rattle.text_lexical.proofs.Keys.{Below, lowered-below}
 use Rattle.text.specs.Tokens.{Token}
 use Rattle.text.specs.Lines.{Line}
@@ -20,13 +21,13 @@ use Rattle.text.specs.declared.lexer.Kind.the-variants.{Identifier}
 use Rattle.text.specs.declared.lexer.Token.{Token as KeptToken}
 use Rattle.instruction.specs.Table.{Place, Form, R, I, Shift, Load, Store, Branch, Jump, System, places, Row, table, rowNamed}
 use Rattle.instruction.specs.Operands.{Instruction, readIdentifier, readOperands, made, readRow, readMnemonic, readInstruction, behind}
-use Rattle.instruction.specs.Contracts.{rowAt, formAt, formNumber, partsMeant}
+use Rattle.instruction.specs.Contracts.{rowAt, formAt, formNumber, partsMeant, SettledFor}
 use Rattle.instruction_operands.specs.Contracts.{operandMeant, Reads}
 use Rattle.instruction_operands.specs.declared.assembler.Operand.{Operand}
 use Rattle.instruction_operands.specs.declared.assembler.Operand.the-variants.{Are, Refused}
 use Rattle.instruction.specs.declared.instruction.Operands.{Operands}
 use Rattle.instruction.proofs.Columns.{form-numbered}
-use Rattle.instruction.proofs.Lookup.{row-by-key}
+use Rattle.instruction.proofs.Lookup.{row-by-key, row-by-word}
 
 -- ---- forms
 
@@ -82,7 +83,11 @@ module _ (s : List ℕ) (ts : List KeptToken) (at count : ℕ) where
       let g : formAt form ≡ r .form = ap formAt f ∙ form-numbered (r .form) in
       let c : count - at - 1 ≡ length (places (r .form)) = e ∙ m ∙ ap (λ x. length (places x)) g in
       rw (readRow, eq-eqb (count - at - 1) (length (places (r .form))) c, read-kept (places (r .form)) h c)
-      (ap (made r) (subst (λ x. operandMeant (places x) o ≡ readOperands (places x) (map (meant s) (drop (at + 1) ts))) g (reads s)))
+      (ap (made r) (subst (λ x. operandMeant (places x) o ≡ readOperands (places x) (map (meant s) (drop (at + 1) ts))) g (reads .means s)))
+
+-- The operands of a form are settled by the row's.
+pub settled-row : (r : Row) (form : ℕ) (o : Operands) → form ≡ formNumber (r .form) → SettledFor (places (formAt form)) o → SettledFor (places (r .form)) o
+settled-row r form o f h = subst (λ x. SettledFor (places x) o) (ap formAt f ∙ form-numbered (r .form)) h
 
 -- Where there are no operands, their refusal is all.
 pub made-refused : {o : Operand} {n : ℕ} {x : Result Instruction} (r : Row) (ps : List Place) → o ≡ Refused n → made r (operandMeant ps o) ≡ x → refused n ≡ x
@@ -137,6 +142,9 @@ below-part k n s h = below-take n (drop k s) (λ j. rw (getD-drop k s j 0) (h (k
 -- A mnemonic's row is found by the key of its spelling in lower case.
 pub named-by-key : (u : List ℕ) (key : ℕ) → Below u → key ≡ keyOf (map lower u) → find (λ q. eqb (keyOf (q .mnemonic)) key) table ≡ rowNamed (map lower u)
 named-by-key u key h e = rw e (sym (row-by-key (map lower u) (lowered-below u h)))
+
+pub named-by-word : (u : List ℕ) (key : ℕ) → Below u → key ≡ wordKey u → find (λ q. eqb (keyOf (q .mnemonic)) key) table ≡ rowNamed (map lower u)
+named-by-word u key h e = rw e (sym (row-by-word u h))
 
 -- No row has the mnemonic.
 pub mnemonic-unknown : {k : Kind} {x : Result Instruction} (u : List ℕ) (count : ℕ) (ts : List Token) → k ≡ Identifier → rowNamed (map lower u) ≡ none

@@ -7,8 +7,9 @@ use mathlib.Core.Bool.{Bool, true, false}
 use mathlib.Core.List.{List, [], _∷_, _++_, map, append-assoc}
 use lib.ListN.{length, drop, getD, set, replicate, length-append}
 use lib.Seq.{drop-cons}
+use lib.IntN.{ℤ}
 use Rattle.text_lexical.specs.Bytes.{value, refused}
-use Rattle.text_lexical.specs.Contracts.{indexOf, wholeMeant}
+use Rattle.text_lexical.specs.Contracts.{indexOf, wholeFor}
 use Rattle.text_lexical.specs.declared.number.Whole.{Whole}
 use Rattle.text_lexical.specs.declared.register.Register.{Register}
 use Rattle.text_lexical.specs.declared.register.Register.the-variants.{R0}
@@ -19,13 +20,14 @@ use Rattle.text.specs.Contracts.{kindMeant, spelling, meant, filler}
 use Rattle.text.specs.declared.lexer.Token.{Token as KeptToken}
 use Rattle.instruction.specs.Table.{Place}
 use Rattle.instruction.specs.Operands.{readRegister, markByte, readOperands}
-use Rattle.instruction.specs.Contracts.{noNumber, operands, operandsMeant}
+use Rattle.instruction.specs.Contracts.{noNumber, operands}
 use Rattle.instruction.specs.Forms.{isNumber, markOf, Ahead}
 use Rattle.instruction.specs.declared.form.Mark.{Mark}
 use Rattle.instruction.specs.declared.form.Mark.the-variants.{Nothing, Is}
 use Rattle.instruction.proofs.Forms.{Room, Reading, Marking, reading-begin, reading-register, reading-number, reading-end, marking-none, marking-mark, register-refused, number-refused, mark-refused, operand-within, mark-within}
-use Rattle.instruction_operands.specs.Contracts.{OperandIs, Within, MarkIs}
-use Rattle.instruction_operands.specs.declared.assembler.OperandToken.the-variants.{Register as RegisterToken, Number as NumberToken, Refused as NoOperand}
+use Rattle.instruction_operands.specs.Contracts.{OperandIs, Within, MarkIs, Reads}
+use Rattle.instruction_operands.specs.declared.assembler.OperandToken.the-variants.{Refused as NoOperand}
+use Rattle.instruction_operands.specs.declared.assembler.Operand.the-variants.{Are}
 use Rattle.instruction_operands.specs.declared.assembler.Passed.the-variants.{At as PassedAt, Refused as NotPassed}
 
 never : {n m : ℕ} → NotPassed n ≡ PassedAt m → ⊥
@@ -82,14 +84,15 @@ module _ (all : List Place) (ts : List KeptToken) (at : ℕ) where
         }
 
     pub number-next : (d : KeptToken) (w′ : Whole) → Before next count rs w left s → 0 < left → isNumber (left % 8) ≡ true
-        → ((u : List ℕ) → readNumber (kindMeant (getD ts next d .kind) u) ≡ value (wholeMeant w′)) → Between (next + 1) count rs w′ left s
+        → ((u : List ℕ) → (z : ℤ) × ((readNumber (kindMeant (getD ts next d .kind) u) ≡ value z) × (w′ ≡ wholeFor z))) → Between (next + 1) count rs w′ left s
     number-next d w′ q h digit e =
         let t = meant s (getD ts next d) in
+        let (z, (f, g)) = e (spelling s (getD ts next d)) in
         record {
           pre = q .pre ++ (t ∷ []);
           splits = split-on s next (q .pre) d (omega (arith, operand-kept q h)) (q .splits);
           place = rw (length-append (q .pre) (t ∷ [])) (omega (arith, q .place));
-          marking = reading-number (q .reading) h digit t (wholeMeant w′) w′ (e (spelling s (getD ts next d))) refl;
+          marking = reading-number (q .reading) h digit t z w′ f g;
         }
 
     pub mark-next : (m : Mark) {next′ : ℕ} → Between next count rs w left s → m ≡ markOf (left % 8) → MarkIs ts next m (PassedAt next′)
@@ -123,7 +126,11 @@ module _ (all : List Place) (ts : List KeptToken) (at : ℕ) where
         let t = getD ts next filler in
         rw f (sym (ap (readOperands all) (split-here s next (q .pre) filler (omega (arith, mark-kept q (sym e))) (q .splits)) ∙ mark-refused (q .marking) (sym e) (meant s t) _ (b (spelling s t))))
 
-    -- All operands are read.
-    pub operands-read : Before next count rs w left s → (0 < left → ⊥)
-        → value (operandsMeant all (operands (getD rs 0 R0) (getD rs 1 R0) (getD rs 2 R0) w)) ≡ readOperands all (map (meant s) (drop (at + 1) ts))
-    operands-read q over = sym (ap (readOperands all) (q .splits) ∙ reading-end (q .reading) over .means _)
+  -- All operands are read.
+  pub operands-read : {next count : ℕ} {rs : List Register} {w : Whole} {left : ℕ} → ((s : List ℕ) → Before next count rs w left s) → (0 < left → ⊥)
+      → Reads all ts at (Are (operands (getD rs 0 R0) (getD rs 1 R0) (getD rs 2 R0) w))
+  operands-read q over =
+      record {
+        means = λ s. sym (ap (readOperands all) (q s .splits) ∙ reading-end (q s .reading) over .means _);
+        settled = reading-end (q [] .reading) over .settled;
+      }

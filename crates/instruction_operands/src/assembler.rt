@@ -1,14 +1,14 @@
 // Operands: the tokens of a line read as an instruction.
 ghost use mathlib.Core.Path.{_≡_};
 ghost use mathlib.Core.List.{List};
-ghost use Prim.Native.Nat.{ℕ, _+_, _-_, _≤_, _<_};
-ghost use lib.ListN.{length, drop};
+ghost use Prim.Native.Nat.{ℕ, _≤_, _<_};
+ghost use lib.ListN.{length};
 ghost use Rattle.text.specs.Lines.{kept};
-ghost use Rattle.text.specs.Contracts.{kindMeant, firsts};
+ghost use Rattle.text.specs.Contracts.{kindMeant};
 ghost use Rattle.instruction.specs.Table.{places};
-ghost use Rattle.instruction.specs.Operands.{readRegister, markByte, readRow, readInstruction, behind};
+ghost use Rattle.instruction.specs.Operands.{readRegister, markByte};
 ghost use Rattle.instruction.specs.Contracts.{rowAt, formAt, formNumber, mnemonicKeys, formNumbers, slotRows};
-ghost use Rattle.instruction_operands.specs.Contracts.{registerMeant, OperandIs, Within, MarkIs, Reads, parsedMeant, InTable, Kept};
+ghost use Rattle.instruction_operands.specs.Contracts.{registerMeant, OperandIs, Within, MarkIs, Reads, RowIs, ParsedIs, Kept};
 use instruction::form::Mark;
 use instruction::instruction::Operands;
 use instruction::opcode::Row;
@@ -167,7 +167,7 @@ fn parse_operands(form: u8, tokens: [Token; KEPT], at: usize) -> Operand
 // The instruction of a row, by the operand tokens after the mnemonic at `at`: 16, then the operands.
 fn parse_row(row: usize, form: u8, line: Line, at: usize) -> Parsed
     requires { ⌜ row < 50 ⌝ ∗ ⌜ form ≡ formNumber (rowAt row .form) ⌝ ∗ ⌜ at < line .count ⌝ ∗ ⌜ at ≤ 2 ⌝ ∗ ⌜ length (line .tokens) ≡ kept ⌝ }
-    ensures { λ r. ⌜ ((s : List ℕ) → parsedMeant r ≡ readRow (rowAt row) (line .count - at - 1) (drop (at + 1) (firsts s (line .tokens) (line .count)))) ⌝ ∗ ⌜ InTable r ⌝ }
+    ensures { λ r. ⌜ RowIs row line at r ⌝ }
 {
     let count = line.count;
     let tokens = line.tokens;
@@ -191,7 +191,7 @@ pub fn parse_instruction(
     slots: &[u8; 293],
 ) -> Parsed
     requires { ⌜ Kept (now source) line ⌝ ∗ ⌜ at ≤ 2 ⌝ ∗ ⌜ now mnemonics ≡ mnemonicKeys ⌝ ∗ ⌜ now forms ≡ formNumbers ⌝ ∗ ⌜ now slots ≡ slotRows ⌝ }
-    ensures { λ r. ⌜ parsedMeant r ≡ readInstruction (behind at (record { count = line .count; first = firsts (now (source .entry)) (line .tokens) (line .count) })) ⌝ ∗ ⌜ InTable r ⌝ }
+    ensures { λ r. ⌜ ParsedIs (now (source .entry)) line at r ⌝ }
 {
     let tokens = line.tokens;
     let count = line.count;

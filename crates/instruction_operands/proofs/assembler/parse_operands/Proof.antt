@@ -65,15 +65,18 @@ enum-known-n : tie.Need-enum-known-n Inv-loop μ-loop
 enum-known-n c = search needs
 
 returns : tie.Need-returns Inv-loop μ-loop
-returns c s =
+returns c =
     let n = c .before in
     let o = n .before .before in
     let i = o .before in
     let l = i .before .before in
     let k = l .before in
     let b = k .before .before .before in
-    operand-refuses _ (b .args .t2) (b .args .at) (b .pre .0) (b .pre .1) (six-places (formAt (b .args .form))) (i .is-number .result) past (k .loop .inv s)
-    (l .loop-test .taken) (i .is-number .ensures) (rw (n .n .given .1) at (o .read-operand .ensures))
+    record {
+      means = λ s. operand-refuses _ (b .args .t2) (b .args .at) (b .pre .0) (b .pre .1) (six-places (formAt (b .args .form))) (i .is-number .result) past (k .loop .inv s)
+          (l .loop-test .taken) (i .is-number .ensures) (rw (n .n .given .1) at (o .read-operand .ensures));
+      settled = tt;
+    }
 
 enum-known-n-2 : tie.Need-enum-known-n-2 Inv-loop μ-loop
 enum-known-n-2 c = search needs
@@ -126,13 +129,16 @@ enum-known-n-3 : tie.Need-enum-known-n-3 Inv-loop μ-loop
 enum-known-n-3 c = search needs
 
 returns-2 : tie.Need-returns-2 Inv-loop μ-loop
-returns-2 c s =
+returns-2 c =
     let n = c .before in
     let a = n .before .before in
     let m = a .before in
     let b = m .before .before .before .before .before .before .before .before .before in
-    mark-refuses _ (b .args .t2) (b .args .at) (b .pre .0) (b .pre .1) (six-places (formAt (b .args .form))) (m .mark-of .result) (between (m .before) s) (m .mark-of .ensures)
-    (rw (n .n3 .given .1) at (a .after-mark .ensures))
+    record {
+      means = λ s. mark-refuses _ (b .args .t2) (b .args .at) (b .pre .0) (b .pre .1) (six-places (formAt (b .args .form))) (m .mark-of .result) (between (m .before) s) (m .mark-of .ensures)
+          (rw (n .n3 .given .1) at (a .after-mark .ensures));
+      settled = tt;
+    }
 
 enum-known-after : tie.Need-enum-known-after Inv-loop μ-loop
 enum-known-after c = search needs
@@ -159,11 +165,11 @@ array-copy-out-t37 : tie.Need-array-copy-out-t37 Inv-loop μ-loop
 array-copy-out-t37 c = search needs
 
 returns-3 : tie.Need-returns-3 Inv-loop μ-loop
-returns-3 c s =
+returns-3 c =
     let l = c .before .before .before in
     let k = l .before in
     let b = k .before .before .before in
-    operands-read _ (b .args .t2) (b .args .at) (b .pre .0) (b .pre .1) (six-places (formAt (b .args .form))) (k .loop .inv s) (λ h. omega arith)
+    operands-read _ (b .args .t2) (b .args .at) (k .loop .inv) (λ h. omega arith)
 
 pub parse-operands-spec : {M : Type 1} → statement M
 parse-operands-spec =

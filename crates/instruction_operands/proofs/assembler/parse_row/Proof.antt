@@ -9,7 +9,7 @@ use Rattle.instruction.specs.Table.{places}
 use Rattle.instruction.specs.Operands.{made, readRow}
 use Rattle.instruction.specs.Contracts.{rowAt}
 use Rattle.instruction_operands.specs.Contracts.{operandMeant}
-use Rattle.instruction_operands.proofs.Line.{row-read, row-refused, made-refused, made-read}
+use Rattle.instruction_operands.proofs.Line.{row-read, row-refused, settled-row, made-refused, made-read}
 use Rattle.instruction_operands.proofs.assembler.parse_row.Statement.{statement}
 use Rattle.instruction_operands.proofs.assembler.parse_row.Tie as tie
 
@@ -25,7 +25,11 @@ operand-count-requires c κs = search needs
 returns : tie.Need-returns
 returns c =
     let b = c .before .before .before in
-    (λ s. row-refused (rowAt (b .args .row)) (b .args .form) (c .before .operand-count .result) _ _ (b .pre .1 .0) (c .before .operand-count .ensures) (c .if1 .taken), tt)
+    record {
+      means = λ s. row-refused (rowAt (b .args .row)) (b .args .form) (c .before .operand-count .result) _ _ (b .pre .1 .0) (c .before .operand-count .ensures) (c .if1 .taken);
+      in-table = tt;
+      settled = tt;
+    }
 
 parse-operands-requires : tie.Need-parse-operands-requires
 parse-operands-requires c κs = search needs
@@ -52,14 +56,18 @@ returns-2 : tie.Need-returns-2
 returns-2 c =
     let n = c .before in
     let k = n .before .before in
-    (λ s. made-refused _ _ (n .n .given .1) (read k s), tt)
+    record { means = λ s. made-refused _ _ (n .n .given .1) (read k s); in-table = tt; settled = tt }
 
 returns-3 : tie.Need-returns-3
 returns-3 c =
     let o = c .before in
     let k = o .before .before in
     let b = k .before .before .before .before in
-    (λ s. made-read (b .args .row) (o .operands .given .1) (read k s), b .pre .0)
+    record {
+      means = λ s. made-read (b .args .row) (o .operands .given .1) (read k s);
+      in-table = b .pre .0;
+      settled = settled-row (rowAt (b .args .row)) (b .args .form) _ (b .pre .1 .0) (rw (o .operands .given .1) at (k .parse-operands .ensures .settled));
+    }
 
 pub parse-row-spec : {M : Type 1} → statement M
 parse-row-spec =
