@@ -32,10 +32,18 @@ key-short s h = rw (keyOf, le-leb (length s) 7 h)
 
 -- ---- a spelling and its key
 
+-- A spelling of at most seven bytes.
+unfoldable pub isKeyed : List ℕ → Bool
+isKeyed s = elim (leb (length s) 7) [ true ↦ every (λ b. ltb b 256) s | false ↦ false ]
+
 packed-pos : (s : List ℕ) → 0 < packed s
 unfolding packed
 packed-pos [] = omega arith
 packed-pos (b ∷ s) = omega (arith, packed-pos s)
+
+pub key-pos : (s : List ℕ) → isKeyed s ≡ true → 0 < keyOf s
+unfolding isKeyed
+key-pos s h = omega (arith, packed-pos s, key-short s (leb-true (length s) 7 (both (leb (length s) 7) _ h .0)))
 
 packed-eq : (s t : List ℕ) → Below s → Below t → packed s ≡ packed t → s ≡ t
 unfolding packed
@@ -58,10 +66,6 @@ same-key s t l hs ht =
     (λ e. rw e (not-true (same s t) (λ z. eqb-false (keyOf s) (keyOf t) e (ap keyOf (same-eq s t z)))))
 
 -- ---- entries found by the key of their spelling
-
--- A spelling of at most seven bytes.
-unfoldable pub isKeyed : List ℕ → Bool
-isKeyed s = elim (leb (length s) 7) [ true ↦ every (λ b. ltb b 256) s | false ↦ false ]
 
 every-below : (s : List ℕ) → every (λ b. ltb b 256) s ≡ true → Below s
 every-below [] h i = omega arith

@@ -1,4 +1,4 @@
--- The key of the word at a place, from its first byte on.
+-- The key of the word at a place, from its first byte on, and of a spelling; entries found by it.
 use Prim.Native.Nat.{ℕ, suc, _+_, _-_, _*_, _^_, _≤_, _<_}
 use mathlib.Core.Path.{_≡_, refl, sym, ap, _∙_}
 use native.Mathlib.Nat.{pow-suc, pow-le-pow-right, mul-add, mul-assoc, mul-comm, mul-le-mul-right}
@@ -6,15 +6,16 @@ use native.Mathlib.Omega.{arith}
 use mathlib.Core.Bool.{true, false}
 use mathlib.Core.List.{List, [], _∷_, _++_, map, map-append}
 use lib.ListN.{length, take, drop, getD, length-map, length-take, length-drop}
+use lib.Dec.{eqb}
 use lib.Seq.{drop-drop, take-all, take-length, take-suc, getD-drop}
-use borrow.Author.Tests.{le-leb, lt-leb}
-use Rattle.text_lexical.specs.Bytes.{namePart, lower, every, before, run}
+use borrow.Author.Tests.{le-leb, lt-leb, ne-eqb}
+use Rattle.text_lexical.specs.Bytes.{between, letter, digit, nameStart, namePart, lower, every, same, before, run, find, each}
 use Rattle.text_lexical.specs.Contracts.{packed, keyOf}
 use Rattle.text_lexical.specs.Words.{part, WordIs, wordKey}
 use Rattle.text_lexical.specs.declared.name.Word.{Word}
-use Rattle.text_lexical.proofs.Tests.{split}
-use Rattle.text_lexical.proofs.Strings.{every-append, every-cons, take-run, every-run, past-run, run-le, run-past, run-yes, run-no, run-end}
-use Rattle.text_lexical.proofs.Keys.{lower-below}
+use Rattle.text_lexical.proofs.Tests.{split, by-test, not-true, no-both, both, or-left, or-right}
+use Rattle.text_lexical.proofs.Strings.{same-eq, every-append, every-head, every-tail, every-cons, take-run, every-run, past-run, run-le, run-past, run-yes, run-no, run-end}
+use Rattle.text_lexical.proofs.Keys.{Below, isKeyed, byKey, key-pos, found-by-key, lower-below, lowered-below}
 
 -- A byte more after a spelling.
 packed-after : (u : List ℕ) (b : ℕ) → packed (u ++ (b ∷ [])) + 256 ^ length u ≡ packed u + 256 ^ length u * (b + 256)
@@ -136,3 +137,37 @@ module _ (s : List ℕ) (w : Word) (is : WordIs s 0 w) where
   no-word l =
       let p : every namePart s ≡ false = rw (take-length s) at (past-run namePart s (length s) (omega (arith, is .ends)) (omega arith)) in
       rw (wordKey, p)
+
+-- ---- entries found by the key of a word
+
+part-lowered : (b : ℕ) → namePart (lower b) ≡ true → namePart b ≡ true
+unfolding lower namePart nameStart letter
+part-lowered b h =
+    by-test (between 65 90 b) (λ e. or-left (nameStart b) (digit b) (or-left (letter b) (eqb b 95) (or-right (between 97 122 b) (between 65 90 b) e))) (λ e. rw (lower, e) at h)
+
+parts-lowered : (u : List ℕ) → every namePart (map lower u) ≡ true → every namePart u ≡ true
+unfolding every
+parts-lowered [] h = refl
+parts-lowered (b ∷ u) h =
+    every-cons namePart b u (part-lowered b (every-head namePart (lower b) (map lower u) h)) (parts-lowered u (every-tail namePart (lower b) (map lower u) h))
+
+module _ {A : Type 0} (spell : A → List ℕ) where
+  -- An entry that is spelled as a word is none that is no word, and has another key.
+  none-found : (l : List A) → each (λ a. isKeyed (spell a)) l ≡ true → each (λ a. every namePart (spell a)) l ≡ true → (u : List ℕ) → every namePart u ≡ false
+      → find (λ a. same (spell a) (map lower u)) l ≡ byKey spell l 0
+  unfolding byKey find each
+  none-found [] keyed words u h = refl
+  none-found (a ∷ l) keyed words u h =
+      let (ka, kl) = both (isKeyed (spell a)) (each (λ a. isKeyed (spell a)) l) keyed in
+      let (wa, wl) = both (every namePart (spell a)) (each (λ a. every namePart (spell a)) l) words in
+      let other : same (spell a) (map lower u) ≡ false
+      = not-true (same (spell a) (map lower u)) (λ e. no-both (parts-lowered u (rw (same-eq (spell a) (map lower u) e) at wa)) h) in
+      rw (find, other, ne-eqb (keyOf (spell a)) 0 (λ e. omega (arith, key-pos (spell a) ka))) (none-found l kl wl u h)
+
+  -- An entry that is spelled as a word is found by the key of a spelling in lower case.
+  pub found-by-word : (l : List A) → each (λ a. isKeyed (spell a)) l ≡ true → each (λ a. every namePart (spell a)) l ≡ true → (u : List ℕ) → Below u
+      → find (λ a. same (spell a) (map lower u)) l ≡ byKey spell l (wordKey u)
+  unfolding wordKey
+  found-by-word l keyed words u h =
+      by-test (every namePart u) (λ e. rw (wordKey, e) (found-by-key spell l keyed (map lower u) (lowered-below u h)))
+      (λ e. rw (wordKey, e) (none-found l keyed words u e))
