@@ -3,8 +3,8 @@ use mathlib.Core.Path.{_≡_, refl, sym, ap, _∙_}
 use Prim.Native.Nat.{ℕ, zero, suc, _+_, _-_, _/_, _%_, _≤_, _<_}
 use native.Mathlib.Nat.{mod-lt}
 use native.Mathlib.Omega.{arith}
-use mathlib.Core.Bool.{Bool, true, false, not, _&&_, _||_, and-eq-true-iff}
-use mathlib.Core.Option.{Option, none, some}
+use mathlib.Core.Bool.{Bool, true, false, not, _&&_, and-eq-true-iff}
+use mathlib.Core.Option.{none, some}
 use mathlib.Core.List.{List, [], _∷_, map}
 use lib.ListN.{length, getD, length-map, List·getD-eq-default}
 use lib.Dec.{ltb, eqb}
@@ -12,9 +12,9 @@ use borrow.Author.Tests.{ltb-true, eqb-true, eqb-false, eq-eqb, ne-eqb, not-true
 use Rattle.text_lexical.specs.Bytes.{between, digit, letter, nameStart, namePart, lower, bytes, every, same, find, each}
 use Rattle.text_lexical.specs.Contracts.{packed, keyOf}
 use Rattle.text_lexical.specs.Words.{wordKey}
-use Rattle.text_lexical.proofs.Tests.{by-test, both, no-both, or-left, or-right}
-use Rattle.text_lexical.proofs.Strings.{every-head, every-tail, every-cons, same-eq, found}
-use Rattle.text_lexical.proofs.Keys.{Below, isKeyed, byKey, found-by-key, lowered-below}
+use Rattle.text_lexical.proofs.Tests.{by-test, both}
+use Rattle.text_lexical.proofs.Keys.{Below, isKeyed, byKey, found-by-key}
+use Rattle.text_lexical.proofs.Words.{found-by-word}
 use Rattle.instruction.specs.Table.{Row, row, table, rowNamed, rowCoded}
 use Rattle.instruction.specs.Contracts.{noRow, rowAt, mnemonicKeys, opcodeNumbers, slotRow, slotRowsFrom, slotRows, unusedBelow}
 use Rattle.instruction.specs.Fits.{InTable}
@@ -52,44 +52,14 @@ pub row-by-key : (s : List ℕ) → Below s → rowNamed s ≡ find (λ q. eqb (
 unfolding rowNamed byKey
 row-by-key s h = found-by-key (λ r. r .mnemonic) table table-keyed s h
 
--- ---- by a word's key
-
--- A byte is part of a name if it is one in lower case.
-lower-part : (b : ℕ) → namePart (lower b) ≡ true → namePart b ≡ true
-unfolding namePart nameStart letter lower
-lower-part b h =
-    by-test (between 65 90 b)
-    (λ e. or-left (letter b || eqb b 95) (digit b) (or-left (letter b) (eqb b 95) (or-right (between 97 122 b) (between 65 90 b) e)))
-    (λ e. rw (lower, e) at h)
-
-lower-parts : (u : List ℕ) → every namePart (map lower u) ≡ true → every namePart u ≡ true
-unfolding every
-lower-parts [] h = refl
-lower-parts (b ∷ u) h = every-cons namePart b u (lower-part b (every-head namePart (lower b) (map lower u) h)) (lower-parts u (every-tail namePart (lower b) (map lower u) h))
-
--- The mnemonics are words, and none has the key 0.
+-- The same by a spelling's key as a word: mnemonics are words.
 table-words : each (λ r. every namePart (r .mnemonic)) table ≡ true
 unfolding each every namePart nameStart letter digit between table row bytes
 table-words = refl
 
-no-zero : find (λ q. eqb (keyOf (q .mnemonic)) 0) table ≡ none
-unfolding find keyOf packed table row bytes
-no-zero = refl
-
-no-word : (u : List ℕ) → every namePart u ≡ false → (o : Option Row) → rowNamed (map lower u) ≡ o → o ≡ none
-unfolding rowNamed
-no-word u h none e = refl
-no-word u h (some r) e =
-    let (s, w) = found (λ q. same (q .mnemonic) (map lower u)) (λ q. every namePart (q .mnemonic)) table r e table-words in
-    no-both (lower-parts u (rw (same-eq (r .mnemonic) (map lower u) s) at w)) h
-
--- A spelling in lower case names the row that has its key as a word.
 pub row-by-word : (u : List ℕ) → Below u → rowNamed (map lower u) ≡ find (λ q. eqb (keyOf (q .mnemonic)) (wordKey u)) table
-unfolding wordKey
-row-by-word u h =
-    by-test (every namePart u)
-    (λ e. rw (wordKey, e) (row-by-key (map lower u) (lowered-below u h)))
-    (λ e. rw (wordKey, e, no-zero) (no-word u e (rowNamed (map lower u)) refl))
+unfolding rowNamed byKey
+row-by-word u h = found-by-word (λ r. r .mnemonic) table table-keyed table-words u h
 
 -- ---- by a key's slot
 
