@@ -1,3 +1,4 @@
+pub mod Answers
 pub mod Starts
 pub mod Places
 pub mod Operands

@@ -31,10 +31,11 @@ use Rattle.instruction.specs.Kinds.{Kind, empty, labelled, config, ignored, pla
 use Rattle.image.specs.Assembling.{Context, nothing, setting, coding, afterLabel, readKind, readOn}
 use Rattle.image.specs.Assembling.{Effect as MeantEffect}
 use Rattle.image.specs.Contracts.{recordMeant}
-use Rattle.image_line.specs.Contracts.{effectMeant, InTable, EffectIs, endOf, StartsAt, LineIs, Recorded, RecordIs}
+use Rattle.image_line.specs.Contracts.{effectMeant, InTable, EffectSettled, EffectIs, endOf, StartsAt, LineIs, Recorded, RecordIs}
 use Rattle.image_line.specs.declared.line.Effect.{Effect}
 use Rattle.image_line.specs.declared.line.Effect.the-variants.{Nothing, Faulty}
 use Rattle.image_line.specs.declared.line.Read.{Read}
+use Rattle.image_line.proofs.Answers.{answered}
 use Rattle.image_line.proofs.Starts.{starts-here}
 
 -- ---- the tokens of a record
@@ -142,6 +143,7 @@ module _ (s : List ℕ) (l : Line) (c : Context) where
         ends = refl;
         in-text = t .kept .inside-text 0;
         in-table = q .in-table;
+        settled = q .settled;
       }
 
   -- A line without a label, whose content starts at a place.
@@ -149,33 +151,33 @@ module _ (s : List ℕ) (l : Line) (c : Context) where
     abbrev pub bare : Effect → Read
     bare e = record { labelled = false; start = start; length = 0; effect = e; end = l .end }
 
-    record-bare : (e : Effect) (k : Kind) → k ≡ kindOf (firsts s (l .tokens) (l .count)) → record { label = none; effect = effectMeant e } ≡ readKind c (recordMeant s l) k → InTable e
+    record-bare : (e : Effect) (k : Kind) → k ≡ kindOf (firsts s (l .tokens) (l .count)) → record { label = none; effect = effectMeant e } ≡ readKind c (recordMeant s l) k → InTable e → EffectSettled e
         → RecordIs s l start c (bare e)
     unfolding readOn
-    record-bare e k h q t =
-        record { reads = q ∙ ap (readKind c (recordMeant s l)) h; starts = refl; unlabelled = λ _. refl; ends = refl; in-text = omega arith; in-table = t }
+    record-bare e k h q t v =
+        record { reads = q ∙ ap (readKind c (recordMeant s l)) h; starts = refl; unlabelled = λ _. refl; ends = refl; in-text = omega arith; in-table = t; settled = v }
 
     -- An empty line, and a directive that does nothing.
     pub record-empty : empty ≡ kindOf (firsts s (l .tokens) (l .count)) → RecordIs s l start c (bare Nothing)
     unfolding readKind
-    record-empty e = record-bare Nothing empty e refl tt
+    record-empty e = record-bare Nothing empty e refl tt tt
 
     pub record-ignored : ignored ≡ kindOf (firsts s (l .tokens) (l .count)) → RecordIs s l start c (bare Nothing)
     unfolding readKind
-    record-ignored e = record-bare Nothing ignored e refl tt
+    record-ignored e = record-bare Nothing ignored e refl tt tt
 
     -- A `.config` line.
     pub record-config : (e : Effect) → config ≡ kindOf (firsts s (l .tokens) (l .count)) → EffectIs e (setting (configured (c .setup) (recordMeant s l)))
         → RecordIs s l start c (bare e)
     unfolding readKind
-    record-config e h q = record-bare e config h (ap (λ (x : MeantEffect). record { label = none; effect = x }) (q .means)) (q .in-table)
+    record-config e h q = record-bare e config h (ap (λ (x : MeantEffect). record { label = none; effect = x }) (q .means)) (q .in-table) (q .settled)
 
     -- An instruction.
     pub record-plain : (e : Effect) → plain ≡ kindOf (firsts s (l .tokens) (l .count)) → EffectIs e (coding (readInstruction (behind 0 (recordMeant s l))))
         → RecordIs s l start c (bare e)
     unfolding readKind
     record-plain e h q =
-        record-bare e plain h (ap (λ (x : MeantEffect). record { label = none; effect = x }) (q .means ∙ ap coding (behind-none (recordMeant s l)))) (q .in-table)
+        record-bare e plain h (ap (λ (x : MeantEffect). record { label = none; effect = x }) (q .means ∙ ap coding (behind-none (recordMeant s l)))) (q .in-table) (q .settled)
 
 -- 1 for a label, 0 for other kinds.
 abbrev labels : Kind → ℕ
@@ -222,14 +224,7 @@ module _ (names : List Name) (ok : Naming names) (s : List ℕ) (start : ℕ) (s
   unfolding endOf
   line-record r b q =
       let e : readLine names (restAt s start) ≡ some (recordMeant s l) = h .means ∙ rw b in
-      record {
-        reads = rw e (q .reads);
-        starts = q .starts ∙ starts-here starts;
-        unlabelled = q .unlabelled;
-        ends = rw (endOf, e) (q .ends ∙ h .ends b);
-        in-text = q .in-text;
-        in-table = q .in-table;
-      }
+      answered names s start c r (rw e (q .reads)) (q .starts ∙ starts-here starts) (q .unlabelled) (rw (endOf, e) (q .ends ∙ h .ends b)) (q .in-text) (q .in-table) (q .settled)
 
   -- Its first token stands where its content starts.
   pub first-starts : 0 < l .count → getD (l .tokens) 0 filler .start ≡ start
@@ -240,11 +235,5 @@ module _ (names : List Name) (ok : Naming names) (s : List ℕ) (start : ℕ) (s
   unfolding readOn endOf
   line-bad b =
       let e : readLine names (restAt s start) ≡ none = h .means ∙ rw b in
-      record {
-        reads = rw e;
-        starts = starts-here starts;
-        unlabelled = λ _. refl;
-        ends = rw (endOf, e) (h .bad-ends b ∙ starts-here starts);
-        in-text = omega (arith, starts .in-text);
-        in-table = tt;
-      }
+      answered names s start c (record { labelled = false; start = start; length = 0; effect = Faulty 3; end = l .end }) (rw e) (starts-here starts) (λ _. refl)
+      (rw (endOf, e) (h .bad-ends b ∙ starts-here starts)) (omega (arith, starts .in-text)) tt tt

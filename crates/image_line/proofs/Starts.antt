@@ -64,9 +64,9 @@ module _ (s : List ℕ) (from start : ℕ) (l : from ≤ length s) (q : start �
     pub line-from : {c : Context} {r : Read} → LineIs names s start c r → LineIs names s from c r
     line-from h =
         record {
+          is = rw (same-line, starts, same-end) at (h .is);
           reads = rw same-line at (h .reads);
           starts = h .starts ∙ starts;
-          unlabelled = h .unlabelled;
           ends = h .ends ∙ same-end;
           in-text = h .in-text;
           in-table = h .in-table;
