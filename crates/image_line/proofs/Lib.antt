@@ -1,3 +1,5 @@
+pub mod Answers
+pub mod Starts
 pub mod Places
 pub mod Operands
 pub mod Lines

@@ -10,7 +10,7 @@ use lib.ListN.{length, drop, getD, length-take, length-drop, List·getD-eq-defau
 use lib.Seq.{take-all}
 use lib.Dec.{leb, eqb}
 use borrow.Author.Tests.{leb-true, eq-eqb, ne-eqb, eqb-true}
-use Rattle.text_lexical.specs.Bytes.{Result, value, bytes, between, digit, nameStart, namePart, lower, blank, margin, same, run, find, isSome, each}
+use Rattle.text_lexical.specs.Bytes.{Result, value, bytes, between, digit, nameStart, namePart, lower, blank, same, run, find, isSome, each}
 use Rattle.text_lexical.specs.Names.{Name, name, named, numbered, conventional, present}
 use Rattle.text_lexical.specs.Contracts.{keyOf, nameNumber}
 use Rattle.text_lexical.specs.Words.{wordEnd, part}
@@ -19,16 +19,16 @@ use Rattle.text_lexical.proofs.Keys.{Below}
 use Rattle.text_lexical.proofs.Tests.{split, no-both, or-left}
 use Rattle.text_lexical.proofs.Strings.{run-yes, same-eq, found}
 use Rattle.text.specs.Tokens.{Token, identifier, register, number, hex, binary, directive, comma, colon, opening, closing, infront, tokens}
-use Rattle.text.specs.Lines.{Line, indent, kept, lineOf, recordOf, readLine}
+use Rattle.text.specs.Lines.{Line, kept, lineOf, recordOf, readLine}
 use Rattle.text.specs.NameSets.{Naming}
 use Rattle.text.specs.Places.{restAt, leftAt, endAt}
 use Rattle.text.specs.declared.lexer.Kind.the-variants.{Identifier}
-use Rattle.text.proofs.Left.{start-solid, content-at, indent-at}
+use Rattle.text.proofs.Left.{start-solid}
 use Rattle.text.proofs.Fronts.{run-in, word-at}
-use Rattle.text.proofs.Stepping.{solid-step, margin-on}
+use Rattle.text.proofs.Stepping.{solid-step}
 use Rattle.instruction.specs.Table.{reg, Form, R, I, Shift, Load, Store, Branch, Jump, System, places, row, table, rowNamed}
 use Rattle.instruction.specs.Operands.{Operands, Instruction, readIdentifier, readRegister, markByte, readPlace, readOperands, made, readRow, readMnemonic, readInstruction, behind}
-use Rattle.instruction.specs.Contracts.{IsRow, rowAt, formAt, formNumber, operandsMeant, partsMeant}
+use Rattle.instruction.specs.Contracts.{IsRow, rowAt, formAt, formNumber, operandsMeant, SettledFor, partsMeant, Settled}
 use Rattle.instruction.specs.declared.instruction.Operands.{Operands as Kept}
 use Rattle.instruction.specs.declared.opcode.Row.{Row as Looked}
 use Rattle.instruction.specs.declared.opcode.Row.the-variants.{At}
@@ -36,10 +36,12 @@ use Rattle.instruction.proofs.Columns.{form-numbered}
 use Rattle.instruction_operands.proofs.Line.{six-places, below-part, named-by-key}
 use Rattle.instruction.specs.Kinds.{plain, identifierKind, kindOf}
 use Rattle.image.specs.Assembling.{Context, nothing, codes, coding, afterLabel, readKind, readOn}
-use Rattle.image_line.specs.Contracts.{Reads, TailIs, isLabel, Labels, OptionalLabel, without, with-label, WordAfter, InTable, readMeant, endOf, LineIs, ReadsAs}
+use Rattle.image_line.specs.Contracts.{Reads, StartsAt, TailIs, isLabel, Labels, OptionalLabel, without, with-label, WordAfter, InTable, EffectSettled, readMeant, endOf, LineIs, ReadsAs}
 use Rattle.image_line.specs.declared.fast.LabelPart.{LabelPart}
 use Rattle.image_line.specs.declared.line.Effect.the-variants.{Nothing, Codes}
 use Rattle.image_line.specs.declared.line.Read.{Read}
+use Rattle.image_line.proofs.Answers.{answered}
+use Rattle.image_line.proofs.Starts.{starts-here, content-reads}
 use Rattle.image_line.proofs.Places.{stepped-reads, colon-reads, blanks-after}
 
 start-part : (b : ℕ) → nameStart b ≡ true → namePart b ≡ true
@@ -174,10 +176,6 @@ label-in l (with-label t is) = is .mark .in-text
 
 -- ---- the line
 
-line-reads : (names : List Name) (s : List ℕ) (from begin : ℕ) → begin ≡ from + run margin (drop from s) → readLine names (restAt s from) ≡ recordOf (tokens names (leftAt s begin))
-unfolding readLine
-line-reads names s from begin q = ap (λ (x : List ℕ). recordOf (tokens names x)) (content-at s from ∙ ap (leftAt s) (sym q))
-
 -- The first operand of a form is a register.
 register-first : (bit : ℕ) (t : Token) (rest : Result Operands) (o : Operands) → readPlace (reg bit) t rest ≡ value o → eqb (markByte t) 58 ≡ false
 unfolding readPlace readRegister markByte
@@ -220,10 +218,10 @@ unfolding lineOf
 kept-all ts h = rw (take-all kept ts h)
 
 -- A line by its tokens.
-tokens-line : (names : List Name) (s : List ℕ) (from start : ℕ) (ts : List Token) → start ≡ from + run margin (drop from s) → tokens names (leftAt s start) ≡ some ts → length ts ≤ 9
-    → readLine names (restAt s from) ≡ some (record { count = length ts; first = ts })
+tokens-line : (names : List Name) (s : List ℕ) (start : ℕ) (ts : List Token) → StartsAt s start → tokens names (leftAt s start) ≡ some ts → length ts ≤ 9
+    → readLine names (restAt s start) ≡ some (record { count = length ts; first = ts })
 unfolding recordOf
-tokens-line names s from start ts q e h = line-reads names s from start q ∙ rw e (ap some (kept-all ts h))
+tokens-line names s start ts q e h = content-reads names s start q ∙ rw e (ap some (kept-all ts h))
 
 -- A token more in front of others.
 one-more : {o p : Option (List Token)} {t : Token} {ts : List Token} → o ≡ infront t p → p ≡ some ts → o ≡ some (t ∷ ts)
@@ -251,6 +249,7 @@ record Written (row : ℕ) (o : Kept) (u : List ℕ) (ts : List Token) : Type 0 
   few : length ts ≤ 6
   is-plain : kindOf (identifier u ∷ ts) ≡ plain
   mnemonic-read : readMnemonic (identifier u) (length ts) ts ≡ value (partsMeant (record { row = row; operands = o }))
+  settled : Settled (record { row = row; operands = o })
 
 module _ (c : Context) (row : ℕ) (o : Kept) (u : List ℕ) (ts : List Token) (w : Written row o u ts) where
   read-instruction : readOn c (some (record { count = suc (length ts); first = identifier u ∷ ts })) ≡ record { label = none; effect = codes (partsMeant (record { row = row; operands = o })) }
@@ -265,76 +264,67 @@ module _ (c : Context) (row : ℕ) (o : Kept) (u : List ℕ) (ts : List Token) (
       rw e (ap (λ (x : Result Instruction). record { label = some v; effect = coding x }) (first-row u ts ∙ w .mnemonic-read))
 
 written : (form row : ℕ) (u : List ℕ) (ts : List Token) (o : Kept) → rowNamed (map lower u) ≡ some (rowAt row) → formAt form ≡ rowAt row .form
-    → length ts ≡ length (places (formAt form)) → readOperands (places (formAt form)) ts ≡ value (operandsMeant (places (formAt form)) o) → Written row o u ts
-written form row u ts o named-is g l h =
+    → length ts ≡ length (places (formAt form)) → readOperands (places (formAt form)) ts ≡ value (operandsMeant (places (formAt form)) o)
+    → SettledFor (places (formAt form)) o → Written row o u ts
+written form row u ts o named-is g l h k =
     let n : length ts ≡ length (places (rowAt row .form)) = rw (← g) l in
     let r : readOperands (places (rowAt row .form)) ts ≡ value (operandsMeant (places (rowAt row .form)) o) = rw (← g) h in
     record {
       few = omega (arith, n, six-places (rowAt row .form));
       is-plain = is-plain (rowAt row .form) u ts _ n r;
       mnemonic-read = row-read row u ts o named-is n r;
+      settled = rw g at k;
     }
 
--- Where a line's content starts, as the code finds it.
-pub content-starts : (s : List ℕ) (from start : ℕ) → from ≤ length s → start ≡ from + run margin (drop from s) → (start ≡ from + indent (restAt s from)) × (start ≤ length s)
-content-starts s from start l q =
-    let (x, y, z) = margin-on s from start l q in
-    (q ∙ ap (λ (n : ℕ). from + n) (sym (indent-at s from)), y)
-
-module _ (names : List Name) (s : List ℕ) (from start : ℕ) (l : from ≤ length s) (q : start ≡ from + run margin (drop from s)) where
-  start-in : start ≤ length s
-  start-in = content-starts s from start l q .1
-
-  start-ends : endAt s start ≡ endAt s from
-  start-ends = let (x, y, z) = margin-on s from start l q in z
-
-  line-some : (c : Context) (r : Read) (x : Line) → readLine names (restAt s from) ≡ some x → readMeant s r ≡ readOn c (some x) → r .start ≡ start
-      → (r .labelled ≡ false → r .length ≡ 0) → r .end ≡ endAt s from → r .start + r .length ≤ length s → InTable (r .effect) → LineIs names s from c r
+-- The line whose content starts at a place.
+module _ (names : List Name) (s : List ℕ) (start : ℕ) (q : StartsAt s start) where
+  line-some : (c : Context) (r : Read) (x : Line) → readLine names (restAt s start) ≡ some x → readMeant s r ≡ readOn c (some x) → r .start ≡ start
+      → (r .labelled ≡ false → r .length ≡ 0) → r .end ≡ endAt s start → r .start + r .length ≤ length s → InTable (r .effect) → EffectSettled (r .effect) → LineIs names s start c r
   unfolding endOf
-  line-some c r x e reads b u n t k = record { reads = rw e reads; starts = b ∙ content-starts s from start l q .0; unlabelled = u; ends = rw (endOf, e) n; in-text = t; in-table = k }
+  line-some c r x e reads b u n t k v = answered names s start c r (rw e reads) (b ∙ starts-here q) u (rw (endOf, e) n) t k v
 
   -- A label alone, or nothing.
   pub bare-line : (p : LabelPart) (at e : ℕ) → OptionalLabel names s start p at → tokens names (leftAt s at) ≡ some [] → e ≡ endAt s at
-      → ReadsAs names s from (record { labelled = p .labelled; start = start; length = p .length; effect = Nothing; end = e })
+      → ReadsAs names s start (record { labelled = p .labelled; start = start; length = p .length; effect = Nothing; end = e })
   bare-line p at e (without f n a) none-left ends c =
       let t : tokens names (leftAt s start) ≡ some [] = rw a at none-left in
       rw (f, n)
-      (line-some c (record { labelled = false; start = start; length = 0; effect = Nothing; end = e }) _ (tokens-line names s from start [] q t (omega arith)) (sym (read-none c)) refl
-      (λ _. refl) (ends ∙ ap (endAt s) a ∙ start-ends) (omega (arith, start-in)) tt)
+      (line-some c (record { labelled = false; start = start; length = 0; effect = Nothing; end = e }) _ (tokens-line names s start [] q t (omega arith)) (sym (read-none c)) refl
+      (λ _. refl) (ends ∙ ap (endAt s) a) (omega (arith, q .in-text)) tt tt)
   bare-line p at e (with-label f is) none-left ends c =
       let v = part s start (p .length) in
       let k : start + p .length - start ≡ p .length = omega arith in
       let t : tokens names (leftAt s start) ≡ some (identifier v ∷ colon ∷ []) = label-tokens (rw k at (is .name .means)) (is .mark .means) none-left in
       rw f
-      (line-some c (record { labelled = true; start = start; length = p .length; effect = Nothing; end = e }) _ (tokens-line names s from start (identifier v ∷ colon ∷ []) q t (omega arith))
-      (sym (read-label c v)) refl (λ g. absurd (true≢false g)) (ends ∙ is .mark .ends ∙ is .name .ends ∙ start-ends) (is .name .in-text) tt)
+      (line-some c (record { labelled = true; start = start; length = p .length; effect = Nothing; end = e }) _ (tokens-line names s start (identifier v ∷ colon ∷ []) q t (omega arith))
+      (sym (read-label c v)) refl (λ g. absurd (true≢false g)) (ends ∙ is .mark .ends ∙ is .name .ends) (is .name .in-text) tt tt)
 
   -- An instruction, after a label or not.
   instruction-line : (p : LabelPart) (at end form row : ℕ) (u : List ℕ) (o : Kept) (e : ℕ) → OptionalLabel names s start p at → row < 50 → rowNamed (map lower u) ≡ some (rowAt row)
       → Reads names s at (identifier u) end → formAt form ≡ rowAt row .form → TailIs names s end form o e
-      → ReadsAs names s from (record { labelled = p .labelled; start = start; length = p .length; effect = Codes row o; end = e })
+      → ReadsAs names s start (record { labelled = p .labelled; start = start; length = p .length; effect = Codes row o; end = e })
   instruction-line p at end form row u o e (without f n a) in-table named-is rd g tail c =
       let ts = tail .operands in
-      let w = written form row u ts o named-is g (tail .count) (tail .read) in
+      let w = written form row u ts o named-is g (tail .count) (tail .read) (tail .settled) in
       let t : tokens names (leftAt s start) ≡ some (identifier u ∷ ts) = rw a at (one-more (rd .means) (tail .means)) in
       rw (f, n)
-      (line-some c (record { labelled = false; start = start; length = 0; effect = Codes row o; end = e }) _ (tokens-line names s from start (identifier u ∷ ts) q t (omega (arith, w .few)))
-      (sym (read-instruction c row o u ts w)) refl (λ _. refl) (tail .ends ∙ rd .ends ∙ ap (endAt s) a ∙ start-ends) (omega (arith, start-in)) in-table)
+      (line-some c (record { labelled = false; start = start; length = 0; effect = Codes row o; end = e }) _ (tokens-line names s start (identifier u ∷ ts) q t (omega (arith, w .few)))
+      (sym (read-instruction c row o u ts w)) refl (λ _. refl) (tail .ends ∙ rd .ends ∙ ap (endAt s) a) (omega (arith, q .in-text)) in-table (w .settled))
   instruction-line p at end form row u o e (with-label f is) in-table named-is rd g tail c =
       let ts = tail .operands in
       let v = part s start (p .length) in
-      let w = written form row u ts o named-is g (tail .count) (tail .read) in
+      let w = written form row u ts o named-is g (tail .count) (tail .read) (tail .settled) in
       let k : start + p .length - start ≡ p .length = omega arith in
       let t : tokens names (leftAt s start) ≡ some (identifier v ∷ colon ∷ identifier u ∷ ts) = label-tokens (rw k at (is .name .means)) (is .mark .means) (one-more (rd .means) (tail .means)) in
       rw f
       (line-some c (record { labelled = true; start = start; length = p .length; effect = Codes row o; end = e }) _
-      (tokens-line names s from start (identifier v ∷ colon ∷ identifier u ∷ ts) q t (omega (arith, w .few)))
-      (sym (read-labelled c row o u ts w v)) refl (λ g. absurd (true≢false g)) (tail .ends ∙ rd .ends ∙ is .mark .ends ∙ is .name .ends ∙ start-ends) (is .name .in-text) in-table)
+      (tokens-line names s start (identifier v ∷ colon ∷ identifier u ∷ ts) q t (omega (arith, w .few)))
+      (sym (read-labelled c row o u ts w v)) refl (λ g. absurd (true≢false g)) (tail .ends ∙ rd .ends ∙ is .mark .ends ∙ is .name .ends) (is .name .in-text) in-table (w .settled))
 
   -- The same by the line's first word and the row that its key is found in.
   pub word-line : {p : LabelPart} {key end : ℕ} → WordAfter names s start p key end → Naming names → NoMnemonics names → Below s → (r : Looked) (row form : ℕ)
       → IsRow r (find (λ q. eqb (keyOf (q .mnemonic)) key) table) → r ≡ At row → form ≡ formNumber (rowAt row .form) → (o : Kept) (e : ℕ) → TailIs names s end form o e
-      → ReadsAs names s from (record { labelled = p .labelled; start = start; length = p .length; effect = Codes row o; end = e })
+      → ReadsAs names s start (record { labelled = p .labelled; start = start; length = p .length; effect = Codes row o; end = e })
   word-line {p} {key} {end} w ok free below r row form is f g o e tail =
       let (in-table, (named-is, rd)) = word-row w ok free below r row is f in
       instruction-line p (w .at) end form row _ o e (w .label) in-table named-is rd (ap formAt g ∙ form-numbered (rowAt row .form)) tail

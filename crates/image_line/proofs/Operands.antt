@@ -6,9 +6,10 @@ use mathlib.Core.Bool.{true, false}
 use mathlib.Core.Option.{Option, some}
 use mathlib.Core.List.{List, [], _∷_, _++_, append-nil}
 use lib.ListN.{length, set, replicate}
+use lib.IntN.{ℤ}
 use Rattle.text_lexical.specs.Bytes.{value}
 use Rattle.text_lexical.specs.Names.{Name}
-use Rattle.text_lexical.specs.Contracts.{indexOf, wholeMeant}
+use Rattle.text_lexical.specs.Contracts.{indexOf, wholeFor}
 use Rattle.text_lexical.specs.declared.number.Whole.{Whole}
 use Rattle.text_lexical.specs.declared.register.Register.{Register}
 use Rattle.text_lexical.specs.declared.register.Register.the-variants.{R0}
@@ -84,8 +85,8 @@ module _ {names : List Name} {s : List ℕ} {from form at left count : ℕ} {rs 
   register-next r q pos letter rd = record { pre = q .pre ++ (register (some (indexOf r)) ∷ []); passed = passed-more (q .passed) rd; marking = register-more (q .reading) pos letter _ r refl }
 
   pub number-next : {t : Token} {n : Whole} {next : ℕ} → OperandsUpTo names s from form at left count rs w → 0 < left → isNumber (left % 8) ≡ true
-      → readNumber t ≡ value (wholeMeant n) → Reads names s at t next → MarkAhead names s from form next left count rs n
-  number-next {t} {n} q pos digit v rd = record { pre = q .pre ++ (t ∷ []); passed = passed-more (q .passed) rd; marking = number-more (q .reading) pos digit t _ n v refl }
+      → (z : ℤ) → readNumber t ≡ value z → n ≡ wholeFor z → Reads names s at t next → MarkAhead names s from form next left count rs n
+  number-next {t} {n} q pos digit z v e rd = record { pre = q .pre ++ (t ∷ []); passed = passed-more (q .passed) rd; marking = number-more (q .reading) pos digit t z n v e }
 
   -- The mark, if one follows.
   pub mark-next : {next : ℕ} → MarkAhead names s from form at left count rs w → MarkUpTo names s at (markOf (left % 8)) next
@@ -107,5 +108,6 @@ module _ {names : List Name} {s : List ℕ} {from form at left count : ℕ} {rs 
         means = q .passed .means ∙ ap (along (q .pre)) (h .nothing-left) ∙ along-some (q .pre) [] ∙ ap some (append-nil (q .pre));
         count = c .count;
         read = rw (append-nil (q .pre)) at (c .means []);
+        settled = c .settled;
         ends = h .ends ∙ q .passed .ends;
       })

@@ -4,12 +4,11 @@ use mathlib.Core.Path.{_≡_, refl, sym, ap, _∙_}
 use native.Mathlib.Omega.{arith}
 use native.Mathlib.Numerals.{add-one}
 use mathlib.Core.Bool.{Bool, true, false}
-use mathlib.Core.Logic.{_⊎_}
 use mathlib.Core.Option.{Option, none, some}
 use mathlib.Core.List.{List, [], _∷_, _++_}
 use lib.ListN.{length, take, drop, getD, length-drop}
 use lib.Seq.{drop-cons, drop-drop}
-use Rattle.text_lexical.specs.Bytes.{between, letter, digit, mark, nameStart, namePart, blank, inside, margin, every, before, run, isSome}
+use Rattle.text_lexical.specs.Bytes.{between, letter, digit, mark, nameStart, namePart, blank, inside, every, before, run, isSome}
 use Rattle.text_lexical.specs.Names.{Name, named}
 use Rattle.text_lexical.specs.Contracts.{indexOf, nameMeant, nameNumber}
 use Rattle.text_lexical.specs.declared.register.Register.{Register}
@@ -19,15 +18,15 @@ use Rattle.text_lexical.proofs.Tests.{split, both}
 use Rattle.text_lexical.proofs.Strings.{every-head, every-tail, every-mono, every-run, take-run, run-past, run-no, run-end, run-le}
 use Rattle.text.specs.Tokens.{Token, isIdentifier, isRegister, register, comma, colon, opening, closing, markToken, infront, tokens}
 use Rattle.text.specs.NameSets.{Naming}
-use Rattle.text.specs.Places.{restAt, leftAt, endAt}
+use Rattle.text.specs.Places.{leftAt, endAt}
 use Rattle.text.specs.Contracts.{meant, scanAt, numberStart, NoWord}
 use Rattle.text.specs.declared.lexer.Token.{Token as KeptToken}
 use Rattle.text.specs.declared.lexer.Kind.the-variants.{Register as RegisterKind, Comma, Colon, LParen, RParen}
 use Rattle.text.specs.declared.lexer.Scan.the-variants.{Found}
 use Rattle.text.proofs.Scanning.{register-identifier}
-use Rattle.text.proofs.Left.{start-solid, blank-inside, blanks-at, end-on, nothing-left, none-read}
+use Rattle.text.proofs.Left.{start-solid, blank-inside, blanks-at, end-on}
 use Rattle.text.proofs.Fronts.{part-cons, word-at}
-use Rattle.text.proofs.Stepping.{solid-step, margin-on, mark-step, blank-step, stepped}
+use Rattle.text.proofs.Stepping.{solid-step, mark-step, blank-step, stepped}
 use Rattle.instruction.specs.Table.{Place}
 use Rattle.instruction.specs.Operands.{markByte}
 use Rattle.instruction.specs.Forms.{markOf, MarkPlace, a-comma, an-opening, a-closing, MarkPlaces, no-mark, one-mark}
@@ -163,25 +162,3 @@ module _ (names : List Name) (ok : Naming names) (s : List ℕ) (from at : ℕ) 
 
   pub mark-reads : (d byte n : ℕ) → markOf d ≡ Is byte n → getD s at 0 ≡ byte → (t : Token) × ((markByte t ≡ byte) × Reads names s from t (at + 1))
   mark-reads d byte n e b = let (ms, h) = marked d in let (p, m) = one-marked (rw e at h) in place-reads m b
-
--- ---- the line's end
-
-pub end-reads : (names : List Name) (s : List ℕ) (from stop e : ℕ) → from ≤ length s → stop ≡ from + run margin (drop from s)
-    → (stop < length s → (getD s stop 0 ≡ 10) ⊎ (getD s stop 0 ≡ 35)) → e ≡ stop + run inside (drop stop s)
-    → (tokens names (leftAt s from) ≡ some []) × (e ≡ endAt s from)
-unfolding endAt restAt run
-end-reads names s from stop e l q f g =
-    let n = nothing-left s from l (rw q at f) in
-    let (a, b, c) = margin-on s from stop l q in
-    (none-read names s from n, g ∙ c)
-
-newline-ends : (b : ℕ) → b ≡ 10 → inside b ≡ false
-unfolding inside
-newline-ends b e = rw e
-
--- The run inside the line, at its end.
-pub stops-here : (s : List ℕ) (stop : ℕ) → (stop < length s → getD s stop 0 ≡ 10) → stop ≡ stop + run inside (drop stop s)
-stops-here s stop f =
-    split stop (length s)
-    (λ l. omega (arith, run-no inside s stop l (newline-ends _ (f l))))
-    (λ l. omega (arith, run-end inside s stop l))

@@ -13,7 +13,7 @@ use Rattle.text_lexical.specs.Names.{Name}
 use Rattle.text_lexical.proofs.Tests.{split}
 use Rattle.text.specs.Tokens.{identifier, register, number, hex, binary, directive, comma, colon, opening, closing}
 use Rattle.text.specs.Tokens.{Token as Meant}
-use Rattle.text.specs.Lines.{indent, kept, readLine}
+use Rattle.text.specs.Lines.{kept, readLine}
 use Rattle.text.specs.Lines.{Line as Record}
 use Rattle.text.specs.NameSets.{Naming}
 use Rattle.text.specs.Places.{restAt}
@@ -31,10 +31,12 @@ use Rattle.instruction.specs.Kinds.{Kind, empty, labelled, config, ignored, pla
 use Rattle.image.specs.Assembling.{Context, nothing, setting, coding, afterLabel, readKind, readOn}
 use Rattle.image.specs.Assembling.{Effect as MeantEffect}
 use Rattle.image.specs.Contracts.{recordMeant}
-use Rattle.image_line.specs.Contracts.{effectMeant, InTable, EffectIs, endOf, LineIs, Recorded, RecordIs}
+use Rattle.image_line.specs.Contracts.{effectMeant, InTable, EffectSettled, EffectIs, endOf, StartsAt, LineIs, Recorded, RecordIs}
 use Rattle.image_line.specs.declared.line.Effect.{Effect}
 use Rattle.image_line.specs.declared.line.Effect.the-variants.{Nothing, Faulty}
 use Rattle.image_line.specs.declared.line.Read.{Read}
+use Rattle.image_line.proofs.Answers.{answered}
+use Rattle.image_line.proofs.Starts.{starts-here}
 
 -- ---- the tokens of a record
 
@@ -141,6 +143,7 @@ module _ (s : List ℕ) (l : Line) (c : Context) where
         ends = refl;
         in-text = t .kept .inside-text 0;
         in-table = q .in-table;
+        settled = q .settled;
       }
 
   -- A line without a label, whose content starts at a place.
@@ -148,33 +151,33 @@ module _ (s : List ℕ) (l : Line) (c : Context) where
     abbrev pub bare : Effect → Read
     bare e = record { labelled = false; start = start; length = 0; effect = e; end = l .end }
 
-    record-bare : (e : Effect) (k : Kind) → k ≡ kindOf (firsts s (l .tokens) (l .count)) → record { label = none; effect = effectMeant e } ≡ readKind c (recordMeant s l) k → InTable e
+    record-bare : (e : Effect) (k : Kind) → k ≡ kindOf (firsts s (l .tokens) (l .count)) → record { label = none; effect = effectMeant e } ≡ readKind c (recordMeant s l) k → InTable e → EffectSettled e
         → RecordIs s l start c (bare e)
     unfolding readOn
-    record-bare e k h q t =
-        record { reads = q ∙ ap (readKind c (recordMeant s l)) h; starts = refl; unlabelled = λ _. refl; ends = refl; in-text = omega arith; in-table = t }
+    record-bare e k h q t v =
+        record { reads = q ∙ ap (readKind c (recordMeant s l)) h; starts = refl; unlabelled = λ _. refl; ends = refl; in-text = omega arith; in-table = t; settled = v }
 
     -- An empty line, and a directive that does nothing.
     pub record-empty : empty ≡ kindOf (firsts s (l .tokens) (l .count)) → RecordIs s l start c (bare Nothing)
     unfolding readKind
-    record-empty e = record-bare Nothing empty e refl tt
+    record-empty e = record-bare Nothing empty e refl tt tt
 
     pub record-ignored : ignored ≡ kindOf (firsts s (l .tokens) (l .count)) → RecordIs s l start c (bare Nothing)
     unfolding readKind
-    record-ignored e = record-bare Nothing ignored e refl tt
+    record-ignored e = record-bare Nothing ignored e refl tt tt
 
     -- A `.config` line.
     pub record-config : (e : Effect) → config ≡ kindOf (firsts s (l .tokens) (l .count)) → EffectIs e (setting (configured (c .setup) (recordMeant s l)))
         → RecordIs s l start c (bare e)
     unfolding readKind
-    record-config e h q = record-bare e config h (ap (λ (x : MeantEffect). record { label = none; effect = x }) (q .means)) (q .in-table)
+    record-config e h q = record-bare e config h (ap (λ (x : MeantEffect). record { label = none; effect = x }) (q .means)) (q .in-table) (q .settled)
 
     -- An instruction.
     pub record-plain : (e : Effect) → plain ≡ kindOf (firsts s (l .tokens) (l .count)) → EffectIs e (coding (readInstruction (behind 0 (recordMeant s l))))
         → RecordIs s l start c (bare e)
     unfolding readKind
     record-plain e h q =
-        record-bare e plain h (ap (λ (x : MeantEffect). record { label = none; effect = x }) (q .means ∙ ap coding (behind-none (recordMeant s l)))) (q .in-table)
+        record-bare e plain h (ap (λ (x : MeantEffect). record { label = none; effect = x }) (q .means ∙ ap coding (behind-none (recordMeant s l)))) (q .in-table) (q .settled)
 
 -- 1 for a label, 0 for other kinds.
 abbrev labels : Kind → ℕ
@@ -213,38 +216,24 @@ two-tokens s ts count u e =
 
 -- ---- the line at a place
 
-module _ (names : List Name) (ok : Naming names) (s : List ℕ) (from : ℕ) (l : Line) (is : l ≡ recordAt names s from) (c : Context) where
-  h : LineRead names s from l
-  h = line-read names ok s from l is
+module _ (names : List Name) (ok : Naming names) (s : List ℕ) (start : ℕ) (starts : StartsAt s start) (l : Line) (is : l ≡ recordAt names s start) (c : Context) where
+  h : LineRead names s start l
+  h = line-read names ok s start l is
 
-  pub line-record : (start : ℕ) (r : Read) → l .bad ≡ false → start ≡ from + indent (restAt s from) → RecordIs s l start c r → LineIs names s from c r
+  pub line-record : (r : Read) → l .bad ≡ false → RecordIs s l start c r → LineIs names s start c r
   unfolding endOf
-  line-record start r b i q =
-      let e : readLine names (restAt s from) ≡ some (recordMeant s l) = h .means ∙ rw b in
-      record {
-        reads = rw e (q .reads);
-        starts = q .starts ∙ i;
-        unlabelled = q .unlabelled;
-        ends = rw (endOf, e) (q .ends ∙ h .ends b);
-        in-text = q .in-text;
-        in-table = q .in-table;
-      }
+  line-record r b q =
+      let e : readLine names (restAt s start) ≡ some (recordMeant s l) = h .means ∙ rw b in
+      answered names s start c r (rw e (q .reads)) (q .starts ∙ starts-here starts) (q .unlabelled) (rw (endOf, e) (q .ends ∙ h .ends b)) (q .in-text) (q .in-table) (q .settled)
 
   -- Its first token stands where its content starts.
-  pub first-starts : 0 < l .count → getD (l .tokens) 0 filler .start ≡ from + indent (restAt s from)
-  first-starts n = h .begins n
+  pub first-starts : 0 < l .count → getD (l .tokens) 0 filler .start ≡ start
+  first-starts n = h .begins n ∙ sym (starts-here starts)
 
   -- A line with a bad token.
-  pub line-bad : (start : ℕ) → l .bad ≡ true → start ≡ from + indent (restAt s from) → start ≤ length s
-      → LineIs names s from c (record { labelled = false; start = start; length = 0; effect = Faulty 3; end = l .end })
+  pub line-bad : l .bad ≡ true → LineIs names s start c (record { labelled = false; start = start; length = 0; effect = Faulty 3; end = l .end })
   unfolding readOn endOf
-  line-bad start b i inside =
-      let e : readLine names (restAt s from) ≡ none = h .means ∙ rw b in
-      record {
-        reads = rw e;
-        starts = i;
-        unlabelled = λ _. refl;
-        ends = rw (endOf, e) (h .bad-ends b);
-        in-text = omega arith;
-        in-table = tt;
-      }
+  line-bad b =
+      let e : readLine names (restAt s start) ≡ none = h .means ∙ rw b in
+      answered names s start c (record { labelled = false; start = start; length = 0; effect = Faulty 3; end = l .end }) (rw e) (starts-here starts) (λ _. refl)
+      (rw (endOf, e) (h .bad-ends b ∙ starts-here starts)) (omega (arith, starts .in-text)) tt tt

@@ -1,16 +1,17 @@
 -- What the line at a place of a source reads as, and what the functions that read it promise. `LineIs` is the promise of the one public
 -- function; the other sections are about the two private ways to it, from the line's bytes at once and by the record of its tokens. Where
 -- the first finds something else at a place, nothing is promised of that answer: the record decides. Quotations are document 01's.
-use Prim.Native.Nat.{ℕ, _+_, _-_, _≤_, _<_}
+use Prim.Native.Nat.{ℕ, suc, _+_, _-_, _≤_, _<_}
 use mathlib.Core.Path.{_≡_}
 use mathlib.Core.Bool.{Bool, true, false, not, _&&_}
 use lib.Dec.{eqb}
 use mathlib.Core.Option.{Option, none, some}
-use mathlib.Core.List.{List, []}
+use mathlib.Core.List.{List, [], _∷_}
 use lib.ListN.{length, take, drop, getD}
-use Rattle.text_lexical.specs.Bytes.{value, nameStart, isSome}
+use lib.IntN.{ℤ}
+use Rattle.text_lexical.specs.Bytes.{value, nameStart, same, isSome}
 use Rattle.text_lexical.specs.Names.{Name, named}
-use Rattle.text_lexical.specs.Contracts.{indexOf, nameNumber, wholeMeant}
+use Rattle.text_lexical.specs.Contracts.{indexOf, nameNumber, wholeFor}
 use Rattle.text_lexical.specs.Words.{part, WordIs}
 use Rattle.text_lexical.specs.declared.name.RegisterName.{RegisterName}
 use Rattle.text_lexical.specs.declared.name.RegisterName.the-variants.{Is as Named, NoSuch, Other as NoName}
@@ -23,14 +24,15 @@ use Rattle.text.specs.Places.{restAt, leftAt, endAt}
 use Rattle.text.specs.Values.{readNumber}
 use Rattle.text.specs.Contracts.{kindMeant as tokenMeant, firsts, filler, spelling}
 use Rattle.text.specs.declared.parser.Line.{Line as Record}
-use Rattle.instruction.specs.Table.{places}
+use Rattle.instruction.specs.Table.{places, Row, table}
 use Rattle.instruction.specs.Operands.{markByte, readOperands}
-use Rattle.instruction.specs.Contracts.{mnemonicKeys, formNumbers, slotRows, formAt, operandsMeant, partsMeant}
+use Rattle.instruction.specs.Contracts.{mnemonicKeys, formNumbers, slotRows, formAt, operandsMeant, operandsFor, SettledFor, partsMeant, Settled}
 use Rattle.instruction.specs.declared.instruction.Operands.{Operands}
 use Rattle.instruction.specs.declared.form.Mark.{Mark}
 use Rattle.instruction.specs.declared.form.Mark.the-variants.{Nothing as NoMark, Is as IsMark}
 use Rattle.instruction_operands.specs.Contracts.{Kept}
 use Rattle.instruction.specs.Kinds.{Kind, empty, labelled, config, ignored, plain, kindOf}
+use Rattle.image.specs.Settings.{Settings}
 use Rattle.image.specs.Assembling.{Context, Effect as MeantEffect, nothing, sets, codes, faulty, Read as MeantRead, readOn}
 use Rattle.image.specs.Contracts.{settingsMeant, recordMeant}
 use Rattle.image.specs.declared.config.Config.{Config}
@@ -100,7 +102,7 @@ EndIs names s at NoEnd = Unit {0}
 -- An operand at a place: a number where one is asked for, and else a register.
 abbrev pub OperandIs : List Name → List ℕ → ℕ → Bool → OperandAt → Type 0
 OperandIs names s at numeric (NumberOperand w next) =
-    (numeric ≡ true) × ((t : Token) × ((readNumber t ≡ value (wholeMeant w)) × Reads names s at t next))
+    (numeric ≡ true) × ((t : Token) × ((z : ℤ) × ((readNumber t ≡ value z) × ((w ≡ wholeFor z) × Reads names s at t next))))
 OperandIs names s at numeric (RegisterOperand r next) = (numeric ≡ false) × Reads names s at (register (some (indexOf r))) next
 OperandIs names s at numeric NoOperand = Unit {0}
 
@@ -120,6 +122,7 @@ pub record TailIs (names : List Name) (s : List ℕ) (from form : ℕ) (o : Oper
   pub means : tokens names (leftAt s from) ≡ some operands
   pub count : length operands ≡ length (places (formAt form))
   pub read : readOperands (places (formAt form)) operands ≡ value (operandsMeant (places (formAt form)) o)
+  pub settled : SettledFor (places (formAt form)) o
   pub ends : end ≡ endAt s from
 
 abbrev pub Tails : List Name → List ℕ → ℕ → ℕ → Tail → Type 0
@@ -183,10 +186,18 @@ InTable Nothing = Unit {0}
 InTable (Sets c) = Unit {0}
 InTable (Faulty n) = Unit {0}
 
+-- No part of its operands is free.
+abbrev pub EffectSettled : Effect → Type 0
+EffectSettled (Codes row o) = Settled (record { row = row; operands = o })
+EffectSettled Nothing = Unit {0}
+EffectSettled (Sets c) = Unit {0}
+EffectSettled (Faulty n) = Unit {0}
+
 -- What an effect means, and that it is one of the table's where it is an instruction.
 pub record EffectIs (e : Effect) (m : MeantEffect) : Type 0 where
   pub means : effectMeant e ≡ m
   pub in-table : InTable e
+  pub settled : EffectSettled e
 
 abbrev pub labelIf : Bool → List ℕ → Option (List ℕ)
 labelIf true u = some u
@@ -196,15 +207,49 @@ labelIf false u = none
 abbrev pub readMeant : List ℕ → Read → MeantRead
 readMeant s r = record { label = labelIf (r .labelled) (take (r .length) (drop (r .start) s)); effect = effectMeant (r .effect) }
 
--- Where the line at a place ends; a bad token leaves that open, and the place itself is answered.
+-- Where the line at a place ends; a bad token leaves that open, and the start of its content is answered.
 unfoldable pub endOf : List Name → List ℕ → ℕ → ℕ
-endOf names s from = elim (readLine names (restAt s from)) [ none ↦ from | some l ↦ endAt s from ]
+endOf names s from = elim (readLine names (restAt s from)) [ none ↦ from + indent (restAt s from) | some l ↦ endAt s from ]
 
--- The line at a place, with what those above it leave.
+-- The content of a line starts at a place: no margin stands there.
+pub record StartsAt (s : List ℕ) (at : ℕ) : Type 0 where
+  pub in-text : at ≤ length s
+  pub no-indent : indent (restAt s at) ≡ 0
+
+-- ---- the answer
+
+-- Where the row of a mnemonic stands.
+unfoldable pub placeIn : List Row → List ℕ → ℕ
+placeIn [] u = 0
+placeIn (r ∷ rs) u = elim (same (r .mnemonic) u) [ true ↦ 0 | false ↦ suc (placeIn rs u) ]
+
+abbrev pub configFor : Settings → Config
+configFor s = record { «limb_bits» = s .limb-bits; «data_limbs» = s .data-limbs; «addr_limbs» = s .addr-limbs }
+
+-- The effect that is answered for one: of an instruction the row's place in the table, and R0 and 0 for operands that it has not.
+abbrev pub effectFor : MeantEffect → Effect
+effectFor nothing = Nothing
+effectFor (sets s) = Sets (configFor s)
+effectFor (codes i) = Codes (placeIn table (i .row .mnemonic)) (operandsFor (record { registers = i .registers; number = i .number }))
+effectFor (faulty n) = Faulty n
+
+abbrev pub labelLength : Option (List ℕ) → ℕ
+labelLength none = 0
+labelLength (some u) = length u
+
+abbrev pub answerFor : MeantRead → ℕ → ℕ → Read
+answerFor m start end =
+    record { labelled = isSome (m .label); start = start; length = labelLength (m .label); effect = effectFor (m .effect); end = end }
+
+-- The answer for the line at a place, with what those above it leave.
+abbrev pub lineRead : List Name → List ℕ → ℕ → Context → Read
+lineRead names s from c = answerFor (readOn c (readLine names (restAt s from))) (from + indent (restAt s from)) (endOf names s from)
+
+-- It is answered, and means what the line reads as; its label is a part of the text.
 pub record LineIs (names : List Name) (s : List ℕ) (from : ℕ) (c : Context) (r : Read) : Type 0 where
+  pub is : r ≡ lineRead names s from c
   pub reads : readMeant s r ≡ readOn c (readLine names (restAt s from))
   pub starts : r .start ≡ from + indent (restAt s from)
-  pub unlabelled : r .labelled ≡ false → r .length ≡ 0
   pub ends : r .end ≡ endOf names s from
   pub in-text : r .start + r .length ≤ length s
   pub in-table : InTable (r .effect)
@@ -216,11 +261,11 @@ abbrev pub ReadsAs : List Name → List ℕ → ℕ → Read → Type 0
 ReadsAs names s from r = (c : Context) → LineIs names s from c r
 
 abbrev pub FastIs : List Name → List ℕ → ℕ → Fast → Type 0
-FastIs names s from (Instruction l start row o end) =
-    ReadsAs names s from (record { labelled = l .labelled; start = start; length = l .length; effect = Codes row o; end = end })
-FastIs names s from (Bare l start end) =
-    ReadsAs names s from (record { labelled = l .labelled; start = start; length = l .length; effect = Nothing; end = end })
-FastIs names s from NotFast = Unit {0}
+FastIs names s start (Instruction l row o end) =
+    ReadsAs names s start (record { labelled = l .labelled; start = start; length = l .length; effect = Codes row o; end = end })
+FastIs names s start (Bare l end) =
+    ReadsAs names s start (record { labelled = l .labelled; start = start; length = l .length; effect = Nothing; end = end })
+FastIs names s start NotFast = Unit {0}
 
 -- ---- a line by its record
 
@@ -249,3 +294,4 @@ pub record RecordIs (s : List ℕ) (l : Record) (start : ℕ) (c : Context) (r :
   pub ends : r .end ≡ l .end
   pub in-text : r .start + r .length ≤ length s
   pub in-table : InTable (r .effect)
+  pub settled : EffectSettled (r .effect)

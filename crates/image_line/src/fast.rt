@@ -5,7 +5,7 @@ ghost use Prim.Native.Nat.{_≤_, _<_};
 ghost use lib.ListN.{length};
 ghost use Rattle.text_lexical.specs.Names.{present};
 ghost use Rattle.instruction.specs.Forms.{isNumber};
-ghost use Rattle.image_line.specs.Contracts.{Tables, OperandIs, EndsWith, Tails, isLabel, FirstWordIs, FastIs};
+ghost use Rattle.image_line.specs.Contracts.{Tables, StartsAt, OperandIs, EndsWith, Tails, isLabel, FirstWordIs, FastIs};
 use crate::operand::AfterMark;
 use crate::operand::EndAt;
 use crate::operand::NumberAt;
@@ -29,7 +29,6 @@ pub(crate) enum Fast {
     // An instruction, after a label or not: its row in the table and its operands.
     Instruction {
         label: LabelPart,
-        start: usize,
         row: usize,
         operands: Operands,
         end: usize,
@@ -37,7 +36,6 @@ pub(crate) enum Fast {
     // A label alone, or an empty line.
     Bare {
         label: LabelPart,
-        start: usize,
         end: usize,
     },
     // The record of the line's tokens decides.
@@ -203,22 +201,21 @@ fn first_word(source: &[u8], start: usize) -> FirstWord
     }
 }
 
-// The line that begins at `from`.
+// The line whose content starts at `start`.
 pub(crate) fn read_fast(
     source: &[u8],
-    from: usize,
+    start: usize,
     mnemonics: &[u64; 50],
     forms: &[u8; 50],
     slots: &[u8; 293],
 ) -> Fast
-    requires { ⌜ from ≤ length (now source) ⌝ ∗ ⌜ Tables (now mnemonics) (now forms) (now slots) ⌝ }
-    ensures { λ r. ⌜ FastIs present (now (source .entry)) from r ⌝ }
+    requires { ⌜ StartsAt (now source) start ⌝ ∗ ⌜ Tables (now mnemonics) (now forms) (now slots) ⌝ }
+    ensures { λ r. ⌜ FastIs present (now (source .entry)) start r ⌝ }
 {
-    let start = text_lexical::bytes::run_end(source, from, Class::Margin);
     match first_word(source, start) {
         FirstWord::Missing { label, at } => match crate::operand::end_at(source, at) {
             EndAt::Other => Fast::Other,
-            EndAt::Is(end) => Fast::Bare { label, start, end },
+            EndAt::Is(end) => Fast::Bare { label, end },
         },
         FirstWord::Is {
             label,
@@ -230,7 +227,6 @@ pub(crate) fn read_fast(
                 Tail::Other => Fast::Other,
                 Tail::Are { operands, end } => Fast::Instruction {
                     label,
-                    start,
                     row,
                     operands,
                     end,

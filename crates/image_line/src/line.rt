@@ -6,6 +6,7 @@ ghost use Rattle.image_line.specs.Contracts.{Tables, contextFor, LineIs}
 use crate::fast::Fast;
 use image::config::Config;
 use instruction::instruction::Operands;
+use text_lexical::bytes::Class;
 
 // What a line does, its label aside.
 pub enum Effect {
@@ -27,7 +28,7 @@ pub struct Read {
     pub end: usize,
 }
 
-// The line that begins at `at`, where the settings are these. Both walks read their lines by it.
+// The line that begins at `at`, where the settings are these. Its margin is skipped once, for both ways of reading it.
 pub fn read_line(
     source: &[u8],
     at: usize,
@@ -39,10 +40,10 @@ pub fn read_line(
     requires { ⌜ at ≤ length (now source) ⌝ ∗ ⌜ Tables (now mnemonics) (now forms) (now slots) ⌝ }
     ensures { λ r. ⌜ LineIs present (now (source .entry)) at (contextFor config) r ⌝ }
 {
-    match crate::fast::read_fast(source, at, mnemonics, forms, slots) {
+    let start = text_lexical::bytes::run_end(source, at, Class::Margin);
+    match crate::fast::read_fast(source, start, mnemonics, forms, slots) {
         Fast::Instruction {
             label,
-            start,
             row,
             operands,
             end,
@@ -53,13 +54,13 @@ pub fn read_line(
             effect: Effect::Codes { row, operands },
             end,
         },
-        Fast::Bare { label, start, end } => Read {
+        Fast::Bare { label, end } => Read {
             labelled: label.labelled,
             start,
             length: label.length,
             effect: Effect::Nothing,
             end,
         },
-        Fast::Other => crate::record::read_record(source, at, config, mnemonics, forms, slots),
+        Fast::Other => crate::record::read_record(source, start, config, mnemonics, forms, slots),
     }
 }

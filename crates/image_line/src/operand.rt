@@ -7,6 +7,7 @@ ghost use Rattle.text_lexical.specs.Names.{present};
 ghost use Rattle.instruction.specs.Forms.{markOf};
 ghost use Rattle.image_line.specs.Contracts.{upTo, RegisterIs, NumberIs, AfterMarkIs, EndIs};
 use instruction::form::Mark;
+use text::lexer::Ending;
 use text::lexer::Kind;
 use text::lexer::Scan;
 use text_lexical::bytes::Class;
@@ -123,13 +124,9 @@ pub(crate) fn end_at(text: &[u8], from: usize) -> EndAt
     requires { ⌜ from ≤ length (now text) ⌝ }
     ensures { λ r. ⌜ EndIs present (now (text .entry)) from r ⌝ }
 {
-    let stop = text_lexical::bytes::run_end(text, from, Class::Margin);
-    if text.len() <= stop {
-        return EndAt::Is(stop);
-    }
-    match text[stop] {
-        b'\n' => EndAt::Is(stop),
-        b'#' => EndAt::Is(text_lexical::bytes::line_end(text, stop)),
-        _ => EndAt::Other,
+    match text::lexer::ending_at(text, from) {
+        Ending::Line(stop) => EndAt::Is(stop),
+        Ending::Comment(stop) => EndAt::Is(text_lexical::bytes::line_end(text, stop)),
+        Ending::Other => EndAt::Other,
     }
 }

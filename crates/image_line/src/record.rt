@@ -10,7 +10,7 @@ ghost use Rattle.image.specs.Settings.{configured};
 ghost use Rattle.instruction.specs.Kinds.{kindOf};
 ghost use Rattle.image.specs.Assembling.{Context, setting, coding, afterLabel};
 ghost use Rattle.image.specs.Contracts.{recordMeant, settingsMeant};
-ghost use Rattle.image_line.specs.Contracts.{Tables, Recorded, Labelled, kindMeant, contextFor, EffectIs, RecordIs, LineIs};
+ghost use Rattle.image_line.specs.Contracts.{Tables, StartsAt, Recorded, Labelled, kindMeant, contextFor, EffectIs, RecordIs, LineIs};
 use crate::line::Effect;
 use crate::line::Read;
 use image::config::Config;
@@ -18,7 +18,6 @@ use image::config::Configured;
 use instruction_operands::assembler::Parsed;
 use text::lexer::Kind;
 use text::parser::Line;
-use text_lexical::bytes::Class;
 
 enum LineKind {
     Empty,
@@ -152,20 +151,19 @@ fn read_label(
     }
 }
 
-// The line that begins at `at`, by the record of its tokens.
+// The line whose content starts at `start`, by the record of its tokens.
 pub(crate) fn read_record(
     source: &[u8],
-    at: usize,
+    start: usize,
     config: Config,
     mnemonics: &[u64; 50],
     forms: &[u8; 50],
     slots: &[u8; 293],
 ) -> Read
-    requires { ⌜ at ≤ length (now source) ⌝ ∗ ⌜ Tables (now mnemonics) (now forms) (now slots) ⌝ }
-    ensures { λ r. ⌜ LineIs present (now (source .entry)) at (contextFor config) r ⌝ }
+    requires { ⌜ StartsAt (now source) start ⌝ ∗ ⌜ Tables (now mnemonics) (now forms) (now slots) ⌝ }
+    ensures { λ r. ⌜ LineIs present (now (source .entry)) start (contextFor config) r ⌝ }
 {
-    let start = text_lexical::bytes::run_end(source, at, Class::Margin);
-    let line = text::parser::tokenize(source, at);
+    let line = text::parser::tokenize(source, start);
     let end = line.end;
     if line.bad {
         return unlabelled(start, Effect::Faulty(3), end);

@@ -13,15 +13,17 @@ use lib.Dec.{eqb}
 use lib.IntN.{ℤ}
 use borrow.Author.Tests.{eq-eqb, ne-eqb}
 use Rattle.text_lexical.specs.Bytes.{Result, value, refused}
-use Rattle.text_lexical.specs.Contracts.{indexOf, wholeMeant}
+use Rattle.text_lexical.specs.Contracts.{indexOf, registerAt, wholeMeant, wholeFor}
 use Rattle.text_lexical.specs.declared.number.Whole.{Whole}
 use Rattle.text_lexical.specs.declared.register.Register.{Register}
 use Rattle.text_lexical.specs.declared.register.Register.the-variants.{R0}
+use Rattle.text_lexical.proofs.Numbers.{whole-meant}
+use Rattle.text_lexical.proofs.Registers.{register-index}
 use Rattle.text.specs.Tokens.{Token}
 use Rattle.text.specs.Values.{readNumber}
 use Rattle.instruction.specs.Table.{Place, reg, num, comma-place, opening-place, closing-place, Form, R, I, Shift, Load, Store, Branch, Jump, System, places}
 use Rattle.instruction.specs.Operands.{Operands, noOperands, withRegister, withNumber, readRegister, markByte, readPlace, readOperands}
-use Rattle.instruction.specs.Contracts.{noNumber, operands, registersOf, operandsMeant, registersFor, numberFor}
+use Rattle.instruction.specs.Contracts.{noNumber, operands, wholeOr, registersOf, operandsMeant, registersFor, numberFor, SettledFor}
 use Rattle.instruction.specs.Forms.{isNumber, markOf, OperandPlace, number-place, register-place, MarkPlace, a-comma, an-opening, a-closing, MarkPlaces, no-mark, one-mark, Ahead, no-more, operand}
 use Rattle.instruction.specs.declared.instruction.Operands.{Operands as KeptOperands}
 use Rattle.instruction.specs.declared.form.Mark.the-variants.{Nothing, Is}
@@ -115,11 +117,7 @@ unfolding joined orElse withNumber
 joined-number rs z (value o) = refl
 joined-number rs z (refused j) = refl
 
--- The number that operands have, by what has been read of one.
-abbrev pub Stands : Whole → Option ℤ → Type 0
-Stands w none = w ≡ noNumber
-Stands w (some z) = wholeMeant w ≡ z
-
+-- The number has been read, or not.
 counted : Option ℤ → ℕ
 counted none = 0
 counted (some z) = 1
@@ -138,7 +136,7 @@ record Partly (all : List Place) (pre : List Token) (ps : List Place) (count : �
   held : rs ≡ got ++ replicate free R0
   count-is : length got ≡ count
   three : count + free ≡ 3
-  stands : Stands w number
+  stands : w ≡ wholeOr number
   sum : length pre + length ps ≡ length all
   regs : count + regsIn ps ≡ regsIn all
   nums : counted number + numsIn ps ≡ numsIn all
@@ -239,7 +237,7 @@ module _ {all : List Place} {pre : List Token} {ps : List Place} {count : ℕ} {
             (λ x. rw (register-read t (register-place {bit = b}) e x, joined-register (map indexOf (q .got)) (q .number) (indexOf r) x, map-append indexOf (q .got) (r ∷ [])));
       }
 
-  partly-number : {p : Place} (t : Token) (z : ℤ) (w′ : Whole) → OperandPlace true p → Partly all pre (p ∷ ps) count rs w → readNumber t ≡ value z → Stands w′ (some z)
+  partly-number : {p : Place} (t : Token) (z : ℤ) (w′ : Whole) → OperandPlace true p → Partly all pre (p ∷ ps) count rs w → readNumber t ≡ value z → w′ ≡ wholeFor z
       → Partly all (pre ++ (t ∷ [])) ps count rs w′
   unfolding regsIn numsIn counted
   partly-number t z w′ (number-place {bit = b} {width = d} {signed = f}) q e s =
@@ -310,6 +308,38 @@ none-marked no-mark = refl
 one-marked : {byte n : ℕ} {ms : List Place} → MarkPlaces (Is byte n) ms → (p : Place) × (MarkPlace p byte n × (ms ≡ p ∷ []))
 one-marked (one-mark {p = p} m) = (p, (m, refl))
 
+-- ---- how many tokens there are
+
+-- So many tokens are counted before an operand.
+pub record Counting (all : List Place) (n left : ℕ) : Type 0 where
+  ps : List Place
+  ahead : Ahead ps left
+  sum : n + length ps ≡ length all
+
+pub counting-begin : {all : List Place} {left : ℕ} → Ahead all left → Counting all 0 left
+counting-begin {all} a = record { ps = all; ahead = a; sum = omega arith }
+
+module _ {all : List Place} {n left : ℕ} (q : Counting all n left) where
+  pub counting-none : 0 < left → markOf (left % 8) ≡ Nothing → Counting all (n + 1) (left / 8)
+  counting-none h e =
+      let x = next-of (q .ahead) h in
+      let m = none-marked (subst (λ m. MarkPlaces m (x .marks)) e (x .mark-places)) in
+      record { ps = x .rest; ahead = x .ahead; sum = omega (arith, q .sum, ap length (rw m at (x .splits))) }
+
+  pub counting-mark : {byte k : ℕ} → 0 < left → markOf (left % 8) ≡ Is byte k → Counting all (n + 1 + 1) (left / 8)
+  counting-mark h e =
+      let x = next-of (q .ahead) h in
+      let (p, (m, l)) = one-marked (subst (λ m. MarkPlaces m (x .marks)) e (x .mark-places)) in
+      record { ps = x .rest; ahead = x .ahead; sum = omega (arith, q .sum, ap length (rw l at (x .splits))) }
+
+  pub counting-most : n ≤ length all
+  counting-most = omega (arith, q .sum)
+
+  pub counting-end : (0 < left → ⊥) → n ≡ length all
+  counting-end over = omega (arith, q .sum, ap length (none-ahead (q .ahead) over))
+
+-- ---- what has been read, by the digits
+
 -- Before an operand,
 pub record Reading (all : List Place) (pre : List Token) (count : ℕ) (rs : List Register) (w : Whole) (left : ℕ) : Type 0 where
   ps : List Place
@@ -342,7 +372,7 @@ module _ {all : List Place} {pre : List Token} {count : ℕ} {rs : List Register
       let (o, p) = ahead-at q h letter in
       record { marks = n .marks; rest = n .rest; mark-places = n .mark-places; ahead = n .ahead; partly = partly-register t r o p e }
 
-  pub reading-number : Reading all pre count rs w left → 0 < left → isNumber (left % 8) ≡ true → (t : Token) (z : ℤ) (w′ : Whole) → readNumber t ≡ value z → Stands w′ (some z)
+  pub reading-number : Reading all pre count rs w left → 0 < left → isNumber (left % 8) ≡ true → (t : Token) (z : ℤ) (w′ : Whole) → readNumber t ≡ value z → w′ ≡ wholeFor z
       → Marking all (pre ++ (t ∷ [])) count rs w′ left
   reading-number q h digit t z w′ e s =
       let n = next-of (q .ahead) h in
@@ -403,15 +433,33 @@ three-are (a ∷ b ∷ []) h = absurd (omega arith)
 three-are (a ∷ b ∷ c ∷ []) h = refl
 three-are (a ∷ b ∷ c ∷ d ∷ rs) h = absurd (omega arith)
 
-number-is : (all : List Place) (n : Option ℤ) (w : Whole) → Stands w n → counted n ≡ numsIn all → numberFor all (wholeMeant w) ≡ orElse n none
-unfolding counted orElse
+number-is : (all : List Place) (n : Option ℤ) (w : Whole) → w ≡ wholeOr n → counted n ≡ numsIn all → numberFor all (wholeMeant w) ≡ n
+unfolding counted
 number-is all none w s h = no-number all (wholeMeant w) (sym h)
-number-is all (some z) w s h = a-number all (wholeMeant w) (omega arith) ∙ ap (λ x. some x) s
+number-is all (some z) w s h = a-number all (wholeMeant w) (omega arith) ∙ ap (λ x. some x) (ap wholeMeant s ∙ whole-meant z)
 
--- All places are read: the tokens are as many, and these operands are what is read of them.
+or-none : (n : Option ℤ) → orElse n none ≡ n
+unfolding orElse
+or-none none = refl
+or-none (some z) = refl
+
+-- A register stands for the number that was read at its place, and R0 where none was.
+none-held : (free i : ℕ) → getD (replicate free R0) i R0 ≡ R0
+none-held zero i = refl
+none-held (suc free) zero = refl
+none-held (suc free) (suc i) = none-held free i
+
+held-at : (got : List Register) (free i : ℕ) → getD (got ++ replicate free R0) i R0 ≡ registerAt (getD (map indexOf got) i 0)
+unfolding registerAt
+held-at [] free i = none-held free i
+held-at (r ∷ got) free zero = sym (register-index r)
+held-at (r ∷ got) free (suc i) = held-at got free i
+
+-- All places are read: the tokens are as many, these operands are what is read of them, and no part of them is free.
 pub record Complete (all : List Place) (pre : List Token) (o : KeptOperands) : Type 0 where
   pub count : length pre ≡ length all
   pub means : (ts : List Token) → readOperands all (pre ++ ts) ≡ value (operandsMeant all o)
+  pub settled : SettledFor all o
 
 module _ {all : List Place} {pre : List Token} {count : ℕ} {rs : List Register} {w : Whole} where
   partly-end : Partly all pre [] count rs w → Complete all pre (operands (getD rs 0 R0) (getD rs 1 R0) (getD rs 2 R0) w)
@@ -424,7 +472,8 @@ module _ {all : List Place} {pre : List Token} {count : ℕ} {rs : List Register
       let number = number-is all (q .number) w (q .stands) (omega (arith, q .nums)) in
       record {
         count = omega (arith, q .sum);
-        means = λ ts. q .reads ts ∙ rw (registers, number, append-nil (map indexOf (q .got)));
+        means = λ ts. q .reads ts ∙ rw (registers, number, append-nil (map indexOf (q .got)), or-none (q .number));
+        settled = rw (registers, number, q .stands, q .held, held-at (q .got) (q .free) 0, held-at (q .got) (q .free) 1, held-at (q .got) (q .free) 2);
       }
 
 pub reading-end : {all : List Place} {pre : List Token} {count : ℕ} {rs : List Register} {w : Whole} {left : ℕ} → Reading all pre count rs w left → (0 < left → ⊥)

@@ -9,7 +9,7 @@ use lib.ListN.{getD}
 use lib.Dec.{eqb}
 use lib.IntN.{ℤ}
 use Rattle.text_lexical.specs.Bytes.{bytes}
-use Rattle.text_lexical.specs.Contracts.{keyOf, indexOf, wholeMeant}
+use Rattle.text_lexical.specs.Contracts.{keyOf, indexOf, registerAt, wholeMeant, wholeFor}
 use Rattle.text_lexical.specs.declared.register.Register.{Register}
 use Rattle.text_lexical.specs.declared.register.Register.the-variants.{R0}
 use Rattle.text_lexical.specs.declared.number.Whole.{Whole}
@@ -186,6 +186,19 @@ registersOf o = indexOf (o .first) ∷ indexOf (o .second) ∷ indexOf (o .third
 abbrev pub operandsMeant : List Place → Operands → MeantOperands
 operandsMeant ps o = record { registers = registersFor ps (registersOf o); number = numberFor ps (wholeMeant (o .number)) }
 
+-- The operands of the code's that stand for some: R0 and 0 where there are none.
+abbrev pub wholeOr : Option ℤ → Whole
+wholeOr none = noNumber
+wholeOr (some z) = wholeFor z
+
+abbrev pub operandsFor : MeantOperands → Operands
+operandsFor o =
+    operands (registerAt (getD (o .registers) 0 0)) (registerAt (getD (o .registers) 1 0)) (registerAt (getD (o .registers) 2 0)) (wholeOr (o .number))
+
+-- Operands of the code's are settled by what a form takes of them.
+abbrev pub SettledFor : List Place → Operands → Type 0
+SettledFor ps o = o ≡ operandsFor (operandsMeant ps o)
+
 -- A row of the table with operands of the code's.
 abbrev pub rowMeant : Row → Operands → Meant
 rowMeant r o =
@@ -198,6 +211,10 @@ pub record Parts : Type 0 where
 
 abbrev pub partsMeant : Parts → Meant
 partsMeant p = rowMeant (rowAt (p .row)) (p .operands)
+
+-- They are settled by the row's form: no field is free.
+abbrev pub Settled : Parts → Type 0
+Settled p = SettledFor (places (rowAt (p .row) .form)) (p .operands)
 
 -- The instruction of the definitions that the code's means: the row is the one that its mnemonic names. Whether a 0 has a sign is not
 -- looked at: -0 means 0.

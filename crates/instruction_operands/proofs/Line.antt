@@ -1,39 +1,35 @@
--- The tokens that a line's record keeps, as the code looks at them: the mnemonic's, and the six behind it.
+-- The tokens that a line's record keeps, as the code looks at them: the mnemonic's, and those after it.
 use Prim.Native.Nat.{ℕ, zero, suc, _+_, _-_, _≤_, _<_}
 use mathlib.Core.Path.{_≡_, refl, sym, ap, _∙_, subst}
 use native.Mathlib.Omega.{arith}
 use native.Mathlib.Numerals.{add-one}
 use mathlib.Core.Option.{none, some}
-use mathlib.Core.List.{List, [], _∷_, _++_, map}
-use lib.ListN.{length, take, drop, getD, length-take, length-map, drop-of-length-le, List·getD-map, List·getD-eq-default}
-use lib.Seq.{take-nil, drop-cons, take-append-le, getD-take, getD-drop}
+use mathlib.Core.List.{List, [], _∷_, map}
+use lib.ListN.{length, take, drop, getD, length-take, length-map, drop-of-length-le, List·getD-map}
+use lib.Seq.{take-nil, drop-cons, getD-take, getD-drop}
 use lib.Dec.{eqb}
 use borrow.Author.Tests.{eq-eqb, ne-eqb}
 use Rattle.text_lexical.specs.Bytes.{Result, value, refused, lower, find}
 use Rattle.text_lexical.specs.Contracts.{keyOf}
+use Rattle.text_lexical.specs.Words.{wordKey}
 use Rattle.text_lexical.proofs.Keys.{Below, lowered-below}
 use Rattle.text.specs.Tokens.{Token}
-use Rattle.text.specs.Lines.{Line, kept}
-use Rattle.text.specs.Contracts.{kindMeant, filler, firsts, meant, spelling}
+use Rattle.text.specs.Lines.{Line}
+use Rattle.text.specs.Contracts.{kindMeant, firsts, meant}
 use Rattle.text.specs.declared.lexer.Kind.{Kind}
 use Rattle.text.specs.declared.lexer.Kind.the-variants.{Identifier}
 use Rattle.text.specs.declared.lexer.Token.{Token as KeptToken}
 use Rattle.instruction.specs.Table.{Place, Form, R, I, Shift, Load, Store, Branch, Jump, System, places, Row, table, rowNamed}
 use Rattle.instruction.specs.Operands.{Instruction, readIdentifier, readOperands, made, readRow, readMnemonic, readInstruction, behind}
-use Rattle.instruction.specs.Contracts.{rowAt, formAt, formNumber, partsMeant}
-use Rattle.instruction_operands.specs.Contracts.{operandMeant, sixMeant, sixBehind, Reads}
-use Rattle.instruction_operands.specs.declared.assembler.Six.{Six}
+use Rattle.instruction.specs.Contracts.{rowAt, formAt, formNumber, partsMeant, SettledFor}
+use Rattle.instruction_operands.specs.Contracts.{operandMeant, Reads}
 use Rattle.instruction_operands.specs.declared.assembler.Operand.{Operand}
 use Rattle.instruction_operands.specs.declared.assembler.Operand.the-variants.{Are, Refused}
 use Rattle.instruction.specs.declared.instruction.Operands.{Operands}
 use Rattle.instruction.proofs.Columns.{form-numbered}
-use Rattle.instruction.proofs.Lookup.{row-by-key}
+use Rattle.instruction.proofs.Lookup.{row-by-key, row-by-word}
 
--- ---- forms by their numbers
-
--- The numbers past the forms' are System's.
-pub past-forms : (n : ℕ) → 5 ≤ n → (n ≡ 5 → ⊥) → (n ≡ 6 → ⊥) → formAt n ≡ System
-past-forms n h five six = List·getD-eq-default (R ∷ I ∷ Shift ∷ Load ∷ Store ∷ Branch ∷ Jump ∷ []) System {n = n} (omega arith)
+-- ---- forms
 
 -- No form has more than six operand tokens.
 pub six-places : (f : Form) → length (places f) ≤ 6
@@ -47,32 +43,11 @@ six-places Branch = omega arith
 six-places Jump = omega arith
 six-places System = omega arith
 
--- ---- the tokens behind the mnemonic
+-- ---- the tokens after the mnemonic
 
 -- What stands at a place within a list does not depend on what stands past it.
 pub getD-any : {A : Type 0} (l : List A) (i : ℕ) (d e : A) → i < length l → getD l i d ≡ getD l i e
 getD-any l i d e h = let p = drop-cons l i d h in let q = drop-cons l i e h in cc
-
--- The kinds of the six behind a place, whatever stands past the tokens.
-pub six-any : (ts : List KeptToken) (at : ℕ) → length ts ≡ kept → at ≤ 2 → (d : KeptToken) → _≡_ {A = Six}
-    (record {
-      a = getD ts (at + 1) d .kind;
-      b = getD ts (at + 2) d .kind;
-      c = getD ts (at + 3) d .kind;
-      d = getD ts (at + 4) d .kind;
-      e = getD ts (at + 5) d .kind;
-      f = getD ts (at + 6) d .kind;
-    })
-    (sixBehind ts at)
-six-any ts at full few d =
-    rw (
-      getD-any ts (at + 1) d filler (omega arith),
-      getD-any ts (at + 2) d filler (omega arith),
-      getD-any ts (at + 3) d filler (omega arith),
-      getD-any ts (at + 4) d filler (omega arith),
-      getD-any ts (at + 5) d filler (omega arith),
-      getD-any ts (at + 6) d filler (omega arith),
-    )
 
 -- As many tokens are looked at as there are places.
 read-take : (ps : List Place) (ts : List Token) → readOperands ps (take (length ps) ts) ≡ readOperands ps ts
@@ -81,58 +56,38 @@ read-take [] ts = refl
 read-take (p ∷ ps) [] = refl
 read-take (p ∷ ps) (t ∷ ts) = rw (read-take ps ts)
 
-read-front : (ps : List Place) (ts us : List Token) → length ps ≤ length ts → readOperands ps (ts ++ us) ≡ readOperands ps ts
-read-front ps ts us h = rw (← read-take ps (ts ++ us), take-append-le (length ps) ts us h) (read-take ps ts)
-
 map-take : {A B : Type 0} (f : A → B) (n : ℕ) (l : List A) → map f (take n l) ≡ take n (map f l)
 map-take f zero l = refl
 map-take f (suc n) [] = refl
 map-take f (suc n) (a ∷ l) = ap (λ x. f a ∷ x) (map-take f n l)
 
--- Of the first tokens, those behind some.
+-- Of the first tokens, those after some.
 drop-take : {A B : Type 0} (f : A → B) (k n m : ℕ) (l : List A) → m ≡ k + n → drop k (map f (take m l)) ≡ take n (map f (drop k l))
 drop-take f zero n m l e = let q : m ≡ n = omega arith in rw q (map-take f n l)
 drop-take f (suc k) n zero l e = absurd (omega arith)
 drop-take f (suc k) n (suc m) [] e = sym (take-nil n)
 drop-take f (suc k) n (suc m) (a ∷ l) e = drop-take f k n m l (omega arith)
 
-drop-next : {A : Type 0} (l : List A) (i j : ℕ) (d : A) → j ≡ suc i → i < length l → drop i l ≡ getD l i d ∷ drop j l
-drop-next l i j d e h = rw e (drop-cons l i d h)
-
-module _ (s : List ℕ) (ts : List KeptToken) (at count : ℕ) (full : length ts ≡ kept) (few : at ≤ 2) where
-  -- The tokens behind a place begin with the six.
-  six-first : map (meant s) (drop (at + 1) ts) ≡ sixMeant (λ i. spelling s (getD ts (at + i) filler)) (sixBehind ts at) ++ map (meant s) (drop (at + 7) ts)
-  six-first =
-      rw (
-        drop-next ts (at + 1) (at + 2) filler (omega arith) (omega arith),
-        drop-next ts (at + 2) (at + 3) filler (omega arith) (omega arith),
-        drop-next ts (at + 3) (at + 4) filler (omega arith) (omega arith),
-        drop-next ts (at + 4) (at + 5) filler (omega arith) (omega arith),
-        drop-next ts (at + 5) (at + 6) filler (omega arith) (omega arith),
-        drop-next ts (at + 6) (at + 7) filler (omega arith) (omega arith),
-      )
-
-  -- What is read at places behind the mnemonic is read of the six.
-  read-six : (ps : List Place) → at < count → count - at - 1 ≡ length ps → length ps ≤ 6
-      → readOperands ps (drop (at + 1) (firsts s ts count)) ≡ readOperands ps (sixMeant (λ i. spelling s (getD ts (at + i) filler)) (sixBehind ts at))
-  read-six ps h e l =
-      ap (readOperands ps) (drop-take (meant s) (at + 1) (length ps) count ts (omega arith))
-      ∙ read-take ps (map (meant s) (drop (at + 1) ts))
-      ∙ ap (readOperands ps) six-first
-      ∙ read-front ps (sixMeant (λ i. spelling s (getD ts (at + i) filler)) (sixBehind ts at)) _ l
+module _ (s : List ℕ) (ts : List KeptToken) (at count : ℕ) where
+  -- What is read at places after the mnemonic is read of all tokens that are kept after it.
+  read-kept : (ps : List Place) → at < count → count - at - 1 ≡ length ps
+      → readOperands ps (drop (at + 1) (firsts s ts count)) ≡ readOperands ps (map (meant s) (drop (at + 1) ts))
+  read-kept ps h e = ap (readOperands ps) (drop-take (meant s) (at + 1) (length ps) count ts (omega arith)) ∙ read-take ps (map (meant s) (drop (at + 1) ts))
 
   -- A row's operands, where there are as many tokens as its form has.
-  pub row-read : (r : Row) (form n : ℕ) (k : Six) (o : Operand) → form ≡ formNumber (r .form) → n ≡ length (places (formAt form)) → at < count
-      → count - at - 1 ≡ n → k ≡ sixBehind ts at → Reads (places (formAt form)) k o
+  pub row-read : (r : Row) (form n : ℕ) (o : Operand) → form ≡ formNumber (r .form) → n ≡ length (places (formAt form)) → at < count
+      → count - at - 1 ≡ n → Reads (places (formAt form)) ts at o
       → made r (operandMeant (places (r .form)) o) ≡ readRow r (count - at - 1) (drop (at + 1) (firsts s ts count))
   unfolding readRow
-  row-read r form n k o f m h e q reads =
+  row-read r form n o f m h e reads =
       let g : formAt form ≡ r .form = ap formAt f ∙ form-numbered (r .form) in
       let c : count - at - 1 ≡ length (places (r .form)) = e ∙ m ∙ ap (λ x. length (places x)) g in
-      let u : ℕ → List ℕ = λ i. spelling s (getD ts (at + i) filler) in
-      let t = subst (λ (x : Six). operandMeant (places (formAt form)) o ≡ readOperands (places (formAt form)) (sixMeant u x)) q (reads u) in
-      rw (readRow, eq-eqb (count - at - 1) (length (places (r .form))) c, read-six (places (r .form)) h c (six-places (r .form)))
-      (ap (made r) (subst (λ x. operandMeant (places x) o ≡ readOperands (places x) (sixMeant u (sixBehind ts at))) g t))
+      rw (readRow, eq-eqb (count - at - 1) (length (places (r .form))) c, read-kept (places (r .form)) h c)
+      (ap (made r) (subst (λ x. operandMeant (places x) o ≡ readOperands (places x) (map (meant s) (drop (at + 1) ts))) g (reads .means s)))
+
+-- The operands of a form are settled by the row's.
+pub settled-row : (r : Row) (form : ℕ) (o : Operands) → form ≡ formNumber (r .form) → SettledFor (places (formAt form)) o → SettledFor (places (r .form)) o
+settled-row r form o f h = subst (λ x. SettledFor (places x) o) (ap formAt f ∙ form-numbered (r .form)) h
 
 -- Where there are no operands, their refusal is all.
 pub made-refused : {o : Operand} {n : ℕ} {x : Result Instruction} (r : Row) (ps : List Place) → o ≡ Refused n → made r (operandMeant ps o) ≡ x → refused n ≡ x
@@ -187,6 +142,9 @@ below-part k n s h = below-take n (drop k s) (λ j. rw (getD-drop k s j 0) (h (k
 -- A mnemonic's row is found by the key of its spelling in lower case.
 pub named-by-key : (u : List ℕ) (key : ℕ) → Below u → key ≡ keyOf (map lower u) → find (λ q. eqb (keyOf (q .mnemonic)) key) table ≡ rowNamed (map lower u)
 named-by-key u key h e = rw e (sym (row-by-key (map lower u) (lowered-below u h)))
+
+pub named-by-word : (u : List ℕ) (key : ℕ) → Below u → key ≡ wordKey u → find (λ q. eqb (keyOf (q .mnemonic)) key) table ≡ rowNamed (map lower u)
+named-by-word u key h e = rw e (sym (row-by-word u h))
 
 -- No row has the mnemonic.
 pub mnemonic-unknown : {k : Kind} {x : Result Instruction} (u : List ℕ) (count : ℕ) (ts : List Token) → k ≡ Identifier → rowNamed (map lower u) ≡ none

@@ -1,24 +1,25 @@
 -- A token's kind, by its meaning and its spelling, means that token again, has the sign of that spelling, and the token's number.
 use Prim.Native.Nat.{ℕ, zero, suc, _^_}
-use mathlib.Core.Path.{_≡_, refl, ap}
+use mathlib.Core.Path.{_≡_, refl, ap, _∙_}
 use native.Mathlib.Omega.{arith}
 use mathlib.Core.Bool.{Bool, true, false}
 use mathlib.Core.Option.{Option, none, some}
 use mathlib.Core.List.{List, [], _∷_}
 use lib.ListN.{take, drop, getD}
 use lib.Dec.{leb, ltb, eqb}
-use lib.IntN.{pos, natAbs}
+use lib.IntN.{ℤ, pos, natAbs}
 use borrow.Author.Tests.{ltb-true, eqb-true, eq-eqb}
-use Rattle.text_lexical.specs.Bytes.{same}
+use Rattle.text_lexical.specs.Bytes.{Result, value, refused, same}
 use Rattle.text_lexical.specs.Numbers.{valueOf, minus}
 use Rattle.text_lexical.specs.Names.{Name, named}
 use Rattle.text_lexical.proofs.Tests.{by-test, no-both}
 use Rattle.text_lexical.proofs.Strings.{found}
 use Rattle.text_lexical.proofs.Registers.{index-register}
+use Rattle.text_lexical.proofs.Numbers.{whole-meant}
 use Rattle.text.specs.Tokens.{Class, Register, Identifier, Number, Hex, Binary, Directive, Mark, Match, Token, identifier, register, number, hex, binary, directive, comma, colon, opening, closing, within, numberToken, patternToken, registerToken, markToken, tokenOf, Sized, sized, matched, front, longest}
 use Rattle.text.specs.Values.{readNumber}
 use Rattle.text.specs.NameSets.{isNumbered, Naming}
-use Rattle.text.specs.Contracts.{extracted, extractMeant, kindMeant, registerKind, kindFor}
+use Rattle.text.specs.Contracts.{extractFor, extracted, extractMeant, kindMeant, registerKind, kindFor}
 use Rattle.text.specs.declared.lexer.Kind.{Kind}
 use Rattle.text.specs.declared.lexer.Kind.the-variants.{Identifier as IdentifierKind, Register as RegisterKind, NoRegister, Number as NumberKind, Negative, Hex as HexKind, Binary as BinaryKind, Directive as DirectiveKind, Comma, Colon, LParen, RParen}
 
@@ -154,18 +155,25 @@ kind-sign m u n = ((λ e. kind-signed m u .0 (ap signed e)), (λ e. kind-signed 
 
 -- ---- the number
 
--- The number of a kind is the one that its token means.
-pub extracted-number : (k : Kind) (u : List ℕ) → extractMeant (extracted k) ≡ readNumber (kindMeant k u)
+-- What is read of a kind is the number that its token means.
+pub extracted-for : (k : Kind) (u : List ℕ) → extracted k ≡ extractFor (readNumber (kindMeant k u))
 unfolding readNumber
-extracted-number IdentifierKind u = refl
-extracted-number (RegisterKind r) u = refl
-extracted-number NoRegister u = refl
-extracted-number (NumberKind n) u = refl
-extracted-number (Negative n) u = refl
-extracted-number (HexKind n) u = refl
-extracted-number (BinaryKind n) u = refl
-extracted-number DirectiveKind u = refl
-extracted-number Comma u = refl
-extracted-number Colon u = refl
-extracted-number LParen u = refl
-extracted-number RParen u = refl
+extracted-for IdentifierKind u = refl
+extracted-for (RegisterKind r) u = refl
+extracted-for NoRegister u = refl
+extracted-for (NumberKind n) u = refl
+extracted-for (Negative n) u = refl
+extracted-for (HexKind n) u = refl
+extracted-for (BinaryKind n) u = refl
+extracted-for DirectiveKind u = refl
+extracted-for Comma u = refl
+extracted-for Colon u = refl
+extracted-for LParen u = refl
+extracted-for RParen u = refl
+
+for-meant : (o : Result ℤ) → extractMeant (extractFor o) ≡ o
+for-meant (value z) = ap value (whole-meant z)
+for-meant (refused n) = refl
+
+pub extracted-number : (k : Kind) (u : List ℕ) → extractMeant (extracted k) ≡ readNumber (kindMeant k u)
+extracted-number k u = ap extractMeant (extracted-for k u) ∙ for-meant (readNumber (kindMeant k u))

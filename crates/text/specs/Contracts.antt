@@ -10,11 +10,12 @@ use lib.IntN.{ℤ, pos, natAbs}
 use Rattle.text_lexical.specs.Bytes.{Result, value, refused, digit, nameStart, blank, margin, run}
 use Rattle.text_lexical.specs.Numbers.{minus}
 use Rattle.text_lexical.specs.Names.{Name}
-use Rattle.text_lexical.specs.Contracts.{indexOf, registerAt, wholeMeant}
+use Rattle.text_lexical.specs.Contracts.{indexOf, registerAt, wholeMeant, wholeFor}
 use Rattle.text_lexical.specs.declared.number.Radix.{Radix}
 use Rattle.text_lexical.specs.declared.number.Radix.the-variants.{Binary as BinaryRadix, Decimal as DecimalRadix, Hex as HexRadix}
 use Rattle.text.specs.Tokens.{identifier, register, number, hex, binary, directive, comma, colon, opening, closing, Number as NumberClass, longest, Sized, front}
 use Rattle.text.specs.Tokens.{Token as Meant}
+use Rattle.text.specs.Values.{readNumber}
 use Rattle.text.specs.Lines.{kept}
 use Rattle.text.specs.Places.{leftAt, endAt}
 use Rattle.text.specs.declared.lexer.Kind.{Kind}
@@ -31,20 +32,10 @@ use Rattle.text.specs.declared.reader.Reader.{Reader}
 
 -- ---- numbers
 
--- The whole number of a kind, by its sign and its magnitude: only a kind with a sign is negative. It means what `Values.readNumber` reads.
-abbrev pub extracted : Kind → Extracted
-extracted (Number n) = Extract (record { negative = false; magnitude = n })
-extracted (Negative n) = Extract (record { negative = true; magnitude = n })
-extracted (Hex n) = Extract (record { negative = false; magnitude = n })
-extracted (Binary n) = Extract (record { negative = false; magnitude = n })
-extracted Identifier = NoNumber 8
-extracted (RegisterKind r) = NoNumber 8
-extracted NoRegister = NoNumber 8
-extracted Directive = NoNumber 8
-extracted Comma = NoNumber 8
-extracted Colon = NoNumber 8
-extracted LParen = NoNumber 8
-extracted RParen = NoNumber 8
+-- What is answered for the number that is read of a token, or for its refusal.
+abbrev pub extractFor : Result ℤ → Extracted
+extractFor (value z) = Extract (wholeFor z)
+extractFor (refused n) = NoNumber n
 
 abbrev pub extractMeant : Extracted → Result ℤ
 extractMeant (Extract w) = value (wholeMeant w)
@@ -66,6 +57,10 @@ kindMeant Comma u = comma
 kindMeant Colon u = colon
 kindMeant LParen u = opening
 kindMeant RParen u = closing
+
+-- What is read of a kind, whatever its spelling: the number is in the kind.
+abbrev pub extracted : Kind → Extracted
+extracted k = extractFor (readNumber (kindMeant k []))
 
 -- The spelling of a token of a text, and the token that it means.
 abbrev pub spelling : List ℕ → Token → List ℕ

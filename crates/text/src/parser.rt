@@ -17,7 +17,7 @@ pub enum Extracted {
     Refused(u8),
 }
 
-// The whole number that a token means, with the sign of its spelling: 8. Operands and `.config` read their numbers by this function.
+// The whole number that a token means, or refusal 8; -0 is 0. Operands and `.config` read their numbers by this function.
 pub fn extract_number(kind: Kind) -> Extracted
     ensures { λ r. ⌜ r ≡ extracted kind ⌝ }
 {
@@ -28,7 +28,7 @@ pub fn extract_number(kind: Kind) -> Extracted
                 magnitude,
             }),
         Kind::Negative(magnitude) => Extracted::Number(Whole {
-            negative: true,
+            negative: 0 < magnitude,
             magnitude,
         }),
         _ => Extracted::Refused(8),

@@ -1,4 +1,4 @@
--- Laws of numbers: a printed decimal read again, its length and its bytes; reduction and signed readings, for any width.
+-- Laws of numbers: a printed decimal read again, its length and its bytes; reduction and signed readings, for any width; signs and magnitudes.
 use mathlib.Core.Path.{_≡_, refl, sym, ap, _∙_}
 use Prim.Native.Nat.{ℕ, zero, suc, _+_, _-_, _*_, _/_, _%_, _^_, _≤_, _<_}
 use native.Mathlib.Nat.{div-add-mod', suc-mul, mul-add-mod-self-right, pow-suc, mod-lt, mod-eq-of-lt}
@@ -9,10 +9,11 @@ use mathlib.Core.List.{List, [], _∷_, _++_}
 use lib.ListN.{length, length-append}
 use lib.IntN.{ℤ, pos, negsuc, _+ℤ_, _-ℤ_, _*ℤ_, +ℤ-assoc, +ℤ-comm, +ℤ-negℤ-cancel, -ℤ-+ℤ-cancel, *ℤ-comm, *ℤ-zero, sucℤ-*ℤ}
 use lib.Pow.{pow-pos}
+use lib.Dec.{ltb}
 use borrow.Author.Tests.{lt-ltb, le-ltb, le-leb}
 use Rattle.text_lexical.specs.Bytes.{digit, every}
 use Rattle.text_lexical.specs.Numbers.{digitValue, valueFrom, valueOf, minus, residue, meantBy, decimalIn, decimal}
-use Rattle.text_lexical.specs.Contracts.{remainder, Reduced}
+use Rattle.text_lexical.specs.Contracts.{wholeMeant, wholeFor, remainder, Reduced}
 use Rattle.text_lexical.proofs.Tests.{split, true-between}
 use Rattle.text_lexical.proofs.Strings.{every-append, every-cons}
 
@@ -120,6 +121,20 @@ remainder-residue k (negsuc n) = refl
 pub reduced : (m r : ℕ) (z : ℤ) → r ≡ remainder m z → Reduced m z r
 reduced m r z e =
     record { exact = e; at-width = λ k q. e ∙ ap (λ (x : ℕ). remainder x z) q ∙ remainder-residue k z }
+
+-- ---- whole numbers by sign and magnitude
+
+-- The one that is read for a number means it.
+pub whole-meant : (z : ℤ) → wholeMeant (wholeFor z) ≡ z
+unfolding minus
+whole-meant (pos n) = refl
+whole-meant (negsuc n) = refl
+
+-- -n is negative, unless it is 0.
+pub whole-minus : (n : ℕ) → wholeFor (minus n) ≡ record { negative = ltb 0 n; magnitude = n }
+unfolding minus
+whole-minus zero = refl
+whole-minus (suc n) = rw (lt-ltb 0 (suc n) (omega arith))
 
 -- ---- two numbers leave the same if and only if 2^k divides their difference
 

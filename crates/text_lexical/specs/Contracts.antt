@@ -119,6 +119,11 @@ signedMeant false n = pos n
 abbrev pub wholeMeant : Whole → ℤ
 wholeMeant w = signedMeant (w .negative) (w .magnitude)
 
+-- The one that is read for a number: negative exactly below zero.
+abbrev pub wholeFor : ℤ → Whole
+wholeFor (pos n) = record { negative = false; magnitude = n }
+wholeFor (negsuc n) = record { negative = true; magnitude = suc n }
+
 -- What a whole number leaves modulo another, from 0 on.
 abbrev pub remainder : ℕ → ℤ → ℕ
 remainder m (pos n) = n % m

@@ -1,8 +1,15 @@
 -- `image_line::fast::operand_at` meets its contract.
-use mathlib.Core.Path.{sym, ap, _∙_}
+use Prim.Native.Nat.{ℕ}
+use mathlib.Core.Path.{_≡_, refl, sym, _∙_}
+use native.Mathlib.Omega.{arith}
+use lib.IntN.{ℤ}
 use borrow.Author.Needs.{needs}
-use Rattle.text.specs.Contracts.{extractMeant}
-use Rattle.text.proofs.Meanings.{extracted-number}
+use Rattle.text_lexical.specs.Bytes.{Result, value, refused}
+use Rattle.text_lexical.specs.Contracts.{wholeFor}
+use Rattle.text_lexical.specs.declared.number.Whole.{Whole}
+use Rattle.text.specs.Contracts.{extractFor}
+use Rattle.text.specs.declared.parser.Extracted.the-variants.{Number as Extract}
+use Rattle.text.proofs.Meanings.{extracted-for}
 use Rattle.image_line.proofs.fast.operand_at.Statement.{statement}
 use Rattle.image_line.proofs.fast.operand_at.Tie as tie
 
@@ -33,6 +40,11 @@ returns c = search needs
 returns-2 : tie.Need-returns-2
 returns-2 c = search needs
 
+-- the number that was read
+extracted-is : {w : Whole} (x : Result ℤ) → Extract w ≡ extractFor x → (z : ℤ) × ((x ≡ value z) × (w ≡ wholeFor z))
+extracted-is (value z) e = (z, (refl, cc))
+extracted-is (refused n) e = absurd (let z : _≡_ {A = ℕ} 0 1 = cc in omega arith)
+
 returns-3 : tie.Need-returns-3
 returns-3 c =
     let n = c .before in
@@ -40,10 +52,9 @@ returns-3 c =
     let k = x .before .before in
     let a = k .before .before in
     let i = a .before in
-    let (u, rd) = rw (k .kind .given .1) at (a .number-at .ensures) in (
-      sym (i .before .is-number .ensures) ∙ i .if1 .taken,
-      (_, (sym (ap extractMeant (sym (n .number .given .1) ∙ x .extract-number .ensures) ∙ extracted-number (k .kind .given .0 .0) u), rd)),
-    )
+    let (u, rd) = rw (k .kind .given .1) at (a .number-at .ensures) in
+    let (z, (v, e)) = extracted-is _ (sym (n .number .given .1) ∙ x .extract-number .ensures ∙ extracted-for (k .kind .given .0 .0) u) in
+    (sym (i .before .is-number .ensures) ∙ i .if1 .taken, (_, (z, (v, (e, rd)))))
 
 register-at-requires : tie.Need-register-at-requires
 register-at-requires c κs = search needs

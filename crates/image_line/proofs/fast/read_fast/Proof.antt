@@ -6,16 +6,13 @@ use Rattle.instruction.specs.Contracts.{formNumbers}
 use Rattle.instruction.proofs.Columns.{form-column}
 use Rattle.text_lexical.specs.Names.{present}
 use Rattle.text.proofs.NameSets.{present-naming}
-use Rattle.image_line.proofs.Lines.{no-mnemonics, word-row, word-ends, content-starts, bare-line, word-line}
+use Rattle.image_line.proofs.Lines.{no-mnemonics, word-row, word-ends, bare-line, word-line}
 use borrow.Author.Needs.{needs}
 use Rattle.image_line.proofs.fast.read_fast.Statement.{statement}
 use Rattle.image_line.proofs.fast.read_fast.Tie as tie
 
-run-end-requires : tie.Need-run-end-requires
-run-end-requires c κs = search needs
-
 first-word-requires : tie.Need-first-word-requires
-first-word-requires c κs = let b = c .before .before in content-starts (b .args .source .now) (b .args .from) (c .run-end .result) (b .pre .0) (c .run-end .ensures) .1
+first-word-requires c κs = c .before .pre .0 .in-text
 
 enum-known-label : tie.Need-enum-known-label
 enum-known-label c = search needs
@@ -41,8 +38,8 @@ enum-told-2 c = search needs
 enum-known-row : tie.Need-enum-known-row
 enum-known-row c = search needs
 
-below : (c : tie.After-run-end) → Below (c .before .before .args .source .now)
-below c = λ i. omega (arith, c .before .shared-slice-known .given i)
+below : (c : tie.After-shared-slice-known) → Below (c .before .args .source .now)
+below c = λ i. omega (arith, c .shared-slice-known .given i)
 
 looked : (c : tie.After-known-told4) → c .before .row .given .0 .0 < 50
 looked c =
@@ -70,10 +67,9 @@ returns-2 : tie.Need-returns-2
 returns-2 c =
     let e = c .before in
     let m = e .before .before .before .before in
-    let g = m .before .before .before in
-    let b = g .before .before in
+    let b = m .before .before .before .before in
     let (n, k) = rw (e .end .given .1) at (e .before .before .end-at .ensures) in
-    bare-line present (b .args .source .now) (b .args .from) (g .run-end .result) (b .pre .0) (g .run-end .ensures) _ _ _ ((rw (m .label .given .1) at (m .before .before .first-word .ensures)) .label) n k
+    bare-line present (b .args .source .now) (b .args .start) (b .pre .0) _ _ _ ((rw (m .label .given .1) at (m .before .before .first-word .ensures)) .label) n k
 
 returns-3 : tie.Need-returns-3
 returns-3 c = search needs
@@ -91,15 +87,14 @@ returns-5 c =
     let m = f .before .before in
     let w = m .before .before in
     let g = w .before in
-    let b = g .before .before in
-    word-line present (b .args .source .now) (b .args .from) (g .run-end .result) (b .pre .0) (g .run-end .ensures) (rw (m .label2 .given .1) at (w .first-word .ensures)) present-naming no-mnemonics (below g) (f .find-mnemonic .result) _ _
+    let b = g .before in
+    word-line present (b .args .source .now) (b .args .start) (b .pre .0) (rw (m .label2 .given .1) at (w .first-word .ensures)) present-naming no-mnemonics (below g) (f .find-mnemonic .result) _ _
     (f .find-mnemonic .ensures) (k .before .row .given .1) (rw (b .pre .1 .form-column) (form-column (k .before .row .given .0 .0) (looked k))) _ _ (rw (o .operands .given .1) at (t .read-tail .ensures))
 
 pub read-fast-spec : {M : Type 1} → statement M
 read-fast-spec =
     tie.close
     (tie.spec
-    run-end-requires
     first-word-requires
     enum-known-label
     end-at-requires

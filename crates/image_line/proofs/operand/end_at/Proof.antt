@@ -1,44 +1,52 @@
 -- `image_line::operand::end_at` meets its contract.
-use mathlib.Core.Logic.{inl, inr}
-use native.Mathlib.Omega.{arith}
+use mathlib.Core.Path.{sym, _∙_}
 use borrow.Author.Needs.{needs}
+use Rattle.text_lexical.specs.Bytes.{run}
 use Rattle.text_lexical.specs.Names.{present}
-use Rattle.image_line.proofs.Places.{end-reads, stops-here}
+use Rattle.text.specs.Places.{restAt, endAt}
+use Rattle.text.proofs.Endings.{line-ends, comment-ends}
 use Rattle.image_line.proofs.operand.end_at.Statement.{statement}
 use Rattle.image_line.proofs.operand.end_at.Tie as tie
 
-run-end-requires : tie.Need-run-end-requires
-run-end-requires c κs = search needs
+ending-at-requires : tie.Need-ending-at-requires
+ending-at-requires c κs = search needs
+
+enum-known-stop : tie.Need-enum-known-stop
+enum-known-stop c = search needs
+
+enum-known-stop-2 : tie.Need-enum-known-stop-2
+enum-known-stop-2 c = search needs
+
+line-end-requires : tie.Need-line-end-requires
+line-end-requires c κs =
+    let n = c .before in
+    let e = n .before .before in
+    let b = e .before .before in
+    let (none-left, inside-text, ends) = comment-ends present (b .args .text .now) (b .args .from) _ (b .pre) (sym (n .stop2 .given .1) ∙ e .ending-at .ensures) in
+    inside-text
+
+enum-told : tie.Need-enum-told
+enum-told c = search needs
 
 returns : tie.Need-returns
 returns c =
-    let r = c .before in
-    let b = r .before .before in
-    let s = b .args .text .now in
-    end-reads present s (b .args .from) (r .run-end .result) (r .run-end .result) (b .pre) (r .run-end .ensures) (λ l. absurd (omega arith)) (stops-here s (r .run-end .result) (λ l. absurd (omega arith)))
-
-shared-slice-read-match : tie.Need-shared-slice-read-match
-shared-slice-read-match c = search needs
-
-line-end-requires : tie.Need-line-end-requires
-line-end-requires c κs = search needs
+    let n = c .before in
+    let e = n .before .before in
+    let b = e .before .before in
+    line-ends present (b .args .text .now) (b .args .from) _ (b .pre) (sym (n .stop .given .1) ∙ e .ending-at .ensures)
 
 returns-2 : tie.Need-returns-2
+unfolding endAt restAt run
 returns-2 c =
-    let r = c .before .before .before in
-    let b = r .before .before in
-    let s = b .args .text .now in
-    end-reads present s (b .args .from) (r .run-end .result) (r .run-end .result) (b .pre) (r .run-end .ensures) (λ l. inl (c .match .keys1)) (stops-here s (r .run-end .result) (λ l. c .match .keys1))
+    let n = c .before .before in
+    let e = n .before .before in
+    let b = e .before .before in
+    let (none-left, inside-text, ends) = comment-ends present (b .args .text .now) (b .args .from) _ (b .pre) (sym (n .stop2 .given .1) ∙ e .ending-at .ensures) in
+    (none-left, c .line-end .ensures ∙ ends)
 
 returns-3 : tie.Need-returns-3
-returns-3 c =
-    let m = c .before in
-    let r = m .before .before .before in
-    let b = r .before .before in
-    end-reads present (b .args .text .now) (b .args .from) (r .run-end .result) (c .line-end .result) (b .pre) (r .run-end .ensures) (λ l. inr (m .match .keys2)) (c .line-end .ensures)
-
-returns-4 : tie.Need-returns-4
-returns-4 c = search needs
+returns-3 c = search needs
 
 pub end-at-spec : {M : Type 1} → statement M
-end-at-spec = tie.close (tie.spec run-end-requires returns shared-slice-read-match line-end-requires returns-2 returns-3 returns-4)
+end-at-spec =
+    tie.close (tie.spec ending-at-requires enum-known-stop enum-known-stop-2 line-end-requires enum-told returns returns-2 returns-3)

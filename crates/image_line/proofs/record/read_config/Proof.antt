@@ -16,11 +16,11 @@ enum-known-changed c = search needs
 
 returns : tie.Need-returns
 unfolding setting
-returns c = let n = c .before in record { means = ap setting (rw (n .n .given .1) at (n .before .before .parse-config .ensures)); in-table = tt }
+returns c = let n = c .before in record { means = ap setting (rw (n .n .given .1) at (n .before .before .parse-config .ensures)); in-table = tt; settled = tt }
 
 returns-2 : tie.Need-returns-2
 unfolding setting
-returns-2 c = let n = c .before in record { means = ap setting (rw (n .changed .given .1) at (n .before .before .parse-config .ensures)); in-table = tt }
+returns-2 c = let n = c .before in record { means = ap setting (rw (n .changed .given .1) at (n .before .before .parse-config .ensures)); in-table = tt; settled = tt }
 
 pub read-config-spec : {M : Type 1} → statement M
 read-config-spec = tie.close (tie.spec parse-config-requires enum-known-n enum-known-changed returns returns-2)

@@ -16,14 +16,14 @@ enum-known-row c = search needs
 
 returns : tie.Need-returns
 unfolding coding
-returns c = let n = c .before in record { means = ap coding (rw (n .n .given .1) at (n .before .before .parse-instruction .ensures .0)); in-table = tt }
+returns c = let n = c .before in record { means = ap coding (rw (n .n .given .1) at (n .before .before .parse-instruction .ensures .means)); in-table = tt; settled = tt }
 
 returns-2 : tie.Need-returns-2
 unfolding coding
 returns-2 c =
     let n = c .before in
     let e = rw (n .row .given .1) at (n .before .before .parse-instruction .ensures) in
-    record { means = ap coding (e .0); in-table = e .1 }
+    record { means = ap coding (e .means); in-table = e .in-table; settled = e .settled }
 
 pub read-instruction-spec : {M : Type 1} → statement M
 read-instruction-spec =

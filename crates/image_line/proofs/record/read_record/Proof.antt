@@ -1,5 +1,5 @@
 -- `image_line::record::read_record` meets its contract.
-use Prim.Native.Nat.{ℕ, _+_, _≤_}
+use Prim.Native.Nat.{ℕ, _≤_}
 use mathlib.Core.Path.{_≡_}
 use native.Mathlib.Omega.{arith}
 use mathlib.Core.List.{List, [], _∷_}
@@ -7,8 +7,6 @@ use lib.ListN.{length}
 use denote.Enum.Declared.{tagOf}
 use types.Run.{OneOf, miss}
 use borrow.Author.Needs.{needs}
-use Rattle.text.specs.Lines.{indent}
-use Rattle.text.specs.Places.{restAt}
 use Rattle.text.specs.Contracts.{firsts}
 use Rattle.text.specs.declared.parser.Line.{Line}
 use Rattle.instruction.specs.Kinds.{kindOf}
@@ -20,21 +18,12 @@ use Rattle.image_line.specs.declared.line.Effect.the-variants.{Nothing}
 use Rattle.image_line.specs.declared.record.LineKind.{LineKind}
 use Rattle.image_line.specs.declared.record.LineKind.the-variants.{Empty, Label, Config as ConfigKind, Ignored, Plain}
 use Rattle.image_line.proofs.record.LineKind as line-kind-type
-use Rattle.image_line.proofs.Lines.{content-starts}
 use Rattle.image_line.proofs.Records.{recorded, bare, record-empty, record-ignored, record-config, record-plain, line-record, line-bad, first-starts, two-tokens}
 use Rattle.image_line.proofs.record.read_record.Statement.{statement}
 use Rattle.image_line.proofs.record.read_record.Tie as tie
 
-run-end-requires : tie.Need-run-end-requires
-run-end-requires c κs = search needs
-
--- where the content starts
-begins : (c : tie.After-run-end) → let a = c .before .before .args in
-    (c .run-end .result ≡ a .at + indent (restAt (a .source .now) (a .at))) × (c .run-end .result ≤ length (a .source .now))
-begins c = let b = c .before .before in content-starts (b .args .source .now) (b .args .at) (c .run-end .result) (b .pre .0) (c .run-end .ensures)
-
 tokenize-requires : tie.Need-tokenize-requires
-tokenize-requires c κs = search needs
+tokenize-requires c κs = c .before .pre .0 .in-text
 
 unlabelled-requires : tie.Need-unlabelled-requires
 unlabelled-requires c κs = search needs
@@ -42,9 +31,9 @@ unlabelled-requires c κs = search needs
 returns : tie.Need-returns
 returns c =
     let t = c .before .before in
-    let g = t .before in
-    let a = g .before .before .args in
-    rw (c .unlabelled .ensures) (line-bad present present-naming (a .source .now) (a .at) (t .tokenize .result) (t .tokenize .ensures) (contextFor (a .config)) (g .run-end .result) (c .before .if1 .taken) (begins g .0) (begins g .1))
+    let b = t .before .before in
+    rw (c .unlabelled .ensures)
+    (line-bad present present-naming (b .args .source .now) (b .args .start) (b .pre .0) (t .tokenize .result) (t .tokenize .ensures) (contextFor (b .args .config)) (c .before .if1 .taken))
 
 line-kind-requires : tie.Need-line-kind-requires
 line-kind-requires c κs = recorded present present-naming _ _ _ (c .before .tokenize .ensures)
@@ -68,7 +57,7 @@ read-label-requires : tie.Need-read-label-requires
 read-label-requires c κs =
     let k = c .before .before in
     let t = k .before .before in
-    (record { recorded = recorded present present-naming _ _ _ (t .tokenize .ensures); is-label = rw (c .enum-told2 .given .1) at (k .line-kind .ensures) }, t .before .before .before .pre .1)
+    (record { recorded = recorded present present-naming _ _ _ (t .tokenize .ensures); is-label = rw (c .enum-told2 .given .1) at (k .line-kind .ensures) }, t .before .before .pre .1)
 
 enum-told-3 : tie.Need-enum-told-3
 enum-told-3 c = search needs
@@ -76,7 +65,7 @@ enum-told-3 c = search needs
 read-instruction-requires : tie.Need-read-instruction-requires
 read-instruction-requires c κs =
     let t = c .before .before .before .before in
-    (recorded present present-naming _ _ _ (t .tokenize .ensures), (omega arith, t .before .before .before .pre .1))
+    (recorded present present-naming _ _ _ (t .tokenize .ensures), (omega arith, t .before .before .pre .1))
 
 unlabelled-requires-4 : tie.Need-unlabelled-requires-4
 unlabelled-requires-4 c κs = search needs
@@ -97,12 +86,12 @@ returns-2 : tie.Need-returns-2
 returns-2 c =
     let k = c .before .before in
     let t = k .before .before in
-    let g = t .before in
-    let a = g .before .before .args in
+    let b = t .before .before in
+    let a = b .args in
     let x = contextFor (a .config) in
     rw (c .unlabelled2 .ensures)
-    (line-record present present-naming (a .source .now) (a .at) (t .tokenize .result) (t .tokenize .ensures) x (g .run-end .result) _ (k .before .if1 .left) (begins g .0)
-    (record-quiet (a .source .now) (t .tokenize .result) x (g .run-end .result) (begins g .1) (k .line-kind .result) (c .before .match .keys1) (k .line-kind .ensures)))
+    (line-record present present-naming (a .source .now) (a .start) (b .pre .0) (t .tokenize .result) (t .tokenize .ensures) x _ (k .before .if1 .left)
+    (record-quiet (a .source .now) (t .tokenize .result) x (a .start) (b .pre .0 .in-text) (k .line-kind .result) (c .before .match .keys1) (k .line-kind .ensures)))
 
 returns-3 : tie.Need-returns-3
 returns-3 c =
@@ -110,23 +99,24 @@ returns-3 c =
     let e = f .before in
     let k = e .before .before in
     let t = k .before .before in
-    let g = t .before in
-    let a = g .before .before .args in
+    let b = t .before .before in
+    let a = b .args in
     let x = contextFor (a .config) in
     rw (c .unlabelled3 .ensures)
-    (line-record present present-naming (a .source .now) (a .at) (t .tokenize .result) (t .tokenize .ensures) x (g .run-end .result) _ (k .before .if1 .left) (begins g .0)
-    (record-config (a .source .now) (t .tokenize .result) x (g .run-end .result) (begins g .1) (f .read-config .result) (rw (e .enum-told .given .1) at (k .line-kind .ensures)) (f .read-config .ensures)))
+    (line-record present present-naming (a .source .now) (a .start) (b .pre .0) (t .tokenize .result) (t .tokenize .ensures) x _ (k .before .if1 .left)
+    (record-config (a .source .now) (t .tokenize .result) x (a .start) (b .pre .0 .in-text) (f .read-config .result) (rw (e .enum-told .given .1) at (k .line-kind .ensures)) (f .read-config .ensures)))
 
 returns-4 : tie.Need-returns-4
 returns-4 c =
     let k = c .before .before .before in
     let t = k .before .before in
-    let g = t .before in
-    let a = g .before .before .args in
+    let b = t .before .before in
+    let a = b .args in
     let x = contextFor (a .config) in
     let l = t .tokenize .result in
     let two = two-tokens (a .source .now) (l .tokens) (l .count) _ (rw (c .before .enum-told2 .given .1) at (k .line-kind .ensures)) in
-    line-record present present-naming (a .source .now) (a .at) l (t .tokenize .ensures) x _ _ (k .before .if1 .left) (first-starts present present-naming (a .source .now) (a .at) l (t .tokenize .ensures) x (omega (arith, two))) (c .read-label .ensures x)
+    line-record present present-naming (a .source .now) (a .start) (b .pre .0) l (t .tokenize .ensures) x _ (k .before .if1 .left)
+    (rw (first-starts present present-naming (a .source .now) (a .start) (b .pre .0) l (t .tokenize .ensures) x (omega (arith, two))) at (c .read-label .ensures x))
 
 returns-5 : tie.Need-returns-5
 returns-5 c =
@@ -134,18 +124,17 @@ returns-5 c =
     let e = f .before in
     let k = e .before .before in
     let t = k .before .before in
-    let g = t .before in
-    let a = g .before .before .args in
+    let b = t .before .before in
+    let a = b .args in
     let x = contextFor (a .config) in
     rw (c .unlabelled4 .ensures)
-    (line-record present present-naming (a .source .now) (a .at) (t .tokenize .result) (t .tokenize .ensures) x (g .run-end .result) _ (k .before .if1 .left) (begins g .0)
-    (record-plain (a .source .now) (t .tokenize .result) x (g .run-end .result) (begins g .1) (f .read-instruction .result) (rw (e .enum-told3 .given .1) at (k .line-kind .ensures)) (f .read-instruction .ensures)))
+    (line-record present present-naming (a .source .now) (a .start) (b .pre .0) (t .tokenize .result) (t .tokenize .ensures) x _ (k .before .if1 .left)
+    (record-plain (a .source .now) (t .tokenize .result) x (a .start) (b .pre .0 .in-text) (f .read-instruction .result) (rw (e .enum-told3 .given .1) at (k .line-kind .ensures)) (f .read-instruction .ensures)))
 
 pub read-record-spec : {M : Type 1} → statement M
 read-record-spec =
     tie.close
     (tie.spec
-    run-end-requires
     tokenize-requires
     unlabelled-requires
     returns

@@ -1,36 +1,70 @@
 -- `instruction_operands::assembler::operand_count` meets its contract.
-use mathlib.Core.Path.{_≡_, refl}
-use Prim.Native.Nat.{ℕ}
+use mathlib.Core.Path.{sym, _∙_}
 use native.Mathlib.Omega.{arith}
-use lib.ListN.{length}
+use mathlib.Core.Logic.{⊎-elim}
+use borrow.Author.Needs.{needs}
 use Rattle.instruction.specs.Table.{places}
 use Rattle.instruction.specs.Contracts.{formAt}
-use Rattle.text_lexical.proofs.Tests.{in-run}
-use Rattle.instruction_operands.proofs.Line.{past-forms}
+use Rattle.instruction.proofs.Forms.{Counting, counting-begin, counting-none, counting-mark, counting-most, counting-end}
+use Rattle.instruction_operands.proofs.Line.{six-places}
 use Rattle.instruction_operands.proofs.assembler.operand_count.Statement.{statement}
 use Rattle.instruction_operands.proofs.assembler.operand_count.Tie as tie
 
-returns : tie.Need-returns
-unfolding places
-returns c = rw (c .match .keys2)
+abbrev Inv-loop : tie.InvT-loop
+Inv-loop form count₀ left₀ count left = Counting (places (formAt form)) count left
 
-returns-2 : tie.Need-returns-2
-unfolding places
-returns-2 c = in-run (λ (n : ℕ). 6 ≡ length (places (formAt n))) 3 2 (c .before .before .before .args .form) (omega arith) (omega arith) (refl, (refl, tt))
+abbrev μ-loop : tie.MeasureT-loop
+μ-loop form count₀ left₀ count left = left
 
-returns-3 : tie.Need-returns-3
-unfolding places
-returns-3 c =
-    let m = c .before .before .match .rest in
-    rw (past-forms (c .before .before .before .args .form) (c .if2 .left) (m .0 .1) (m .1))
+operands-of-requires : tie.Need-operands-of-requires Inv-loop μ-loop
+operands-of-requires c κs = search needs
 
-returns-4 : tie.Need-returns-4
-unfolding places
-returns-4 c = rw (c .match .keys1)
+loop-holds : tie.Need-loop-holds Inv-loop μ-loop
+loop-holds c = counting-begin (c .operands-of .ensures)
 
-returns-5 : tie.Need-returns-5
-unfolding places
-returns-5 c = in-run (λ (n : ℕ). 5 ≡ length (places (formAt n))) 0 3 (c .before .before .args .form) (omega arith) (omega arith) (refl, (refl, (refl, tt)))
+add-count : tie.Need-add-count Inv-loop μ-loop
+add-count c = let k = c .before in omega (arith, counting-most (k .loop .inv), six-places (formAt (k .before .before .args .form)))
+
+mark-of-requires : tie.Need-mark-of-requires Inv-loop μ-loop
+mark-of-requires c κs = search needs
+
+enum-told : tie.Need-enum-told Inv-loop μ-loop
+enum-told c = search needs
+
+add-count-2 : tie.Need-add-count-2 Inv-loop μ-loop
+add-count-2 c = let k = c .before .before .before .before in omega (arith, counting-most (k .loop .inv), six-places (formAt (k .before .before .args .form)))
+
+enum-told-2 : tie.Need-enum-told-2 Inv-loop μ-loop
+enum-told-2 c = search needs
+
+loop-less : tie.Need-loop-less Inv-loop μ-loop
+loop-less c = search needs
+
+loop-again : tie.Need-loop-again Inv-loop μ-loop
+loop-again c =
+    let m = c .before in
+    let l = m .before in
+    ⊎-elim
+    (λ w. rw (w .2) (counting-mark (l .before .loop .inv) (l .loop-test .taken) (sym (m .mark-of .ensures) ∙ w .1 .given .1)))
+    (λ w. rw (w .2) (counting-none (l .before .loop .inv) (l .loop-test .taken) (sym (m .mark-of .ensures) ∙ w .1 .given .1)))
+    (c .match .came)
+
+returns : tie.Need-returns Inv-loop μ-loop
+returns c = counting-end (c .before .loop .inv) (λ h. omega arith)
 
 pub operand-count-spec : {M : Type 1} → statement M
-operand-count-spec = tie.close (tie.spec returns returns-2 returns-3 returns-4 returns-5)
+operand-count-spec =
+    tie.close
+    (tie.spec
+    Inv-loop
+    μ-loop
+    operands-of-requires
+    loop-holds
+    add-count
+    mark-of-requires
+    enum-told
+    add-count-2
+    enum-told-2
+    loop-less
+    loop-again
+    returns)

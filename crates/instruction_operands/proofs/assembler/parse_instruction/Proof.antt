@@ -9,7 +9,7 @@ use denote.Enum.Declared.{tagOf}
 use types.Run.{OneOf, miss}
 use borrow.Author.Needs.{needs}
 use Rattle.text_lexical.specs.Bytes.{refused, lower}
-use Rattle.text_lexical.specs.Contracts.{keyOf}
+use Rattle.text_lexical.specs.Words.{wordKey}
 use Rattle.text.specs.Tokens.{Token as MeantToken}
 use Rattle.text.specs.Contracts.{kindMeant, spelling, meant, firsts, filler}
 use Rattle.text.specs.declared.lexer.Kind.{Kind}
@@ -19,7 +19,7 @@ use Rattle.text.proofs.lexer.Kind as kind
 use Rattle.instruction.specs.Table.{rowNamed}
 use Rattle.instruction.specs.Operands.{readIdentifier, readMnemonic, readInstruction, behind}
 use Rattle.instruction.specs.Contracts.{rowAt, formNumbers, IsRow}
-use Rattle.instruction_operands.proofs.Line.{getD-any, first-none, first-some, below-part, named-by-key, mnemonic-unknown, mnemonic-known}
+use Rattle.instruction_operands.proofs.Line.{getD-any, first-none, first-some, below-part, named-by-word, mnemonic-unknown, mnemonic-known}
 use Rattle.instruction.proofs.Columns.{form-column}
 use Rattle.instruction_operands.proofs.assembler.parse_instruction.Statement.{statement}
 use Rattle.instruction_operands.proofs.assembler.parse_instruction.Tie as tie
@@ -27,7 +27,7 @@ use Rattle.instruction_operands.proofs.assembler.parse_instruction.Tie 
 returns : tie.Need-returns
 returns c =
     let a = c .before .before .before .args in
-    (first-none (a .source .now) (a .line .tokens) (a .at) (a .line .count) (c .if1 .taken), tt)
+    record { means = first-none (a .source .now) (a .line .tokens) (a .at) (a .line .count) (c .if1 .taken); in-table = tt; settled = tt }
 
 -- What an array of tokens is read as past its end.
 abbrev past : Token
@@ -65,11 +65,13 @@ returns-2 : tie.Need-returns-2
 returns-2 c =
     let e = c .before .before in
     let b = e .before .before .before in
-    let a = b .args in (
-      others-refused (getD (a .line .tokens) (a .at) past .kind) (spelling (a .source .now) (getD (a .line .tokens) (a .at) past)) _ _ (c .match .keys2)
-          ∙ first-some (a .source .now) (a .line .tokens) (a .at) (a .line .count) past (e .if1 .left) (omega (arith, b .pre .0 .places)),
-      tt,
-    )
+    let a = b .args in
+    record {
+      means = others-refused (getD (a .line .tokens) (a .at) past .kind) (spelling (a .source .now) (getD (a .line .tokens) (a .at) past)) _ _ (c .match .keys2)
+          ∙ first-some (a .source .now) (a .line .tokens) (a .at) (a .line .count) past (e .if1 .left) (omega (arith, b .pre .0 .places));
+      in-table = tt;
+      settled = tt;
+    }
 
 -- the token is a part of the text
 inside : (c : tie.After-struct-known) → let a = c .before .before .before .before .before .before .before .args in
@@ -112,8 +114,8 @@ named c =
     let a = s .before .args in
     let t = getD (a .line .tokens) (a .at) past in
     let n : t .start + t .length - t .start ≡ t .length = omega arith in
-    let e = ap (λ (n : ℕ). keyOf (map lower (take n (drop (t .start) (a .source .now))))) n in
-    rw (← named-by-key (spelling (a .source .now) t) (k .lower-key .result) (below-part (t .start) (t .length) (a .source .now) (λ i. omega (arith, s .shared-slice-known .given i))) (k .lower-key .ensures ∙ e))
+    let e = ap (λ (n : ℕ). wordKey (take n (drop (t .start) (a .source .now)))) n in
+    rw (← named-by-word (spelling (a .source .now) t) (k .lower-key .result) (below-part (t .start) (t .length) (a .source .now) (λ i. omega (arith, s .shared-slice-known .given i))) (k .lower-key .ensures ∙ e))
     (c .find-mnemonic .ensures)
 
 found-row : (c : tie.After-row) → let a = c .before .before .before .before .before .before .before .before .before .before .before .before .args in
@@ -147,7 +149,11 @@ returns-3 c =
     let k = c .before .before .before .before .before .before in
     let a = k .before .before .before .before .before .before .args in
     let t = getD (a .line .tokens) (a .at) past in
-    (mnemonic-unknown (spelling (a .source .now) t) _ _ (k .enum-told .given .1) (rw (c .enum-told2 .given .1) at (named (c .before .before))) (first k), tt)
+    record {
+      means = mnemonic-unknown (spelling (a .source .now) t) _ _ (k .enum-told .given .1) (rw (c .enum-told2 .given .1) at (named (c .before .before))) (first k);
+      in-table = tt;
+      settled = tt;
+    }
 
 returns-4 : tie.Need-returns-4
 returns-4 c =
@@ -155,7 +161,12 @@ returns-4 c =
     let k = r .before .before .before .before .before .before in
     let a = k .before .before .before .before .before .before .args in
     let t = getD (a .line .tokens) (a .at) past in
-    (mnemonic-known (spelling (a .source .now) t) _ _ (rowAt (r .row .given .0 .0)) (k .enum-told .given .1) (found-row r .1) (c .parse-row .ensures .0 (a .source .now)) (first k), c .parse-row .ensures .1)
+    let p = c .parse-row .ensures in
+    record {
+      means = mnemonic-known (spelling (a .source .now) t) _ _ (rowAt (r .row .given .0 .0)) (k .enum-told .given .1) (found-row r .1) (p .means (a .source .now)) (first k);
+      in-table = p .in-table;
+      settled = p .settled;
+    }
 
 pub parse-instruction-spec : {M : Type 1} → statement M
 parse-instruction-spec =

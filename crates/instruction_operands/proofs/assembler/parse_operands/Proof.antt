@@ -1,82 +1,205 @@
--- `instruction_operands::assembler::parse_operands` meets its contract.
-use mathlib.Core.Path.{sym, subst}
-use Prim.Native.Nat.{ℕ}
-use native.Mathlib.Omega.{arith}
-use mathlib.Core.Bool.{true, false}
+-- `instruction_operands::assembler::parse_operands` meets its contract. The loop's invariant: what has been read of the operands, and which
+-- are left to read.
+use mathlib.Core.Path.{sym, _∙_}
 use mathlib.Core.Logic.{⊎-elim}
+use native.Mathlib.Omega.{arith}
+use mathlib.Core.List.{List, []}
+use Prim.Native.Nat.{ℕ, _+_, _<_}
 use borrow.Author.Needs.{needs}
+use Rattle.text.specs.Lines.{kept}
+use Rattle.text.specs.declared.lexer.Kind.the-variants.{Identifier}
+use Rattle.text.specs.declared.lexer.Token.{Token}
 use Rattle.instruction.specs.Table.{places}
-use Rattle.instruction.specs.Operands.{noOperands, readOperands}
-use Rattle.instruction.specs.Contracts.{formAt, registersFor, numberFor}
-use Rattle.instruction_operands.specs.Contracts.{Reads}
-use Rattle.text_lexical.proofs.Tests.{in-run}
-use Rattle.instruction_operands.proofs.Line.{past-forms}
+use Rattle.instruction.specs.Contracts.{formAt}
+use Rattle.instruction.proofs.Forms.{form-room, register-room}
+use Rattle.instruction_operands.proofs.Line.{six-places}
+use Rattle.instruction_operands.proofs.Operands.{Before, Between, before-begin, operand-kept, mark-room, register-next, number-next, mark-next, operand-refuses, mark-refuses, operands-read}
 use Rattle.instruction_operands.proofs.assembler.parse_operands.Statement.{statement}
 use Rattle.instruction_operands.proofs.assembler.parse_operands.Tie as tie
 
-parse-r-type-requires : tie.Need-parse-r-type-requires
-parse-r-type-requires c κs = search needs
+abbrev Inv-loop : tie.InvT-loop
+Inv-loop form at tokens registers₀ count₀ number₀ next₀ left₀ registers count number next left =
+    (s : List ℕ) → Before (places (formAt form)) tokens at next count registers number left s
 
-parse-jal-requires : tie.Need-parse-jal-requires
-parse-jal-requires c κs = search needs
+abbrev μ-loop : tie.MeasureT-loop
+μ-loop form at tokens registers₀ count₀ number₀ next₀ left₀ registers count number next left = left
 
-parse-memory-requires : tie.Need-parse-memory-requires
-parse-memory-requires c κs = search needs
-
-no-number-requires : tie.Need-no-number-requires
+no-number-requires : tie.Need-no-number-requires Inv-loop μ-loop
 no-number-requires c κs = search needs
 
-are-requires : tie.Need-are-requires
-are-requires c κs = search needs
+add-next : tie.Need-add-next Inv-loop μ-loop
+add-next c = search needs
 
-parse-i-type-requires : tie.Need-parse-i-type-requires
-parse-i-type-requires c κs = search needs
+operands-of-requires : tie.Need-operands-of-requires Inv-loop μ-loop
+operands-of-requires c κs = search needs
 
-returns : tie.Need-returns
-returns c u = rw (c .before .match .keys1) (c .parse-r-type .ensures u)
+loop-holds : tie.Need-loop-holds Inv-loop μ-loop
+loop-holds c s =
+    let b = c .before .before in
+    rw (c .before .no-number .ensures) (before-begin (places (formAt (b .args .form))) (b .args .t2) (b .args .at) s (form-room (formAt (b .args .form))) (c .operands-of .ensures))
 
-returns-2 : tie.Need-returns-2
-returns-2 c u = rw (c .before .match .keys3) (c .parse-jal .ensures u)
+-- What an array of tokens is read as past its end.
+abbrev past : Token
+past = record { kind = Identifier; start = 0; length = 0 }
 
-returns-3 : tie.Need-returns-3
-unfolding places
-returns-3 c =
-    let a = c .before .before .before .before .args in
-    let e = c .parse-memory .ensures in
-    in-run (λ (n : ℕ). Reads (places (formAt n)) (a .k) (c .parse-memory .result)) 3 2 (a .form) (omega arith) (omega arith)
-    (e 7 11 15 17 true, (e 11 7 15 17 true, tt))
+-- the operand's token is one of those that are kept
+within : (c : tie.In-loop Inv-loop μ-loop) → c .before .loop .next < kept
+within c =
+    let k = c .before in
+    let b = k .before .before .before in
+    operand-kept _ (b .args .t2) (b .args .at) (b .pre .0) (b .pre .1) (six-places (formAt (b .args .form))) (k .loop .inv []) (c .loop-test .taken)
 
-returns-4 : tie.Need-returns-4
-unfolding places registersFor numberFor readOperands noOperands
-returns-4 c u =
-    let l = c .before .before in
-    let b = l .before .before in
-    let m = b .match .rest in
-    rw (past-forms (b .before .args .form) (l .if2 .left) (m .0 .1) (m .1), c .are .ensures)
+mul-token : tie.Need-mul-token Inv-loop μ-loop
+mul-token c = let h = within c in omega (arith, h)
 
-returns-5 : tie.Need-returns-5
-unfolding places
-returns-5 c =
-    let a = c .before .before .args in
-    let e = c .parse-i-type .ensures in
+array-copy-out-token : tie.Need-array-copy-out-token Inv-loop μ-loop
+array-copy-out-token c = within c
+
+is-number-requires : tie.Need-is-number-requires Inv-loop μ-loop
+is-number-requires c κs = search needs
+
+read-operand-requires : tie.Need-read-operand-requires Inv-loop μ-loop
+read-operand-requires c κs = search needs
+
+enum-known-n : tie.Need-enum-known-n Inv-loop μ-loop
+enum-known-n c = search needs
+
+returns : tie.Need-returns Inv-loop μ-loop
+returns c =
+    let n = c .before in
+    let o = n .before .before in
+    let i = o .before in
+    let l = i .before .before in
+    let k = l .before in
+    let b = k .before .before .before in
+    record {
+      means = λ s. operand-refuses _ (b .args .t2) (b .args .at) (b .pre .0) (b .pre .1) (six-places (formAt (b .args .form))) (i .is-number .result) past (k .loop .inv s)
+          (l .loop-test .taken) (i .is-number .ensures) (rw (n .n .given .1) at (o .read-operand .ensures));
+      settled = tt;
+    }
+
+enum-known-n-2 : tie.Need-enum-known-n-2 Inv-loop μ-loop
+enum-known-n-2 c = search needs
+
+enum-known-register : tie.Need-enum-known-register Inv-loop μ-loop
+enum-known-register c = search needs
+
+array-set-from-registers : tie.Need-array-set-from-registers Inv-loop μ-loop
+array-set-from-registers c =
+    let r = c .before in
+    let o = r .before .before in
+    let i = o .before in
+    let l = i .before .before in
+    let (letter, e) = rw (r .register .given .1) at (o .read-operand .ensures) in
+    register-room (l .before .loop .inv [] .reading) (l .loop-test .taken) (sym (i .is-number .ensures) ∙ letter)
+
+add-count : tie.Need-add-count Inv-loop μ-loop
+add-count c = let h = array-set-from-registers c in omega (arith, h)
+
+-- what has been read, after the operand
+between : (c : tie.At-match-came Inv-loop μ-loop) (s : List ℕ) → let k = c .before .before .before .before .before in let a = k .before .before .before .args in
+    Between (places (formAt (a .form))) (a .t2) (a .at) (k .loop .next + 1) (c .match .count) (c .match .registers) (c .match .number) (k .loop .left) s
+between c s =
+    let o = c .before in
+    let i = o .before in
+    let l = i .before .before in
+    let k = l .before in
+    let b = k .before .before .before in
     ⊎-elim
-    (λ w. subst (λ (n : ℕ). Reads (places (formAt n)) (a .k) (c .parse-i-type .result)) (sym (w .keys2)) (e 7 11 15 17 true))
-    (λ w. in-run (λ (n : ℕ). Reads (places (formAt n)) (a .k) (c .parse-i-type .result)) 1 2 (a .form) (omega (arith, w .0 .rest)) (omega (arith, w .1 .taken))
-    (e 7 11 15 17 true, (e 7 11 15 8 false, tt)))
-    (c .before .match .came)
+    (λ w. let (digit, e) = rw (w .1 .given .1) at (o .read-operand .ensures) in
+    rw (w .3, w .4, w .5)
+    (number-next _ (b .args .t2) (b .args .at) (b .pre .0) (b .pre .1) (six-places (formAt (b .args .form))) past _ (k .loop .inv s) (l .loop-test .taken) (sym (i .is-number .ensures) ∙ digit) e))
+    (λ w. let (letter, e) = rw (w .1 .given .1) at (o .read-operand .ensures) in
+    rw (w .3, w .4, w .5)
+    (register-next _ (b .args .t2) (b .args .at) (b .pre .0) (b .pre .1) (six-places (formAt (b .args .form))) past (w .1 .given .0 .0) (k .loop .inv s) (l .loop-test .taken) (sym (i .is-number .ensures) ∙ letter) e))
+    (c .match .came)
+
+add-after-mark : tie.Need-add-after-mark Inv-loop μ-loop
+add-after-mark c = let h = within (c .before .before .before .before) in omega (arith, h)
+
+mark-of-requires : tie.Need-mark-of-requires Inv-loop μ-loop
+mark-of-requires c κs = search needs
+
+after-mark-requires : tie.Need-after-mark-requires Inv-loop μ-loop
+after-mark-requires c κs =
+    let b = c .before .before .before .before .before .before .before .before .before in
+    (b .pre .0, mark-room _ (b .args .t2) (b .args .at) (b .pre .0) (b .pre .1) (six-places (formAt (b .args .form))) (between (c .before) []) (c .mark-of .result) (c .mark-of .ensures))
+
+enum-known-n-3 : tie.Need-enum-known-n-3 Inv-loop μ-loop
+enum-known-n-3 c = search needs
+
+returns-2 : tie.Need-returns-2 Inv-loop μ-loop
+returns-2 c =
+    let n = c .before in
+    let a = n .before .before in
+    let m = a .before in
+    let b = m .before .before .before .before .before .before .before .before .before in
+    record {
+      means = λ s. mark-refuses _ (b .args .t2) (b .args .at) (b .pre .0) (b .pre .1) (six-places (formAt (b .args .form))) (m .mark-of .result) (between (m .before) s) (m .mark-of .ensures)
+          (rw (n .n3 .given .1) at (a .after-mark .ensures));
+      settled = tt;
+    }
+
+enum-known-after : tie.Need-enum-known-after Inv-loop μ-loop
+enum-known-after c = search needs
+
+loop-less : tie.Need-loop-less Inv-loop μ-loop
+loop-less c = search needs
+
+loop-again : tie.Need-loop-again Inv-loop μ-loop
+loop-again c s =
+    let n = c .before in
+    let a = n .before .before in
+    let m = a .before in
+    let b = m .before .before .before .before .before .before .before .before .before in
+    mark-next _ (b .args .t2) (b .args .at) (b .pre .0) (b .pre .1) (six-places (formAt (b .args .form))) (m .mark-of .result) (between (m .before) s) (m .mark-of .ensures)
+    (rw (n .after .given .1) at (a .after-mark .ensures))
+
+array-copy-out-t18 : tie.Need-array-copy-out-t18 Inv-loop μ-loop
+array-copy-out-t18 c = search needs
+
+array-copy-out-t34 : tie.Need-array-copy-out-t34 Inv-loop μ-loop
+array-copy-out-t34 c = search needs
+
+array-copy-out-t37 : tie.Need-array-copy-out-t37 Inv-loop μ-loop
+array-copy-out-t37 c = search needs
+
+returns-3 : tie.Need-returns-3 Inv-loop μ-loop
+returns-3 c =
+    let l = c .before .before .before in
+    let k = l .before in
+    let b = k .before .before .before in
+    operands-read _ (b .args .t2) (b .args .at) (k .loop .inv) (λ h. omega arith)
 
 pub parse-operands-spec : {M : Type 1} → statement M
 parse-operands-spec =
     tie.close
     (tie.spec
-    parse-r-type-requires
-    parse-jal-requires
-    parse-memory-requires
+    Inv-loop
+    μ-loop
     no-number-requires
-    are-requires
-    parse-i-type-requires
+    add-next
+    operands-of-requires
+    loop-holds
+    mul-token
+    array-copy-out-token
+    is-number-requires
+    read-operand-requires
+    enum-known-n
     returns
+    enum-known-n-2
+    enum-known-register
+    array-set-from-registers
+    add-count
+    add-after-mark
+    mark-of-requires
+    after-mark-requires
+    enum-known-n-3
     returns-2
-    returns-3
-    returns-4
-    returns-5)
+    enum-known-after
+    loop-less
+    loop-again
+    array-copy-out-t18
+    array-copy-out-t34
+    array-copy-out-t37
+    returns-3)

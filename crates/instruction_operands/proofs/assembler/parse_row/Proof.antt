@@ -9,7 +9,7 @@ use Rattle.instruction.specs.Table.{places}
 use Rattle.instruction.specs.Operands.{made, readRow}
 use Rattle.instruction.specs.Contracts.{rowAt}
 use Rattle.instruction_operands.specs.Contracts.{operandMeant}
-use Rattle.instruction_operands.proofs.Line.{row-read, row-refused, made-refused, made-read}
+use Rattle.instruction_operands.proofs.Line.{row-read, row-refused, settled-row, made-refused, made-read}
 use Rattle.instruction_operands.proofs.assembler.parse_row.Statement.{statement}
 use Rattle.instruction_operands.proofs.assembler.parse_row.Tie as tie
 
@@ -25,10 +25,11 @@ operand-count-requires c κs = search needs
 returns : tie.Need-returns
 returns c =
     let b = c .before .before .before in
-    (λ s. row-refused (rowAt (b .args .row)) (b .args .form) (c .before .operand-count .result) _ _ (b .pre .1 .0) (c .before .operand-count .ensures) (c .if1 .taken), tt)
-
-six-behind-requires : tie.Need-six-behind-requires
-six-behind-requires c κs = search needs
+    record {
+      means = λ s. row-refused (rowAt (b .args .row)) (b .args .form) (c .before .operand-count .result) _ _ (b .pre .1 .0) (c .before .operand-count .ensures) (c .if1 .taken);
+      in-table = tt;
+      settled = tt;
+    }
 
 parse-operands-requires : tie.Need-parse-operands-requires
 parse-operands-requires c κs = search needs
@@ -40,29 +41,33 @@ enum-known-operands : tie.Need-enum-known-operands
 enum-known-operands c = search needs
 
 -- the row's operands, as they were read
-read : (c : tie.After-parse-operands) (s : List ℕ) → let b = c .before .before .before .before .before in
+read : (c : tie.After-parse-operands) (s : List ℕ) → let b = c .before .before .before .before in
     made (rowAt (b .args .row)) (operandMeant (places (rowAt (b .args .row) .form)) (c .parse-operands .result))
     ≡ readRow (rowAt (b .args .row)) (b .args .line .count - b .args .at - 1) (drop (b .args .at + 1) (firsts s (b .args .line .tokens) (b .args .line .count)))
 read c s =
-    let l = c .before .before in
+    let l = c .before in
     let n = l .before .operand-count in
     let b = l .before .before .before in
     let p = b .pre .1 in
-    row-read s (b .args .line .tokens) (b .args .at) (b .args .line .count) (p .1 .1 .1) (p .1 .1 .0) (rowAt (b .args .row)) (b .args .form) (n .result) (c .before .six-behind .result) (c .parse-operands .result)
-    (p .0) (n .ensures) (p .1 .0) (l .if1 .left) (c .before .six-behind .ensures) (c .parse-operands .ensures)
+    row-read s (b .args .line .tokens) (b .args .at) (b .args .line .count) (rowAt (b .args .row)) (b .args .form) (n .result) (c .parse-operands .result)
+    (p .0) (n .ensures) (p .1 .0) (l .if1 .left) (c .parse-operands .ensures)
 
 returns-2 : tie.Need-returns-2
 returns-2 c =
     let n = c .before in
     let k = n .before .before in
-    (λ s. made-refused _ _ (n .n .given .1) (read k s), tt)
+    record { means = λ s. made-refused _ _ (n .n .given .1) (read k s); in-table = tt; settled = tt }
 
 returns-3 : tie.Need-returns-3
 returns-3 c =
     let o = c .before in
     let k = o .before .before in
-    let b = k .before .before .before .before .before in
-    (λ s. made-read (b .args .row) (o .operands .given .1) (read k s), b .pre .0)
+    let b = k .before .before .before .before in
+    record {
+      means = λ s. made-read (b .args .row) (o .operands .given .1) (read k s);
+      in-table = b .pre .0;
+      settled = settled-row (rowAt (b .args .row)) (b .args .form) _ (b .pre .1 .0) (rw (o .operands .given .1) at (k .parse-operands .ensures .settled));
+    }
 
 pub parse-row-spec : {M : Type 1} → statement M
 parse-row-spec =
@@ -72,7 +77,6 @@ parse-row-spec =
     sub-if1-2
     operand-count-requires
     returns
-    six-behind-requires
     parse-operands-requires
     enum-known-n
     enum-known-operands

@@ -39,7 +39,7 @@ enum-known-row : tie.Need-enum-known-row
 enum-known-row c = search needs
 
 from-parts-requires : tie.Need-from-parts-requires
-from-parts-requires c κs = let n = c .before in rw (n .row .given .1) at (n .before .before .parse-instruction .ensures .1)
+from-parts-requires c κs = let n = c .before in rw (n .row .given .1) at (n .before .before .parse-instruction .ensures .in-table)
 
 returns-2 : tie.Need-returns-2
 returns-2 c = search needs

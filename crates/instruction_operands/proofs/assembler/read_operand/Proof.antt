@@ -1,0 +1,77 @@
+-- `instruction_operands::assembler::read_operand` meets its contract.
+use Prim.Native.Nat.{ℕ}
+use mathlib.Core.Path.{_≡_, refl, sym, ap, _∙_}
+use native.Mathlib.Omega.{arith}
+use lib.IntN.{ℤ}
+use borrow.Author.Needs.{needs}
+use Rattle.text_lexical.specs.Bytes.{Result, value, refused}
+use Rattle.text_lexical.specs.Contracts.{wholeFor}
+use Rattle.text_lexical.specs.declared.number.Whole.{Whole}
+use Rattle.text.specs.Contracts.{extractFor, extractMeant}
+use Rattle.text.specs.declared.parser.Extracted.the-variants.{Number as Extract}
+use Rattle.text.proofs.Meanings.{extracted-for, extracted-number}
+use Rattle.instruction_operands.specs.Contracts.{registerMeant}
+use Rattle.instruction_operands.proofs.assembler.read_operand.Statement.{statement}
+use Rattle.instruction_operands.proofs.assembler.read_operand.Tie as tie
+
+extract-number-requires : tie.Need-extract-number-requires
+extract-number-requires c κs = search needs
+
+enum-known-n : tie.Need-enum-known-n
+enum-known-n c = search needs
+
+enum-known-number : tie.Need-enum-known-number
+enum-known-number c = search needs
+
+returns : tie.Need-returns
+returns c =
+    let n = c .before in
+    let x = n .before .before in
+    rw (x .before .if1 .taken) (λ u. sym (extracted-number (x .before .before .args .kind) u) ∙ ap extractMeant (sym (x .extract-number .ensures) ∙ n .n .given .1))
+
+-- the number that was read
+extracted-is : {w : Whole} (x : Result ℤ) → Extract w ≡ extractFor x → (z : ℤ) × ((x ≡ value z) × (w ≡ wholeFor z))
+extracted-is (value z) e = (z, (refl, cc))
+extracted-is (refused n) e = absurd (let z : _≡_ {A = ℕ} 0 1 = cc in omega arith)
+
+returns-2 : tie.Need-returns-2
+returns-2 c =
+    let n = c .before in
+    let x = n .before .before in
+    (x .before .if1 .taken, λ u. extracted-is _ (sym (n .number .given .1) ∙ x .extract-number .ensures ∙ extracted-for (x .before .before .args .kind) u))
+
+extract-register-requires : tie.Need-extract-register-requires
+extract-register-requires c κs = search needs
+
+enum-known-n-2 : tie.Need-enum-known-n-2
+enum-known-n-2 c = search needs
+
+enum-known-register : tie.Need-enum-known-register
+enum-known-register c = search needs
+
+returns-3 : tie.Need-returns-3
+returns-3 c =
+    let n = c .before in
+    let x = n .before .before in
+    rw (x .before .if1 .left) (λ u. sym (x .extract-register .ensures u) ∙ ap registerMeant (n .n2 .given .1))
+
+returns-4 : tie.Need-returns-4
+returns-4 c =
+    let n = c .before in
+    let x = n .before .before in
+    (x .before .if1 .left, λ u. sym (x .extract-register .ensures u) ∙ ap registerMeant (n .register .given .1))
+
+pub read-operand-spec : {M : Type 1} → statement M
+read-operand-spec =
+    tie.close
+    (tie.spec
+    extract-number-requires
+    enum-known-n
+    enum-known-number
+    returns
+    returns-2
+    extract-register-requires
+    enum-known-n-2
+    enum-known-register
+    returns-3
+    returns-4)
