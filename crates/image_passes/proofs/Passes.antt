@@ -11,7 +11,7 @@ use borrow.Author.Tests.{eq-eqb, ne-eqb}
 use native.Mathlib.Numerals.{add-one}
 use Rattle.text_lexical.specs.Numbers.{little}
 use Rattle.text_lexical.specs.Names.{Name}
-use Rattle.text.specs.Lines.{extended, lines, readLine}
+use Rattle.text.specs.Lines.{extended, lines, indent, readLine}
 use Rattle.text.specs.Lines.{Line as Record}
 use Rattle.text.specs.Places.{restAt, endAt}
 use Rattle.text_lexical.proofs.Tests.{split}
@@ -143,7 +143,7 @@ module _ {names : List Name} {old s m : List ℕ} {place at : ℕ} {c : Config} 
     unfolding endOf
     ends = h .ends ∙ go (readLine names (restAt s at)) here
       where
-        go : (o : Option Record) → (o ≡ none → ⊥) → elim o [ none ↦ at | some x ↦ endAt s at ] ≡ endAt s at
+        go : (o : Option Record) → (o ≡ none → ⊥) → elim o [ none ↦ at + indent (restAt s at) | some x ↦ endAt s at ] ≡ endAt s at
         go none k = absurd (k refl)
         go (some x) k = refl
 

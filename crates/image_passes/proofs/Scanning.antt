@@ -350,11 +350,11 @@ goes-stand {names} {s} {p} {e} {n} g room ls a k = rw (g .answer) (go e k)
 
 -- A line and those after it: a label, or what follows the line.
 module _ (names : List Name) (s : List ℕ) (c : Cursor) (inside : c .at ≤ length s) where
-  abbrev comes : Rest
-  comes = comesTo names s (c .at) (c .words) (c .config)
+  abbrev comes-from : Rest
+  comes-from = comesTo names s (c .at) (c .words) (c .config)
 
   from-label : (u : List ℕ) → readAt names s (c .at) (settingsMeant (c .config)) .label ≡ some u
-      → scannedFrom names s c ≡ labelPass (c .at + indent (restAt s (c .at))) (length u) (c .words) (c .line) (c .labels) comes
+      → scannedFrom names s c ≡ labelPass (c .at + indent (restAt s (c .at))) (length u) (c .words) (c .line) (c .labels) comes-from
   unfolding scanned endAt
   from-label u e = let (rest, q) = line-split s (c .at) inside in rw (q, scanned, e)
 
@@ -365,11 +365,11 @@ module _ (names : List Name) (s : List ℕ) (c : Cursor) (inside : c .at ≤ len
   none-after : (rest : List (List ℕ)) → lines (drop (c .at) s) ≡ restAt s (c .at) ∷ rest → length s ≤ endAt s (c .at) → rest ≡ []
   none-after rest q b = ap (drop 1) (sym q ∙ last-line s (c .at) inside b)
 
-  from-line : readAt names s (c .at) (settingsMeant (c .config)) .label ≡ none → scannedFrom names s c ≡ resumed names s (lineAfter (length s) (c .line) (c .labels) comes)
+  from-line : readAt names s (c .at) (settingsMeant (c .config)) .label ≡ none → scannedFrom names s c ≡ resumed names s (lineAfter (length s) (c .line) (c .labels) comes-from)
   unfolding scanned endAt lineAfter
-  from-line e = let (rest, q) = line-split s (c .at) inside in rw (q, scanned, e) (go rest q comes refl)
+  from-line e = let (rest, q) = line-split s (c .at) inside in rw (q, scanned, e) (go rest q comes-from refl)
     where
-      go : (rest : List (List ℕ)) → lines (drop (c .at) s) ≡ restAt s (c .at) ∷ rest → (x : Rest) → comes ≡ x
+      go : (rest : List (List ℕ)) → lines (drop (c .at) s) ≡ restAt s (c .at) ∷ rest → (x : Rest) → comes-from ≡ x
           → elim x [ Refused n ↦ PassEnded (lineRefused n (c .line) (c .labels)) | Done words′ c′ end ↦ scanned names (c .labels) (suc (c .line)) words′ c′ (suc end) rest ]
           ≡ resumed names s (lineAfter (length s) (c .line) (c .labels) x)
       go rest q (Refused n) k = refl
@@ -479,6 +479,7 @@ module _ {names : List Name} {s : List ℕ} {from c : Cursor} (w : Scanning name
     scans-on k =
         let z = next-after k in
         (record { safe = z .0; same = rw k at follows-line; after = omega (arith, w .after, z .1) }, z .2)
+
 -- ---- going on
 
 -- A walk that has ended stays so.

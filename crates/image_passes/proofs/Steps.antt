@@ -9,7 +9,7 @@ use lib.ListN.{length}
 use lib.Dec.{ltb}
 use borrow.Author.Tests.{ltb-true, lt-ltb, le-ltb}
 use Rattle.text_lexical.specs.Names.{Name}
-use Rattle.text.specs.Lines.{readLine}
+use Rattle.text.specs.Lines.{indent, readLine}
 use Rattle.text.specs.Lines.{Line as Record}
 use Rattle.text.specs.Places.{restAt, endAt}
 use Rattle.image.specs.Settings.{Settings, settings}
@@ -103,7 +103,7 @@ module _ {names : List Name} (s : List ℕ) (from words : ℕ) (c : Config) (r :
   unfolding endOf readOn
   comes-to = rw (effect-is, h .ends) (go (readLine names (restAt s from)))
     where
-      go : (o : Option Record) → restFor (readOn (contextFor c) o .effect) words c (elim o [ none ↦ from | some x ↦ endAt s from ]) ≡ restFor (readOn (contextFor c) o .effect) words c (endAt s from)
+      go : (o : Option Record) → restFor (readOn (contextFor c) o .effect) words c (elim o [ none ↦ from + indent (restAt s from) | some x ↦ endAt s from ]) ≡ restFor (readOn (contextFor c) o .effect) words c (endAt s from)
       go (some x) = refl
       go none = refl
 

@@ -1,7 +1,7 @@
 // The first walk: from label to label it finds settings, the count of words and the first refusal. Entering the labels is left to the
 // caller, who holds the label table.
 ghost use mathlib.Core.Path.{_≡_};
-ghost use Prim.Native.Nat.{_≤_};
+ghost use Prim.Native.Nat.{_+_, _≤_};
 ghost use lib.ListN.{length, take};
 ghost use lib.Dec.{ltb};
 ghost use Rattle.text.specs.Lines.{lines};
