@@ -25,7 +25,7 @@ use Rattle.text.specs.declared.lexer.Scan.the-variants.{Found, Bad, End}
 use Rattle.text.proofs.Left.{solid, digit-solid, high-solid, mark-solid, solid-plain, blank-inside, blanks-at, front-at, left-byte, solid-left, found-at, found-solid, nothing-left, none-read, left-read-bad, end-on}
 use Rattle.text.proofs.Endings.{run-within, margin-on}
 use Rattle.text.proofs.Meanings.{front-means, kind-sign}
-use Rattle.text.proofs.Fronts.{at-found, at-none, mark-front, mark-none, no-number-start, number-digit}
+use Rattle.text.proofs.Fronts.{at-found, at-none, mark-front, mark-none, number-digit}
 
 -- ---- places
 
@@ -124,11 +124,8 @@ module _ (names : List Name) where
     -- ---- no token
 
     -- Neither a word nor a number nor a directive nor a mark.
-    none-front : (s : List ℕ) (at : ℕ) → at < length s → NoWord (getD s at 0) → mark (getD s at 0) ≡ false → front names (drop at s) ≡ none
-    none-front s at l w k = let (d, m) = no-number-start (getD s at 0) (w .no-number) in mark-none names ok s at l (w .no-start) d m (w .no-dot) k
-
     pub bad-step : (s : List ℕ) (at : ℕ) → at < length s → NoWord (getD s at 0) → mark (getD s at 0) ≡ false → (leftAt s at ≡ [] → ⊥) → Bad ≡ scanAt names s at
-    bad-step s at l w k f = at-none names ok s at (none-front s at l w k) ∙ stands-token s at f ∙ scan-here s at l (w .no-blank)
+    bad-step s at l w k f = at-none names ok s at (mark-none names ok s at l w k) ∙ stands-token s at f ∙ scan-here s at l (w .no-blank)
 
     -- ---- a mark
 
@@ -140,7 +137,7 @@ module _ (names : List Name) where
         let u = take (at + 1 - at) (drop at s) in
         solid-step s at _ l (mark-solid (getD s at 0) h)
         (at-found names ok s at (at + 1) k (omega arith) (ap (λ (x : Meant). kindFor x u) (m u) ∙ g u)
-        (mark-front names ok s at t l (w .no-start) (no-number-start _ (w .no-number) .0) (no-number-start _ (w .no-number) .1) (w .no-dot) h e ∙ rw (one, m (take 1 (drop at s)))))
+        (mark-front names ok s at t l w h e ∙ rw (one, m (take 1 (drop at s)))))
 
     -- ---- how the line goes on
 
