@@ -12,7 +12,7 @@ use lib.Seq.{drop-cons}
 use lib.Dec.{leb, ltb, eqb}
 use lib.IntN.{pos}
 use borrow.Author.Tests.{eqb-true, eq-eqb, ne-eqb, lt-ltb, le-ltb, le-leb, lt-leb}
-use Rattle.text_lexical.specs.Bytes.{between, letter, digit, hexDigit, binaryDigit, mark, nameStart, namePart, before, run, isSome}
+use Rattle.text_lexical.specs.Bytes.{between, letter, digit, mark, nameStart, namePart, before, run, isSome}
 use Rattle.text_lexical.specs.Numbers.{valueOf, minus}
 use Rattle.text_lexical.specs.Names.{Name, named}
 use Rattle.text_lexical.specs.Contracts.{nameMeant, nameNumber, fitting, baseOf, isDigitOf, digitsAt}
@@ -118,15 +118,6 @@ minus-token : (u : List ℕ) → numberToken (45 ∷ u) ≡ within (leb (valueOf
 unfolding numberToken
 minus-token u = refl
 
--- 0x and 0b
-hex-scan : (h : List ℕ) → digitScan 48 (120 ∷ h) ≡ radixOr Hex (run hexDigit h)
-unfolding digitScan
-hex-scan h = refl
-
-binary-scan : (h : List ℕ) → digitScan 48 (98 ∷ h) ≡ radixOr Binary (run binaryDigit h)
-unfolding digitScan
-binary-scan h = refl
-
 -- What stands behind `0x`
 part-two : (s : List ℕ) (at e : ℕ) → at + 2 ≤ e → e ≤ length s → drop 2 (take (e - at) (drop at s)) ≡ take (e - (at + 2)) (drop (at + 2) s)
 part-two s at e h l =
@@ -214,39 +205,9 @@ module _ (names : List Name) where
   unfolding scan nameStart letter digit between
   scan-minus t = refl
 
-  scan-minus-none : (t : List ℕ) → run digit t ≡ 0 → scan names (45 ∷ t) ≡ none
-  unfolding atLeastOne
-  scan-minus-none t r = scan-minus t ∙ rw r
-
-  scan-minus-some : (t : List ℕ) (n : ℕ) → run digit t ≡ suc n → scan names (45 ∷ t) ≡ some (matching (suc (suc n)) Number)
-  unfolding atLeastOne
-  scan-minus-some t n r = scan-minus t ∙ rw r
-
   zero-first : (t : List ℕ) → scan names (48 ∷ t) ≡ some (digitScan 48 t)
   unfolding scan nameStart letter digit between
   zero-first t = refl
-
-  -- What the two have in common: the second byte, the class and the token class are given, with what the scan then is
-  module _ (x : ℕ) (p : ℕ → Bool) (c : Class) (scan-is : (h : List ℕ) → digitScan 48 (x ∷ h) ≡ radixOr c (run p h)) where
-    radix-none : (s : List ℕ) (at e : ℕ) → at + 1 < length s → getD s at 0 ≡ 48 → getD s (at + 1) 0 ≡ x
-        → e ≡ at + 2 + run p (drop (at + 2) s) → e ≡ at + 2 → scan names (drop at s) ≡ some (matching (at + 1 - at) Number)
-    unfolding radixOr
-    radix-none s at e l b y q z =
-        let w : at + 1 - at ≡ 1 = omega arith in
-        let v : at + 2 ≡ suc (suc at) = omega arith in
-        let r : run p (drop (suc (suc at)) s) ≡ 0 = omega (arith, rw v at q) in
-        rw (w, drop-cons s at 0 (omega arith), b, drop-cons s (suc at) 0 (omega arith), rw (add-one at) at y)
-        (zero-first (x ∷ drop (suc (suc at)) s) ∙ ap some (scan-is (drop (suc (suc at)) s) ∙ ap (radixOr c) r))
-
-    radix-some : (s : List ℕ) (at e : ℕ) → at + 1 < length s → getD s at 0 ≡ 48 → getD s (at + 1) 0 ≡ x
-        → e ≡ at + 2 + run p (drop (at + 2) s) → (e ≡ at + 2 → ⊥) → scan names (drop at s) ≡ some (matching (e - at) c)
-    unfolding radixOr
-    radix-some s at e l b y q z =
-        let v : at + 2 ≡ suc (suc at) = omega arith in
-        let r : run p (drop (suc (suc at)) s) ≡ suc (e - (at + 3)) = omega (arith, rw v at q) in
-        let w : e - at ≡ suc (suc (suc (e - (at + 3)))) = omega (arith, rw v at q) in
-        rw (w, drop-cons s at 0 (omega arith), b, drop-cons s (suc at) 0 (omega arith), rw (add-one at) at y)
-        (zero-first (x ∷ drop (suc (suc at)) s) ∙ ap some (scan-is (drop (suc (suc at)) s) ∙ ap (radixOr c) r))
 
   dot-first : (t : List ℕ) → scan names (46 ∷ t) ≡ dotScan t
   unfolding scan nameStart letter digit between
@@ -255,14 +216,6 @@ module _ (names : List Name) where
   scan-other : (b : ℕ) (t : List ℕ) (h : Bool) → NoWord b → mark b ≡ h → scan names (b ∷ t) ≡ elim h [ true ↦ some (matching 1 Mark) | false ↦ none ]
   unfolding scan
   scan-other b t h w k = let (d, m) = no-number-start b (w .no-number) in rw (scan, w .no-start, d, ne-eqb b 45 m, ne-eqb b 46 (w .no-dot), k)
-
-  hex-means : (u : List ℕ) → tokenOf names Hex u ≡ patternToken hex 16 u
-  unfolding tokenOf
-  hex-means u = refl
-
-  binary-means : (u : List ℕ) → tokenOf names Binary u ≡ patternToken binary 2 u
-  unfolding tokenOf
-  binary-means u = refl
 
   -- What a radix' prefix, class and token are.
   record Pattern (radix : Radix) (x : ℕ) : Type 0 where
@@ -275,17 +228,25 @@ module _ (names : List Name) where
     no-digit : digit x ≡ false
 
   hex-pattern : Pattern HexRadix 120
-  unfolding digit between
-  hex-pattern = record { class = Hex; make = hex; scan-is = hex-scan; token-is = hex-means; kind-meant = λ n u. refl; kind-for = λ n u. refl; no-digit = refl }
+  unfolding digit between digitScan tokenOf
+  hex-pattern = record { class = Hex; make = hex; scan-is = λ h. refl; token-is = λ u. refl; kind-meant = λ n u. refl; kind-for = λ n u. refl; no-digit = refl }
 
   binary-pattern : Pattern BinaryRadix 98
-  unfolding digit between
-  binary-pattern = record { class = Binary; make = binary; scan-is = binary-scan; token-is = binary-means; kind-meant = λ n u. refl; kind-for = λ n u. refl; no-digit = refl }
+  unfolding digit between digitScan tokenOf
+  binary-pattern = record { class = Binary; make = binary; scan-is = λ h. refl; token-is = λ u. refl; kind-meant = λ n u. refl; kind-for = λ n u. refl; no-digit = refl }
 
   pattern-of : (radix : Radix) (b : ℕ) → PrefixIs radix b → Pattern radix b
   pattern-of HexRadix b e = rw e hex-pattern
   pattern-of BinaryRadix b e = rw e binary-pattern
   pattern-of DecimalRadix b e = absurd e
+
+  -- The scan of `0`, the letter of a radix, and so many digits.
+  radix-at : (s : List ℕ) (at n : ℕ) (radix : Radix) (o : Pattern radix (getD s (at + 1) 0)) → at + 1 < length s → getD s at 0 ≡ 48
+      → run (isDigitOf radix) (drop (at + 2) s) ≡ n → scan names (drop at s) ≡ some (radixOr (o .class) n)
+  radix-at s at n radix o l b r =
+      let v : at + 2 ≡ suc (at + 1) = omega arith in
+      rw (drop-cons s at 0 (omega arith), b, drop-cons s (suc at) 0 (omega arith), ← add-one at)
+      (zero-first (getD s (at + 1) 0 ∷ drop (suc (at + 1)) s) ∙ ap some (o .scan-is (drop (suc (at + 1)) s) ∙ ap (radixOr (o .class)) (rw v at r)))
 
   module _ (ok : Naming names) where
     -- ---- the answers
@@ -361,13 +322,14 @@ module _ (names : List Name) where
 
     minus-none : (s : List ℕ) (at e : ℕ) → at < length s → getD s at 0 ≡ 45 → e ≡ at + 1 + run digit (drop (at + 1) s) → e ≡ at + 1
         → front names (drop at s) ≡ none
+    unfolding atLeastOne
     minus-none s at e l b q z =
         let r : run digit (drop (suc at) s) ≡ 0 = omega (arith, rw (add-one at) at q) in
-        rw (drop-cons s at 0 l, b) (front-none (45 ∷ drop (suc at) s) (scan-minus-none (drop (suc at) s) r))
+        rw (drop-cons s at 0 l, b) (front-none (45 ∷ drop (suc at) s) (scan-minus (drop (suc at) s) ∙ ap (atLeastOne Number) r))
 
     minus-front : (s : List ℕ) (at e : ℕ) → at < length s → getD s at 0 ≡ 45 → e ≡ at + 1 + run digit (drop (at + 1) s) → (e ≡ at + 1 → ⊥)
         → front names (drop at s) ≡ sized (e - at) (numberToken (45 ∷ take (e - (at + 1)) (drop (at + 1) s)))
-    unfolding tokenOf
+    unfolding tokenOf atLeastOne
     minus-front s at e l b q z =
         let c = run-in digit s (at + 1) (omega (arith, add-one at)) in
         front-found (drop at s) (e - at) Number scanned-as
@@ -377,7 +339,7 @@ module _ (names : List Name) where
         scanned-as =
             let r : run digit (drop (suc at) s) ≡ suc (e - (at + 2)) = omega (arith, rw (add-one at) at q) in
             let w : e - at ≡ suc (suc (e - (at + 2))) = omega (arith, rw (add-one at) at q) in
-            rw (w, drop-cons s at 0 l, b) (scan-minus-some (drop (suc at) s) (e - (at + 2)) r)
+            rw (w, drop-cons s at 0 l, b) (scan-minus (drop (suc at) s) ∙ ap (atLeastOne Number) r)
 
     -- ---- decimal digits, without a sign
 
@@ -488,17 +450,21 @@ module _ (names : List Name) where
 
       -- No digit follows: `0` is the token.
       pub prefix-alone : d .end ≡ at + 2 → IsDecimal names s at
+      unfolding radixOr
       prefix-alone z =
-          let m = radix-none (getD s (at + 1) 0) (isDigitOf radix) (here .class) (here .scan-is) s at (d .end) (h .in-text) (h .is-zero) refl (q .ends) z in
+          let m = radix-at s at 0 radix here (h .in-text) (h .is-zero) (omega (arith, q .ends)) in
           let o = zero-is-digit _ (h .is-zero) in
           let y = run-yes digit s at (omega (arith, h .in-text)) o in
           let n = run-no digit s (at + 1) (h .in-text) (here .no-digit) in
-          let w : at + 1 - at ≡ run digit (drop at s) = omega (arith, rw (add-one at) at n, y) in
-          record { in-text = omega (arith, h .in-text); is-digit = o; is-number = rw w at (longest-found (drop at s) (at + 1 - at) Number m) }
+          let w : 1 ≡ run digit (drop at s) = omega (arith, rw (add-one at) at n, y) in
+          record { in-text = omega (arith, h .in-text); is-digit = o; is-number = rw w at (longest-found (drop at s) 1 Number m) }
 
       module _ (z : d .end ≡ at + 2 → ⊥) where
         scanned : scan names (drop at s) ≡ some (matching (d .end - at) (here .class))
-        scanned = radix-some (getD s (at + 1) 0) (isDigitOf radix) (here .class) (here .scan-is) s at (d .end) (h .in-text) (h .is-zero) refl (q .ends) z
+        unfolding radixOr
+        scanned =
+            let w : d .end - at ≡ suc (suc (suc (d .end - (at + 3)))) = omega (arith, q .ends) in
+            rw w (radix-at s at (suc (d .end - (at + 3))) radix here (h .in-text) (h .is-zero) (omega (arith, q .ends)))
 
         abbrev prefix-value : ℕ
         prefix-value = valueOf (baseOf radix) (take (d .end - (at + 2)) (drop (at + 2) s))
