@@ -4,7 +4,7 @@
 use Prim.Native.Nat.{ℕ, zero, suc, pred, _+_, _/_, _%_, _≤_, _<_}
 use mathlib.Core.Path.{_≡_, refl, sym, ap, _∙_, subst}
 use native.Mathlib.Omega.{arith}
-use mathlib.Core.Bool.{Bool, true, false, true≢false}
+use mathlib.Core.Bool.{Bool, true, false}
 use mathlib.Core.Option.{Option, none, some}
 use mathlib.Core.List.{List, [], _∷_, _++_, map, map-append, append-assoc, append-nil}
 use lib.ListN.{length, getD, set, replicate, length-append, length-replicate, length-map}
@@ -202,7 +202,7 @@ mark-nums ps a-comma = refl
 mark-nums ps an-opening = refl
 mark-nums ps a-closing = refl
 
--- The next of three registers is put behind those that were read.
+-- The next of three registers is put after those that were read.
 put-next : (got : List Register) (free count : ℕ) (r : Register) → length got ≡ count → 0 < free
     → set (got ++ replicate free R0) count r ≡ (got ++ (r ∷ [])) ++ replicate (pred free) R0
 put-next got zero count r h l = absurd (omega arith)

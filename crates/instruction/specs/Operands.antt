@@ -78,7 +78,7 @@ unfoldable pub withNumber : ℤ → Result Operands → Result Operands
 withNumber z (value o) = value (record { registers = o .registers; number = some z })
 withNumber z (refused k) = refused k
 
--- A token at a place, before what stands behind it: "operands left to right", so its own refusal comes first.
+-- A token at a place, before what follows it: "operands left to right", so its own refusal comes first.
 unfoldable pub readPlace : Place → Token → Result Operands → Result Operands
 readPlace (reg bit) t rest = elim (readRegister t) [ value n ↦ withRegister n rest | refused k ↦ refused k ]
 readPlace (num bit width signed) t rest = elim (readNumber t) [ value z ↦ withNumber z rest | refused k ↦ refused k ]

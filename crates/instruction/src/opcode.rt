@@ -109,7 +109,7 @@ pub const ECALL: usize = 48;
 
 pub const EBREAK: usize = 49;
 
-// A mnemonic as its key: the letters, the first lowest, with a 1 behind them.
+// A mnemonic as its key: the letters, the first lowest, with a 1 after them.
 const MNEMONICS: [u64; 50] = [
     0x1646461, // add
     0x1627573, // sub

@@ -1,5 +1,5 @@
 -- The operands of a form, read one by one from the tokens that a line's record keeps.
-use Prim.Native.Nat.{ℕ, suc, _+_, _/_, _%_, _≤_, _<_}
+use Prim.Native.Nat.{ℕ, _+_, _/_, _%_, _≤_, _<_}
 use mathlib.Core.Path.{_≡_, refl, sym, ap, _∙_}
 use native.Mathlib.Omega.{arith}
 use native.Mathlib.Numerals.{add-one}
@@ -19,7 +19,7 @@ use Rattle.text.specs.Values.{readNumber}
 use Rattle.text.specs.Contracts.{kindMeant, spelling, meant, filler}
 use Rattle.text.specs.declared.lexer.Token.{Token as KeptToken}
 use Rattle.instruction.specs.Table.{Place}
-use Rattle.instruction.specs.Operands.{readRegister, markByte, readOperands}
+use Rattle.instruction.specs.Operands.{readRegister, readOperands}
 use Rattle.instruction.specs.Contracts.{noNumber, operands}
 use Rattle.instruction.specs.Forms.{isNumber, markOf, Ahead}
 use Rattle.instruction.specs.declared.form.Mark.{Mark}

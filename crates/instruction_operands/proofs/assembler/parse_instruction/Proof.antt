@@ -135,7 +135,7 @@ parse-row-requires c κs =
     let f = found-row r .0 in
     (f, (rw (b .pre .1 .1 .1 .0) (form-column (r .row .given .0 .0) f), (e .if1 .left, (b .pre .1 .0, b .pre .0 .places))))
 
--- the mnemonic's token is the first of the line behind `at`
+-- the mnemonic's token is the first of the line from `at` on
 first : (c : tie.After-enum-told) → let a = c .before .before .before .before .before .before .args in
     readMnemonic (meant (a .source .now) (getD (a .line .tokens) (a .at) past)) (a .line .count - a .at - 1) (drop (a .at + 1) (firsts (a .source .now) (a .line .tokens) (a .line .count)))
     ≡ readInstruction (behind (a .at) (record { count = a .line .count; first = firsts (a .source .now) (a .line .tokens) (a .line .count) }))
