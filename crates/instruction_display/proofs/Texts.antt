@@ -57,12 +57,9 @@ module _ (k : ℕ) (i j : Instruction) (e : i ≡ j) (below : ltb k 50 ≡ true)
   pub length-store : rowAt k .form ≡ Store → length text ≡ length (handed I)
   length-store form = long-as (text-store form)
 
--- What was measured of a text, has room for it, or was written as it, for the text that it is.
+-- What was measured of a text, or was written as it, for the text that it is.
 pub measured : {x y r m : ℕ} → x ≡ y → m ≤ 39 → (r ≡ y) × (r ≤ m) → (r ≡ x) × (r ≤ 39)
 measured e l h = (h .0 ∙ sym e, omega (arith, h .1))
-
-pub has-room : {t u : List ℕ} (at n : ℕ) → t ≡ u → at + length t ≤ n → at + length u ≤ n
-has-room at n e h = rw e at h
 
 pub is-written : {t u old new : List ℕ} {at r : ℕ} → t ≡ u → Written old at u r new → Written old at t r new
 is-written e h = rw e h
