@@ -20,14 +20,18 @@ use Rattle.text.specs.declared.lexer.Ending.{Ending}
 use Rattle.text.specs.declared.lexer.Ending.the-variants.{Line, Comment, Other}
 use Rattle.text.proofs.Left.{margin-inside, nothing-left, something-left, none-read, end-on}
 
--- The bytes of a run of margin do not end the line.
-pub margin-on : (s : List ℕ) (at stop : ℕ) → at ≤ length s → stop ≡ at + run margin (drop at s) → (at ≤ stop) × (stop ≤ length s) × (endAt s stop ≡ endAt s at)
-margin-on s at stop l q =
-    let n = run-le margin (drop at s) in
+-- A run of bytes that do not end the line goes on within it.
+pub run-within : (p : ℕ → Bool) → ((b : ℕ) → p b ≡ true → inside b ≡ true) → (s : List ℕ) (at stop : ℕ) → at ≤ length s → stop ≡ at + run p (drop at s)
+    → (at ≤ stop) × (stop ≤ length s) × (endAt s stop ≡ endAt s at)
+run-within p f s at stop l q =
+    let n = run-le p (drop at s) in
     let k = length-drop at s in
-    let i : every inside (take (run margin (drop at s)) (drop at s)) ≡ true
-    = rw (take-run margin (drop at s)) (every-mono margin inside margin-inside (before margin (drop at s)) (every-run margin (drop at s))) in
-    (omega arith, omega arith, ap (endAt s) q ∙ end-on s at (run margin (drop at s)) (omega arith) i)
+    let i : every inside (take (run p (drop at s)) (drop at s)) ≡ true = rw (take-run p (drop at s)) (every-mono p inside f (before p (drop at s)) (every-run p (drop at s))) in
+    (omega arith, omega arith, ap (endAt s) q ∙ end-on s at (run p (drop at s)) (omega arith) i)
+
+-- So does margin.
+pub margin-on : (s : List ℕ) (at stop : ℕ) → at ≤ length s → stop ≡ at + run margin (drop at s) → (at ≤ stop) × (stop ≤ length s) × (endAt s stop ≡ endAt s at)
+margin-on s at stop l q = run-within margin margin-inside s at stop l q
 
 -- ---- the answers
 

@@ -9,10 +9,10 @@ use mathlib.Core.List.{List, [], _∷_}
 use mathlib.Core.Option.{Option, none, some}
 use lib.ListN.{length, take, drop, getD, length-drop, drop-of-length-le}
 use lib.Seq.{drop-cons}
-use lib.Dec.{eqb}
+use lib.Dec.{leb, ltb, eqb}
 use lib.IntN.{pos}
 use borrow.Author.Tests.{eqb-true, eq-eqb, ne-eqb, lt-ltb, le-ltb, le-leb, lt-leb}
-use Rattle.text_lexical.specs.Bytes.{between, letter, digit, hexDigit, binaryDigit, mark, nameStart, namePart, before, run, isSome}
+use Rattle.text_lexical.specs.Bytes.{between, letter, digit, mark, nameStart, namePart, before, run, isSome}
 use Rattle.text_lexical.specs.Numbers.{valueOf, minus}
 use Rattle.text_lexical.specs.Names.{Name, named}
 use Rattle.text_lexical.specs.Contracts.{nameMeant, nameNumber, fitting, baseOf, isDigitOf, digitsAt}
@@ -28,7 +28,7 @@ use Rattle.text_lexical.proofs.Values.{fits-is, large-is}
 use Rattle.text_lexical.proofs.Registers.{register-index}
 use Rattle.text.specs.Tokens.{isRegister, Class, Number, Hex, Binary, Directive, Mark, longest, Token, identifier, register, number, hex, binary, directive, within, numberToken, patternToken, registerToken, markToken, tokenOf, sized, matched, front}
 use Rattle.text.specs.NameSets.{Naming}
-use Rattle.text.specs.Contracts.{kindMeant, patternKind, kindFor, tokenAt, numberStart, IsDecimal, PrefixIs, Prefixed}
+use Rattle.text.specs.Contracts.{kindMeant, patternKind, kindFor, tokenAt, numberStart, IsDecimal, PrefixIs, Prefixed, NoWord}
 use Rattle.text.specs.declared.lexer.Kind.{Kind}
 use Rattle.text.specs.declared.lexer.Kind.the-variants.{Identifier as IdentifierKind, Register as RegisterKind, NoRegister, Number as NumberKind, Negative}
 use Rattle.text.specs.declared.lexer.Scan.the-variants.{Found, Bad}
@@ -109,36 +109,20 @@ digits-two b x h g =
     (λ t. let k = g (eqb-true b 48 t) in rw (digitScan, t, ne-eqb x 120 (k .0), ne-eqb x 98 (k .1)))
     (λ t. rw (digitScan, t))
 
-number-minus : (u : List ℕ) (v : ℕ) → valueOf 10 u ≡ v → v ≤ 2 ^ 63 → numberToken (45 ∷ u) ≡ some (number (minus v))
-unfolding numberToken within
-number-minus u v k m = rw (numberToken, le-leb (valueOf 10 u) (2 ^ 63) (omega arith)) (ap (λ (n : ℕ). some (number (minus n))) k)
+-- A number's token, by its value.
+decimal-token : (b : ℕ) (u : List ℕ) → digit b ≡ true → numberToken (b ∷ u) ≡ within (ltb (valueOf 10 (b ∷ u)) (2 ^ 63)) (number (pos (valueOf 10 (b ∷ u))))
+unfolding numberToken
+decimal-token b u d = rw (numberToken, digit-no-minus b d)
 
-number-minus-large : (u : List ℕ) → 2 ^ 63 < valueOf 10 u → numberToken (45 ∷ u) ≡ none
-unfolding numberToken within
-number-minus-large u m = rw (numberToken, lt-leb (valueOf 10 u) (2 ^ 63) m)
-
--- 0x and 0b
-hex-scan : (h : List ℕ) → digitScan 48 (120 ∷ h) ≡ radixOr Hex (run hexDigit h)
-unfolding digitScan
-hex-scan h = refl
-
-binary-scan : (h : List ℕ) → digitScan 48 (98 ∷ h) ≡ radixOr Binary (run binaryDigit h)
-unfolding digitScan
-binary-scan h = refl
+minus-token : (u : List ℕ) → numberToken (45 ∷ u) ≡ within (leb (valueOf 10 u) (2 ^ 63)) (number (minus (valueOf 10 u)))
+unfolding numberToken
+minus-token u = refl
 
 -- What stands behind `0x`
 part-two : (s : List ℕ) (at e : ℕ) → at + 2 ≤ e → e ≤ length s → drop 2 (take (e - at) (drop at s)) ≡ take (e - (at + 2)) (drop (at + 2) s)
 part-two s at e h l =
     let v : at + 1 + 1 ≡ at + 2 = omega arith in
     rw (part-cons s at e (omega arith) (omega arith), part-cons s (at + 1) e (omega arith) (omega arith), v)
-
-pattern-fits : (make : ℕ → Token) (radix : ℕ) (u : List ℕ) (v : ℕ) → valueOf radix (drop 2 u) ≡ v → v < 2 ^ 64 → patternToken make radix u ≡ some (make v)
-unfolding patternToken within
-pattern-fits make radix u v k m = rw (k, lt-ltb v (2 ^ 64) m)
-
-pattern-large : (make : ℕ → Token) (radix : ℕ) (u : List ℕ) → 2 ^ 64 ≤ valueOf radix (drop 2 u) → patternToken make radix u ≡ none
-unfolding patternToken within
-pattern-large make radix u m = rw (le-ltb (valueOf radix (drop 2 u)) (2 ^ 64) m)
 
 zero-is-digit : (b : ℕ) → b ≡ 48 → digit b ≡ true
 unfolding digit between
@@ -221,59 +205,17 @@ module _ (names : List Name) where
   unfolding scan nameStart letter digit between
   scan-minus t = refl
 
-  scan-minus-none : (t : List ℕ) → run digit t ≡ 0 → scan names (45 ∷ t) ≡ none
-  unfolding atLeastOne
-  scan-minus-none t r = scan-minus t ∙ rw r
-
-  scan-minus-some : (t : List ℕ) (n : ℕ) → run digit t ≡ suc n → scan names (45 ∷ t) ≡ some (matching (suc (suc n)) Number)
-  unfolding atLeastOne
-  scan-minus-some t n r = scan-minus t ∙ rw r
-
   zero-first : (t : List ℕ) → scan names (48 ∷ t) ≡ some (digitScan 48 t)
   unfolding scan nameStart letter digit between
   zero-first t = refl
-
-  -- What the two have in common: the second byte, the class and the token class are given, with what the scan then is
-  module _ (x : ℕ) (p : ℕ → Bool) (c : Class) (scan-is : (h : List ℕ) → digitScan 48 (x ∷ h) ≡ radixOr c (run p h)) where
-    radix-none : (s : List ℕ) (at e : ℕ) → at + 1 < length s → getD s at 0 ≡ 48 → getD s (at + 1) 0 ≡ x
-        → e ≡ at + 2 + run p (drop (at + 2) s) → e ≡ at + 2 → scan names (drop at s) ≡ some (matching (at + 1 - at) Number)
-    unfolding radixOr
-    radix-none s at e l b y q z =
-        let w : at + 1 - at ≡ 1 = omega arith in
-        let v : at + 2 ≡ suc (suc at) = omega arith in
-        let r : run p (drop (suc (suc at)) s) ≡ 0 = omega (arith, rw v at q) in
-        rw (w, drop-cons s at 0 (omega arith), b, drop-cons s (suc at) 0 (omega arith), rw (add-one at) at y)
-        (zero-first (x ∷ drop (suc (suc at)) s) ∙ ap some (scan-is (drop (suc (suc at)) s) ∙ ap (radixOr c) r))
-
-    radix-some : (s : List ℕ) (at e : ℕ) → at + 1 < length s → getD s at 0 ≡ 48 → getD s (at + 1) 0 ≡ x
-        → e ≡ at + 2 + run p (drop (at + 2) s) → (e ≡ at + 2 → ⊥) → scan names (drop at s) ≡ some (matching (e - at) c)
-    unfolding radixOr
-    radix-some s at e l b y q z =
-        let v : at + 2 ≡ suc (suc at) = omega arith in
-        let r : run p (drop (suc (suc at)) s) ≡ suc (e - (at + 3)) = omega (arith, rw v at q) in
-        let w : e - at ≡ suc (suc (suc (e - (at + 3)))) = omega (arith, rw v at q) in
-        rw (w, drop-cons s at 0 (omega arith), b, drop-cons s (suc at) 0 (omega arith), rw (add-one at) at y)
-        (zero-first (x ∷ drop (suc (suc at)) s) ∙ ap some (scan-is (drop (suc (suc at)) s) ∙ ap (radixOr c) r))
 
   dot-first : (t : List ℕ) → scan names (46 ∷ t) ≡ dotScan t
   unfolding scan nameStart letter digit between
   dot-first t = refl
 
-  scan-mark : (b : ℕ) (t : List ℕ) → nameStart b ≡ false → digit b ≡ false → (b ≡ 45 → ⊥) → (b ≡ 46 → ⊥) → mark b ≡ true → scan names (b ∷ t) ≡ some (matching 1 Mark)
+  scan-other : (b : ℕ) (t : List ℕ) (h : Bool) → NoWord b → mark b ≡ h → scan names (b ∷ t) ≡ elim h [ true ↦ some (matching 1 Mark) | false ↦ none ]
   unfolding scan
-  scan-mark b t n d m p k = rw (scan, n, d, ne-eqb b 45 m, ne-eqb b 46 p, k)
-
-  scan-bad : (b : ℕ) (t : List ℕ) → nameStart b ≡ false → digit b ≡ false → (b ≡ 45 → ⊥) → (b ≡ 46 → ⊥) → mark b ≡ false → scan names (b ∷ t) ≡ none
-  unfolding scan
-  scan-bad b t n d m p k = rw (scan, n, d, ne-eqb b 45 m, ne-eqb b 46 p, k)
-
-  hex-means : (u : List ℕ) → tokenOf names Hex u ≡ patternToken hex 16 u
-  unfolding tokenOf
-  hex-means u = refl
-
-  binary-means : (u : List ℕ) → tokenOf names Binary u ≡ patternToken binary 2 u
-  unfolding tokenOf
-  binary-means u = refl
+  scan-other b t h w k = let (d, m) = no-number-start b (w .no-number) in rw (scan, w .no-start, d, ne-eqb b 45 m, ne-eqb b 46 (w .no-dot), k)
 
   -- What a radix' prefix, class and token are.
   record Pattern (radix : Radix) (x : ℕ) : Type 0 where
@@ -286,17 +228,25 @@ module _ (names : List Name) where
     no-digit : digit x ≡ false
 
   hex-pattern : Pattern HexRadix 120
-  unfolding digit between
-  hex-pattern = record { class = Hex; make = hex; scan-is = hex-scan; token-is = hex-means; kind-meant = λ n u. refl; kind-for = λ n u. refl; no-digit = refl }
+  unfolding digit between digitScan tokenOf
+  hex-pattern = record { class = Hex; make = hex; scan-is = λ h. refl; token-is = λ u. refl; kind-meant = λ n u. refl; kind-for = λ n u. refl; no-digit = refl }
 
   binary-pattern : Pattern BinaryRadix 98
-  unfolding digit between
-  binary-pattern = record { class = Binary; make = binary; scan-is = binary-scan; token-is = binary-means; kind-meant = λ n u. refl; kind-for = λ n u. refl; no-digit = refl }
+  unfolding digit between digitScan tokenOf
+  binary-pattern = record { class = Binary; make = binary; scan-is = λ h. refl; token-is = λ u. refl; kind-meant = λ n u. refl; kind-for = λ n u. refl; no-digit = refl }
 
   pattern-of : (radix : Radix) (b : ℕ) → PrefixIs radix b → Pattern radix b
   pattern-of HexRadix b e = rw e hex-pattern
   pattern-of BinaryRadix b e = rw e binary-pattern
   pattern-of DecimalRadix b e = absurd e
+
+  -- The scan of `0`, the letter of a radix, and so many digits.
+  radix-at : (s : List ℕ) (at n : ℕ) (radix : Radix) (o : Pattern radix (getD s (at + 1) 0)) → at + 1 < length s → getD s at 0 ≡ 48
+      → run (isDigitOf radix) (drop (at + 2) s) ≡ n → scan names (drop at s) ≡ some (radixOr (o .class) n)
+  radix-at s at n radix o l b r =
+      let v : at + 2 ≡ suc (at + 1) = omega arith in
+      rw (drop-cons s at 0 (omega arith), b, drop-cons s (suc at) 0 (omega arith), ← add-one at)
+      (zero-first (getD s (at + 1) 0 ∷ drop (suc (at + 1)) s) ∙ ap some (o .scan-is (drop (suc (at + 1)) s) ∙ ap (radixOr (o .class)) (rw v at r)))
 
   module _ (ok : Naming names) where
     -- ---- the answers
@@ -313,6 +263,17 @@ module _ (names : List Name) where
     pub at-none : (s : List ℕ) (at : ℕ) → front names (drop at s) ≡ none → Bad ≡ tokenAt names s at
     unfolding tokenAt
     at-none s at q = rw (front-at names (ok .identifiers) s at, q)
+
+    -- A token that a number's value allows, and none where it does not.
+    module _ (s : List ℕ) (at e : ℕ) (h : Bool) (t : Token) (q : front names (drop at s) ≡ sized (e - at) (within h t)) where
+      at-allowed : (k : Kind) → at ≤ e → h ≡ true → t ≡ kindMeant k (take (e - at) (drop at s)) → kindFor t (take (e - at) (drop at s)) ≡ k
+          → Found (record { kind = k; start = at; length = e - at }) e ≡ tokenAt names s at
+      unfolding within
+      at-allowed k l y m f = at-found s at e k l (rw (← m) f) (q ∙ rw (y, m))
+
+      at-refused : h ≡ false → Bad ≡ tokenAt names s at
+      unfolding within sized
+      at-refused n = at-none s at (q ∙ rw n)
 
     -- What the text begins with is what the scan finds.
     pub front-found : (s : List ℕ) (n : ℕ) (c : Class) → scan names s ≡ some (matching n c) → front names s ≡ sized n (tokenOf names c (take n s))
@@ -352,37 +313,23 @@ module _ (names : List Name) where
 
     -- ---- a number
 
-    decimal-fits : (s : List ℕ) (at e v : ℕ) → at < e → e ≤ length s → digit (getD s at 0) ≡ true
-        → scan names (drop at s) ≡ some (matching (e - at) Number) → valueOf 10 (take (e - at) (drop at s)) ≡ v → v < 2 ^ 63
-        → front names (drop at s) ≡ sized (e - at) (some (number (pos v)))
-    unfolding tokenOf numberToken within
-    decimal-fits s at e v h l d q k m =
+    decimal-front : (s : List ℕ) (at e : ℕ) → at < e → e ≤ length s → digit (getD s at 0) ≡ true → scan names (drop at s) ≡ some (matching (e - at) Number)
+        → front names (drop at s) ≡ sized (e - at) (within (ltb (valueOf 10 (take (e - at) (drop at s))) (2 ^ 63)) (number (pos (valueOf 10 (take (e - at) (drop at s))))))
+    unfolding tokenOf
+    decimal-front s at e h l d q =
         front-found (drop at s) (e - at) Number q
-        ∙ ap (sized (e - at)) (rw (part-cons s at e h (omega arith)) (go _ (rw (part-cons s at e h (omega arith)) at k)))
-      where
-        go : (u : List ℕ) → valueOf 10 (getD s at 0 ∷ u) ≡ v → numberToken (getD s at 0 ∷ u) ≡ some (number (pos v))
-        go u k′ = rw (numberToken, digit-no-minus (getD s at 0) d, k′, lt-ltb v (2 ^ 63) m)
-
-    decimal-large : (s : List ℕ) (at e : ℕ) → at < e → e ≤ length s → digit (getD s at 0) ≡ true
-        → scan names (drop at s) ≡ some (matching (e - at) Number) → 2 ^ 63 ≤ valueOf 10 (take (e - at) (drop at s))
-        → front names (drop at s) ≡ none
-    unfolding tokenOf numberToken within sized
-    decimal-large s at e h l d q m =
-        let z : numberToken (take (e - at) (drop at s)) ≡ none = rw (part-cons s at e h (omega arith)) (go _ (rw (part-cons s at e h (omega arith)) at m)) in
-        front-found (drop at s) (e - at) Number q ∙ rw z
-      where
-        go : (u : List ℕ) → 2 ^ 63 ≤ valueOf 10 (getD s at 0 ∷ u) → numberToken (getD s at 0 ∷ u) ≡ none
-        go u m′ = rw (numberToken, digit-no-minus (getD s at 0) d, le-ltb _ (2 ^ 63) m′)
+        ∙ ap (sized (e - at)) (rw (part-cons s at e h (omega arith)) (decimal-token (getD s at 0) (take (e - (at + 1)) (drop (at + 1) s)) d))
 
     minus-none : (s : List ℕ) (at e : ℕ) → at < length s → getD s at 0 ≡ 45 → e ≡ at + 1 + run digit (drop (at + 1) s) → e ≡ at + 1
         → front names (drop at s) ≡ none
+    unfolding atLeastOne
     minus-none s at e l b q z =
         let r : run digit (drop (suc at) s) ≡ 0 = omega (arith, rw (add-one at) at q) in
-        rw (drop-cons s at 0 l, b) (front-none (45 ∷ drop (suc at) s) (scan-minus-none (drop (suc at) s) r))
+        rw (drop-cons s at 0 l, b) (front-none (45 ∷ drop (suc at) s) (scan-minus (drop (suc at) s) ∙ ap (atLeastOne Number) r))
 
     minus-front : (s : List ℕ) (at e : ℕ) → at < length s → getD s at 0 ≡ 45 → e ≡ at + 1 + run digit (drop (at + 1) s) → (e ≡ at + 1 → ⊥)
         → front names (drop at s) ≡ sized (e - at) (numberToken (45 ∷ take (e - (at + 1)) (drop (at + 1) s)))
-    unfolding tokenOf
+    unfolding tokenOf atLeastOne
     minus-front s at e l b q z =
         let c = run-in digit s (at + 1) (omega (arith, add-one at)) in
         front-found (drop at s) (e - at) Number scanned-as
@@ -392,17 +339,7 @@ module _ (names : List Name) where
         scanned-as =
             let r : run digit (drop (suc at) s) ≡ suc (e - (at + 2)) = omega (arith, rw (add-one at) at q) in
             let w : e - at ≡ suc (suc (e - (at + 2))) = omega (arith, rw (add-one at) at q) in
-            rw (w, drop-cons s at 0 l, b) (scan-minus-some (drop (suc at) s) (e - (at + 2)) r)
-
-    minus-fits : (s : List ℕ) (at e v : ℕ) → at < length s → getD s at 0 ≡ 45 → e ≡ at + 1 + run digit (drop (at + 1) s) → (e ≡ at + 1 → ⊥)
-        → valueOf 10 (take (e - (at + 1)) (drop (at + 1) s)) ≡ v → v ≤ 2 ^ 63
-        → front names (drop at s) ≡ sized (e - at) (some (number (minus v)))
-    minus-fits s at e v l b q z k m = minus-front s at e l b q z ∙ ap (sized (e - at)) (number-minus _ v k m)
-
-    minus-large : (s : List ℕ) (at e : ℕ) → at < length s → getD s at 0 ≡ 45 → e ≡ at + 1 + run digit (drop (at + 1) s) → (e ≡ at + 1 → ⊥)
-        → 2 ^ 63 < valueOf 10 (take (e - (at + 1)) (drop (at + 1) s)) → front names (drop at s) ≡ none
-    unfolding sized
-    minus-large s at e l b q z m = minus-front s at e l b q z ∙ ap (sized (e - at)) (number-minus-large _ m)
+            rw (w, drop-cons s at 0 l, b) (scan-minus (drop (suc at) s) ∙ ap (atLeastOne Number) r)
 
     -- ---- decimal digits, without a sign
 
@@ -424,14 +361,21 @@ module _ (names : List Name) where
           let n : d .end - at ≡ run digit (drop at s) = omega (arith, q .ends) in
           rw n (found-longest (drop at s) (run digit (drop at s)) Number (h .is-number))
 
+      abbrev decimal-value : ℕ
+      decimal-value = valueOf 10 (take (d .end - at) (drop at s))
+
+      decimal-read : front names (drop at s) ≡ sized (d .end - at) (within (ltb decimal-value (2 ^ 63)) (number (pos decimal-value)))
+      decimal-read = decimal-front s at (d .end) some-digits (q .in-text) (h .is-digit) decimal-scanned
+
       pub decimal-found : (n : ℕ) → d .value ≡ Fits n → n < 2 ^ 63 → Found (record { kind = NumberKind n; start = at; length = d .end - at }) (d .end) ≡ tokenAt names s at
       decimal-found n e k =
-          at-found s at (d .end) (NumberKind n) (q .on) (number-kind s at (d .end) n some-digits (h .in-text) (h .is-digit))
-          (decimal-fits s at (d .end) n some-digits (q .in-text) (h .is-digit) decimal-scanned (value-fits DecimalRadix s at d q n e .0) k)
+          let v : decimal-value ≡ n = value-fits DecimalRadix s at d q n e .0 in
+          at-allowed s at (d .end) _ _ decimal-read (NumberKind n) (q .on) (lt-ltb decimal-value (2 ^ 63) (rw v k)) (ap (λ (x : ℕ). number (pos x)) v)
+          (rw v (number-kind s at (d .end) n some-digits (h .in-text) (h .is-digit)))
 
       -- A value of 2^63 or more is bad, whether it fits 64 bits or not.
-      decimal-bad : 2 ^ 63 ≤ valueOf 10 (take (d .end - at) (drop at s)) → Bad ≡ tokenAt names s at
-      decimal-bad k = at-none s at (decimal-large s at (d .end) some-digits (q .in-text) (h .is-digit) decimal-scanned k)
+      decimal-bad : 2 ^ 63 ≤ decimal-value → Bad ≡ tokenAt names s at
+      decimal-bad k = at-refused s at (d .end) _ _ decimal-read (le-ltb decimal-value (2 ^ 63) k)
 
       pub decimal-wide : d .value ≡ TooLarge → Bad ≡ tokenAt names s at
       decimal-wide e = decimal-bad (omega (arith, value-large DecimalRadix s at d q e))
@@ -446,13 +390,20 @@ module _ (names : List Name) where
       minus-alone z = at-none s at (minus-none s at (d .end) l b (q .ends) z)
 
       module _ (z : d .end ≡ at + 1 → ⊥) where
+        abbrev minus-value : ℕ
+        minus-value = valueOf 10 (take (d .end - (at + 1)) (drop (at + 1) s))
+
+        minus-read : front names (drop at s) ≡ sized (d .end - at) (within (leb minus-value (2 ^ 63)) (number (minus minus-value)))
+        minus-read = minus-front s at (d .end) l b (q .ends) z ∙ ap (sized (d .end - at)) (minus-token (take (d .end - (at + 1)) (drop (at + 1) s)))
+
         pub minus-found : (n : ℕ) → d .value ≡ Fits n → n ≤ 2 ^ 63 → Found (record { kind = Negative n; start = at; length = d .end - at }) (d .end) ≡ tokenAt names s at
         minus-found n e k =
-            at-found s at (d .end) (Negative n) (omega (arith, q .on)) (minus-kind s at (d .end) n (omega (arith, q .on)) l b)
-            (minus-fits s at (d .end) n l b (q .ends) z (value-fits DecimalRadix s (at + 1) d q n e .0) k)
+            let v : minus-value ≡ n = value-fits DecimalRadix s (at + 1) d q n e .0 in
+            at-allowed s at (d .end) _ _ minus-read (Negative n) (omega (arith, q .on)) (le-leb minus-value (2 ^ 63) (rw v k)) (ap (λ (x : ℕ). number (minus x)) v)
+            (rw v (minus-kind s at (d .end) n (omega (arith, q .on)) l b))
 
-        minus-bad : 2 ^ 63 < valueOf 10 (take (d .end - (at + 1)) (drop (at + 1) s)) → Bad ≡ tokenAt names s at
-        minus-bad k = at-none s at (minus-large s at (d .end) l b (q .ends) z k)
+        minus-bad : 2 ^ 63 < minus-value → Bad ≡ tokenAt names s at
+        minus-bad k = at-refused s at (d .end) _ _ minus-read (lt-leb minus-value (2 ^ 63) k)
 
         pub minus-wide : d .value ≡ TooLarge → Bad ≡ tokenAt names s at
         minus-wide e = minus-bad (omega (arith, value-large DecimalRadix s (at + 1) d q e))
@@ -482,33 +433,16 @@ module _ (names : List Name) where
         (rw (w, drop-cons s at 0 (omega arith), b, drop-cons s (suc at) 0 (omega arith))
         (dot-first (getD s (suc at) 0 ∷ drop (suc (suc at)) s) ∙ rw (dotScan, rw (add-one at) at n)))
 
-    pub mark-none : (s : List ℕ) (at : ℕ) → at < length s → nameStart (getD s at 0) ≡ false → digit (getD s at 0) ≡ false
-        → (getD s at 0 ≡ 45 → ⊥) → (getD s at 0 ≡ 46 → ⊥) → mark (getD s at 0) ≡ false → front names (drop at s) ≡ none
-    mark-none s at l n d m p k = rw (drop-cons s at 0 l) (front-none _ (scan-bad (getD s at 0) (drop (suc at) s) n d m p k))
+    pub mark-none : (s : List ℕ) (at : ℕ) → at < length s → NoWord (getD s at 0) → mark (getD s at 0) ≡ false → front names (drop at s) ≡ none
+    mark-none s at l w k = rw (drop-cons s at 0 l) (front-none _ (scan-other (getD s at 0) (drop (suc at) s) false w k))
 
-    pub mark-front : (s : List ℕ) (at : ℕ) (t : Token) → at < length s → nameStart (getD s at 0) ≡ false → digit (getD s at 0) ≡ false
-        → (getD s at 0 ≡ 45 → ⊥) → (getD s at 0 ≡ 46 → ⊥) → mark (getD s at 0) ≡ true → markToken (getD s at 0 ∷ []) ≡ some t
+    pub mark-front : (s : List ℕ) (at : ℕ) (t : Token) → at < length s → NoWord (getD s at 0) → mark (getD s at 0) ≡ true → markToken (getD s at 0 ∷ []) ≡ some t
         → front names (drop at s) ≡ sized 1 (some t)
     unfolding tokenOf
-    mark-front s at t l n d m p k e =
-        rw (drop-cons s at 0 l) (front-found (getD s at 0 ∷ drop (suc at) s) 1 Mark (scan-mark (getD s at 0) (drop (suc at) s) n d m p k) ∙ ap (sized 1) e)
+    mark-front s at t l w k e =
+        rw (drop-cons s at 0 l) (front-found (getD s at 0 ∷ drop (suc at) s) 1 Mark (scan-other (getD s at 0) (drop (suc at) s) true w k) ∙ ap (sized 1) e)
 
-    -- ---- what `0x` and `0b` mean
-
-    module _ (c : Class) (make : ℕ → Token) (radix : ℕ) (token-is : (u : List ℕ) → tokenOf names c u ≡ patternToken make radix u) where
-      radix-fits : (s : List ℕ) (at e v : ℕ) → at + 2 ≤ e → e ≤ length s → scan names (drop at s) ≡ some (matching (e - at) c)
-          → valueOf radix (take (e - (at + 2)) (drop (at + 2) s)) ≡ v → v < 2 ^ 64
-          → front names (drop at s) ≡ sized (e - at) (some (make v))
-      radix-fits s at e v h l q k m =
-          front-found (drop at s) (e - at) c q
-          ∙ ap (sized (e - at)) (token-is (take (e - at) (drop at s)) ∙ pattern-fits make radix _ v (ap (valueOf radix) (part-two s at e h l) ∙ k) m)
-
-      radix-large : (s : List ℕ) (at e : ℕ) → at + 2 ≤ e → e ≤ length s → scan names (drop at s) ≡ some (matching (e - at) c)
-          → 2 ^ 64 ≤ valueOf radix (take (e - (at + 2)) (drop (at + 2) s)) → front names (drop at s) ≡ none
-      unfolding sized
-      radix-large s at e h l q m =
-          front-found (drop at s) (e - at) c q
-          ∙ ap (sized (e - at)) (token-is (take (e - at) (drop at s)) ∙ pattern-large make radix _ (rw (part-two s at e h l) m))
+    -- ---- digits after `0x` and `0b`
 
     module _ (s : List ℕ) (at : ℕ) (radix : Radix) (d : Digits) (h : Prefixed s at radix) (q : Digits-are radix s (at + 2) d) where
       abbrev here : Pattern radix (getD s (at + 1) 0)
@@ -516,25 +450,37 @@ module _ (names : List Name) where
 
       -- No digit follows: `0` is the token.
       pub prefix-alone : d .end ≡ at + 2 → IsDecimal names s at
+      unfolding radixOr
       prefix-alone z =
-          let m = radix-none (getD s (at + 1) 0) (isDigitOf radix) (here .class) (here .scan-is) s at (d .end) (h .in-text) (h .is-zero) refl (q .ends) z in
+          let m = radix-at s at 0 radix here (h .in-text) (h .is-zero) (omega (arith, q .ends)) in
           let o = zero-is-digit _ (h .is-zero) in
           let y = run-yes digit s at (omega (arith, h .in-text)) o in
           let n = run-no digit s (at + 1) (h .in-text) (here .no-digit) in
-          let w : at + 1 - at ≡ run digit (drop at s) = omega (arith, rw (add-one at) at n, y) in
-          record { in-text = omega (arith, h .in-text); is-digit = o; is-number = rw w at (longest-found (drop at s) (at + 1 - at) Number m) }
+          let w : 1 ≡ run digit (drop at s) = omega (arith, rw (add-one at) at n, y) in
+          record { in-text = omega (arith, h .in-text); is-digit = o; is-number = rw w at (longest-found (drop at s) 1 Number m) }
 
       module _ (z : d .end ≡ at + 2 → ⊥) where
         scanned : scan names (drop at s) ≡ some (matching (d .end - at) (here .class))
-        scanned = radix-some (getD s (at + 1) 0) (isDigitOf radix) (here .class) (here .scan-is) s at (d .end) (h .in-text) (h .is-zero) refl (q .ends) z
+        unfolding radixOr
+        scanned =
+            let w : d .end - at ≡ suc (suc (suc (d .end - (at + 3)))) = omega (arith, q .ends) in
+            rw w (radix-at s at (suc (d .end - (at + 3))) radix here (h .in-text) (h .is-zero) (omega (arith, q .ends)))
+
+        abbrev prefix-value : ℕ
+        prefix-value = valueOf (baseOf radix) (take (d .end - (at + 2)) (drop (at + 2) s))
+
+        prefix-read : front names (drop at s) ≡ sized (d .end - at) (within (ltb prefix-value (2 ^ 64)) (here .make prefix-value))
+        unfolding patternToken
+        prefix-read =
+            front-found (drop at s) (d .end - at) (here .class) scanned
+            ∙ ap (sized (d .end - at)) (here .token-is (take (d .end - at) (drop at s)) ∙ rw (part-two s at (d .end) (q .on) (q .in-text)))
 
         pub prefix-found : (n : ℕ) → d .value ≡ Fits n → Found (record { kind = patternKind radix n; start = at; length = d .end - at }) (d .end) ≡ tokenAt names s at
         prefix-found n e =
             let u = take (d .end - at) (drop at s) in
             let (v, k) = value-fits radix s (at + 2) d q n e in
-            at-found s at (d .end) (patternKind radix n) (omega (arith, q .on)) (rw (here .kind-meant n u) (here .kind-for n u))
-            (rw (here .kind-meant n u) (radix-fits (here .class) (here .make) (baseOf radix) (here .token-is) s at (d .end) n (q .on) (q .in-text) scanned v k))
+            at-allowed s at (d .end) _ _ prefix-read (patternKind radix n) (omega (arith, q .on)) (lt-ltb prefix-value (2 ^ 64) (rw v k)) (ap (here .make) v ∙ sym (here .kind-meant n u))
+            (rw v (here .kind-for n u))
 
         pub prefix-wide : d .value ≡ TooLarge → Bad ≡ tokenAt names s at
-        prefix-wide e =
-            at-none s at (radix-large (here .class) (here .make) (baseOf radix) (here .token-is) s at (d .end) (q .on) (q .in-text) scanned (value-large radix s (at + 2) d q e))
+        prefix-wide e = at-refused s at (d .end) _ _ prefix-read (le-ltb prefix-value (2 ^ 64) (value-large radix s (at + 2) d q e))

@@ -10,14 +10,14 @@ use lib.ListN.{length, take, drop, getD, length-drop, take-append-drop, drop-of-
 use lib.Seq.{take-take, drop-cons, drop-drop, getD-drop}
 use lib.Dec.{eqb}
 use borrow.Author.Tests.{eqb-true, ne-eqb, le-leb, lt-leb}
-use Rattle.text_lexical.specs.Bytes.{between, letter, digit, hexDigit, binaryDigit, blank, edge, mark, nameStart, namePart, every, oneOrMore, before, after, find, each, run, inside, margin}
+use Rattle.text_lexical.specs.Bytes.{between, digit, hexDigit, binaryDigit, blank, edge, mark, nameStart, namePart, every, oneOrMore, before, after, find, each, run, inside, margin}
 use Rattle.text_lexical.specs.Names.{Name}
 use Rattle.text_lexical.proofs.Tests.{by-test, not-true, no-both, or-elim, both, between-true, split}
 use Rattle.text_lexical.proofs.Strings.{every-head, every-tail, every-cons, every-mono, every-take, every-run, take-run, run-le, past-run, run-stop, run-past}
 use Rattle.text.specs.Tokens.{isIdentifier, isNumber, isPrefixed, isDirective, isMark, Class, Register, Identifier, Number, Hex, Binary, Directive, Mark, isIn, classes, classOf, Match, longest, Token, Sized, sized, matched, front, infront, tokens, tokenOf}
 use Rattle.text.specs.Lines.{keptByte, trimEnd, trim, cut, content, indent}
 use Rattle.text.specs.Places.{restAt, leftAt, endAt}
-use Rattle.text.proofs.Scanning.{longest-down, register-identifier}
+use Rattle.text.proofs.Scanning.{longest-down, register-identifier, start-from, digit-from}
 use Rattle.text.proofs.Tokens.{tokens-nil, tokens-blank, tokens-front, tokens-bad}
 
 -- ---- bytes that stand in tokens
@@ -31,15 +31,10 @@ unfolding solid edge between
 high-solid b l = rw (le-leb 9 b (omega arith), lt-leb b 13 (omega arith), ne-eqb b 32 (λ e. omega arith), ne-eqb b 35 (λ e. omega arith))
 
 start-high : (b : ℕ) → nameStart b ≡ true → 36 ≤ b
-unfolding nameStart letter
-start-high b h =
-    or-elim (letter b) _ h
-    (λ k. or-elim (between 97 122 b) _ k (λ e. let r = between-true 97 122 b e in omega arith) (λ e. let r = between-true 65 90 b e in omega arith))
-    (λ e. let q = eqb-true b 95 e in omega arith)
+start-high b h = omega (arith, start-from b h)
 
 digit-high : (b : ℕ) → digit b ≡ true → 36 ≤ b
-unfolding digit
-digit-high b h = let r = between-true 48 57 b h in omega arith
+digit-high b h = omega (arith, digit-from b h)
 
 part-high : (b : ℕ) → namePart b ≡ true → 36 ≤ b
 unfolding namePart

@@ -9,10 +9,10 @@ use lib.ListN.{length, take, drop, getD, length-drop}
 use lib.Seq.{getD-take, getD-drop}
 use lib.Dec.{eqb}
 use borrow.Author.Tests.{eqb-true, eqb-false}
-use Rattle.text_lexical.specs.Bytes.{blank, mark, before, run, every, inside, margin}
+use Rattle.text_lexical.specs.Bytes.{blank, mark, run, margin}
 use Rattle.text_lexical.specs.Names.{Name}
 use Rattle.text_lexical.proofs.Tests.{by-test}
-use Rattle.text_lexical.proofs.Strings.{run-le, run-no, run-end, run-stop, take-run, every-run, every-mono}
+use Rattle.text_lexical.proofs.Strings.{run-le, run-no, run-end, run-stop}
 use Rattle.text.specs.Tokens.{Token as Meant, markToken, Sized, front, infront, tokens}
 use Rattle.text.specs.NameSets.{Naming}
 use Rattle.text.specs.Places.{leftAt, endAt}
@@ -23,19 +23,14 @@ use Rattle.text.specs.declared.lexer.Token.{Token}
 use Rattle.text.specs.declared.lexer.Scan.{Scan}
 use Rattle.text.specs.declared.lexer.Scan.the-variants.{Found, Bad, End}
 use Rattle.text.proofs.Left.{solid, digit-solid, high-solid, mark-solid, solid-plain, blank-inside, blanks-at, front-at, left-byte, solid-left, found-at, found-solid, nothing-left, none-read, left-read-bad, end-on}
-use Rattle.text.proofs.Endings.{margin-on}
+use Rattle.text.proofs.Endings.{run-within, margin-on}
 use Rattle.text.proofs.Meanings.{front-means, kind-sign}
-use Rattle.text.proofs.Fronts.{at-found, at-none, mark-front, mark-none, no-number-start, number-digit}
+use Rattle.text.proofs.Fronts.{at-found, at-none, mark-front, mark-none, number-digit}
 
 -- ---- places
 
 from-blank : (s : List ℕ) (from at : ℕ) → from ≤ length s → at ≡ from + run blank (drop from s) → endAt s at ≡ endAt s from
-from-blank s from at l q =
-    let n = run-le blank (drop from s) in
-    let k = length-drop from s in
-    let i : every inside (take (run blank (drop from s)) (drop from s)) ≡ true
-    = rw (take-run blank (drop from s)) (every-mono blank inside blank-inside (before blank (drop from s)) (every-run blank (drop from s))) in
-    ap (endAt s) q ∙ end-on s from (run blank (drop from s)) (omega arith) i
+from-blank s from at l q = run-within blank blank-inside s from at l q .2
 
 -- Past the blanks no blank stands.
 pub past-blank : (s : List ℕ) (from at : ℕ) → from ≤ length s → at ≡ from + run blank (drop from s) → at < length s → blank (getD s at 0) ≡ false
@@ -129,11 +124,8 @@ module _ (names : List Name) where
     -- ---- no token
 
     -- Neither a word nor a number nor a directive nor a mark.
-    none-front : (s : List ℕ) (at : ℕ) → at < length s → NoWord (getD s at 0) → mark (getD s at 0) ≡ false → front names (drop at s) ≡ none
-    none-front s at l w k = let (d, m) = no-number-start (getD s at 0) (w .no-number) in mark-none names ok s at l (w .no-start) d m (w .no-dot) k
-
     pub bad-step : (s : List ℕ) (at : ℕ) → at < length s → NoWord (getD s at 0) → mark (getD s at 0) ≡ false → (leftAt s at ≡ [] → ⊥) → Bad ≡ scanAt names s at
-    bad-step s at l w k f = at-none names ok s at (none-front s at l w k) ∙ stands-token s at f ∙ scan-here s at l (w .no-blank)
+    bad-step s at l w k f = at-none names ok s at (mark-none names ok s at l w k) ∙ stands-token s at f ∙ scan-here s at l (w .no-blank)
 
     -- ---- a mark
 
@@ -145,7 +137,7 @@ module _ (names : List Name) where
         let u = take (at + 1 - at) (drop at s) in
         solid-step s at _ l (mark-solid (getD s at 0) h)
         (at-found names ok s at (at + 1) k (omega arith) (ap (λ (x : Meant). kindFor x u) (m u) ∙ g u)
-        (mark-front names ok s at t l (w .no-start) (no-number-start _ (w .no-number) .0) (no-number-start _ (w .no-number) .1) (w .no-dot) h e ∙ rw (one, m (take 1 (drop at s)))))
+        (mark-front names ok s at t l w h e ∙ rw (one, m (take 1 (drop at s)))))
 
     -- ---- how the line goes on
 
