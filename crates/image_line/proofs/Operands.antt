@@ -6,16 +6,13 @@ use mathlib.Core.Bool.{true, false}
 use mathlib.Core.Option.{Option, some}
 use mathlib.Core.List.{List, [], _∷_, _++_, append-nil}
 use lib.ListN.{length, set, replicate}
-use lib.IntN.{ℤ}
-use Rattle.text_lexical.specs.Bytes.{value}
 use Rattle.text_lexical.specs.Names.{Name}
-use Rattle.text_lexical.specs.Contracts.{indexOf, wholeFor}
+use Rattle.text_lexical.specs.Contracts.{indexOf}
 use Rattle.text_lexical.specs.declared.number.Whole.{Whole}
 use Rattle.text_lexical.specs.declared.register.Register.{Register}
 use Rattle.text_lexical.specs.declared.register.Register.the-variants.{R0}
 use Rattle.text.specs.Tokens.{Token, register, infront, tokens}
 use Rattle.text.specs.Places.{leftAt, endAt}
-use Rattle.text.specs.Values.{readNumber}
 use Rattle.instruction.specs.Table.{places}
 use Rattle.instruction.specs.Operands.{readRegister}
 use Rattle.instruction.specs.Contracts.{formAt, noNumber}
@@ -24,7 +21,7 @@ use Rattle.instruction.specs.declared.form.Mark.{Mark}
 use Rattle.instruction.specs.declared.form.Mark.the-variants.{Nothing, Is}
 use Rattle.instruction.proofs.Forms.{Reading, Marking, form-room}
 use Rattle.instruction.proofs.Forms.{reading-begin as begin, reading-register as register-more, reading-number as number-more, marking-none, marking-mark, register-room, reading-end as all-read}
-use Rattle.image_line.specs.Contracts.{Reads, MarkUpTo, EndsWith, Tails}
+use Rattle.image_line.specs.Contracts.{Reads, MarkUpTo, NumberRead, EndsWith, Tails}
 use Rattle.image_line.specs.declared.fast.Tail.{Tail}
 use Rattle.image_line.specs.declared.fast.Tail.the-variants.{Are, Other as NoTail}
 
@@ -84,9 +81,14 @@ module _ {names : List Name} {s : List ℕ} {from form at left count : ℕ} {rs 
   unfolding readRegister
   register-next r q pos letter rd = record { pre = q .pre ++ (register (some (indexOf r)) ∷ []); passed = passed-more (q .passed) rd; marking = register-more (q .reading) pos letter _ r refl }
 
-  pub number-next : {t : Token} {n : Whole} {next : ℕ} → OperandsUpTo names s from form at left count rs w → 0 < left → isNumber (left % 8) ≡ true
-      → (z : ℤ) → readNumber t ≡ value z → n ≡ wholeFor z → Reads names s at t next → MarkAhead names s from form next left count rs n
-  number-next {t} {n} q pos digit z v e rd = record { pre = q .pre ++ (t ∷ []); passed = passed-more (q .passed) rd; marking = number-more (q .reading) pos digit t z n v e }
+  pub number-next : {n : Whole} {next : ℕ} → OperandsUpTo names s from form at left count rs w → 0 < left → isNumber (left % 8) ≡ true
+      → NumberRead names s at n next → MarkAhead names s from form next left count rs n
+  number-next {n} q pos digit v =
+      record {
+        pre = q .pre ++ (v .token ∷ []);
+        passed = passed-more (q .passed) (v .reads);
+        marking = number-more (q .reading) pos digit (v .token) (v .number) n (v .number-is) (v .settled);
+      }
 
   -- The mark, if one follows.
   pub mark-next : {next : ℕ} → MarkAhead names s from form at left count rs w → MarkUpTo names s at (markOf (left % 8)) next
@@ -95,7 +97,8 @@ module _ {names : List Name} {s : List ℕ} {from form at left count : ℕ} {rs 
     where
       go : (k : Mark) → markOf (left % 8) ≡ k → MarkUpTo names s at k next → OperandsUpTo names s from form next (left / 8) count rs w
       go Nothing e here = rw here (record { pre = q .pre; passed = q .passed; reading = marking-none (q .marking) e })
-      go (Is byte refusal) e (t, (b, rd)) = record { pre = q .pre ++ (t ∷ []); passed = passed-more (q .passed) rd; reading = marking-mark (q .marking) e t b }
+      go (Is byte refusal) e r =
+          record { pre = q .pre ++ (r .token ∷ []); passed = passed-more (q .passed) (r .reads); reading = marking-mark (q .marking) e (r .token) (r .mark-is) }
 
   -- No operand is left: what was read, if the line ends there.
   pub operands-end : (t : Tail) → OperandsUpTo names s from form at left count rs w → (0 < left → ⊥) → EndsWith names s at rs w t → Tails names s from form t

@@ -31,7 +31,7 @@ use Rattle.instruction.specs.Table.{Place}
 use Rattle.instruction.specs.Operands.{markByte}
 use Rattle.instruction.specs.Forms.{markOf, MarkPlace, a-comma, an-opening, a-closing, MarkPlaces, no-mark, one-mark}
 use Rattle.instruction.specs.declared.form.Mark.the-variants.{Is}
-use Rattle.image_line.specs.Contracts.{Reads, RegisterIs, upTo}
+use Rattle.image_line.specs.Contracts.{Reads, RegisterIs, upTo, MarkRead}
 
 -- ---- what a scan finds
 
@@ -151,14 +151,14 @@ one-marked : {byte n : ℕ} {ms : List Place} → MarkPlaces (Is byte n) ms → 
 one-marked (one-mark {p = p} m) = (p, m)
 
 module _ (names : List Name) (ok : Naming names) (s : List ℕ) (from at : ℕ) (fl : from ≤ length s) (q : at ≡ from + run blank (drop from s)) (l : at < length s) where
-  place-reads : {p : Place} {byte n : ℕ} → MarkPlace p byte n → getD s at 0 ≡ byte → (t : Token) × ((markByte t ≡ byte) × Reads names s from t (at + 1))
+  place-reads : {p : Place} {byte n : ℕ} → MarkPlace p byte n → getD s at 0 ≡ byte → MarkRead names s from byte (at + 1)
   unfolding mark markToken markByte
   place-reads a-comma b =
-      (comma, (refl, stepped-reads names ok s from _ (at + 1) (blank-step names s from at _ fl q l (mark-step names ok s at Comma comma l (rw b (mark-plain a-comma)) (rw b) (rw b) (λ u. refl) (λ u. refl)))))
+      record { token = comma; mark-is = refl; reads = stepped-reads names ok s from _ (at + 1) (blank-step names s from at _ fl q l (mark-step names ok s at Comma comma l (rw b (mark-plain a-comma)) (rw b) (rw b) (λ u. refl) (λ u. refl))) }
   place-reads an-opening b =
-      (opening, (refl, stepped-reads names ok s from _ (at + 1) (blank-step names s from at _ fl q l (mark-step names ok s at LParen opening l (rw b (mark-plain an-opening)) (rw b) (rw b) (λ u. refl) (λ u. refl)))))
+      record { token = opening; mark-is = refl; reads = stepped-reads names ok s from _ (at + 1) (blank-step names s from at _ fl q l (mark-step names ok s at LParen opening l (rw b (mark-plain an-opening)) (rw b) (rw b) (λ u. refl) (λ u. refl))) }
   place-reads a-closing b =
-      (closing, (refl, stepped-reads names ok s from _ (at + 1) (blank-step names s from at _ fl q l (mark-step names ok s at RParen closing l (rw b (mark-plain a-closing)) (rw b) (rw b) (λ u. refl) (λ u. refl)))))
+      record { token = closing; mark-is = refl; reads = stepped-reads names ok s from _ (at + 1) (blank-step names s from at _ fl q l (mark-step names ok s at RParen closing l (rw b (mark-plain a-closing)) (rw b) (rw b) (λ u. refl) (λ u. refl))) }
 
-  pub mark-reads : (d byte n : ℕ) → markOf d ≡ Is byte n → getD s at 0 ≡ byte → (t : Token) × ((markByte t ≡ byte) × Reads names s from t (at + 1))
+  pub mark-reads : (d byte n : ℕ) → markOf d ≡ Is byte n → getD s at 0 ≡ byte → MarkRead names s from byte (at + 1)
   mark-reads d byte n e b = let (ms, h) = marked d in let (p, m) = one-marked (rw e at h) in place-reads m b

@@ -83,10 +83,16 @@ abbrev pub NumberIs : List Name → List ℕ → ℕ → NumberAt → Type 0
 NumberIs names s at (IsNumber k next) = (u : List ℕ) × Reads names s at (tokenMeant k u) next
 NumberIs names s at NoNumber = Unit {0}
 
+-- A mark of a byte at a place.
+pub record MarkRead (names : List Name) (s : List ℕ) (at byte next : ℕ) : Type 0 where
+  pub token : Token
+  pub mark-is : markByte token ≡ byte
+  pub reads : Reads names s at token next
+
 -- The mark that follows an operand, up to a place.
 abbrev pub MarkUpTo : List Name → List ℕ → ℕ → Mark → ℕ → Type 0
 MarkUpTo names s at NoMark next = next ≡ at
-MarkUpTo names s at (IsMark byte refusal) next = (t : Token) × ((markByte t ≡ byte) × Reads names s at t next)
+MarkUpTo names s at (IsMark byte refusal) next = MarkRead names s at byte next
 
 abbrev pub AfterMarkIs : List Name → List ℕ → ℕ → Mark → AfterMark → Type 0
 AfterMarkIs names s at m (AfterAt next) = MarkUpTo names s at m next
@@ -99,10 +105,17 @@ EndIs names s at NoEnd = Unit {0}
 
 -- ---- the operands of a form
 
+-- A number at a place: no part of its answer is free.
+pub record NumberRead (names : List Name) (s : List ℕ) (at : ℕ) (w : Whole) (next : ℕ) : Type 0 where
+  pub token : Token
+  pub number : ℤ
+  pub number-is : readNumber token ≡ value number
+  pub settled : w ≡ wholeFor number
+  pub reads : Reads names s at token next
+
 -- An operand at a place: a number where one is asked for, and else a register.
 abbrev pub OperandIs : List Name → List ℕ → ℕ → Bool → OperandAt → Type 0
-OperandIs names s at numeric (NumberOperand w next) =
-    (numeric ≡ true) × ((t : Token) × ((z : ℤ) × ((readNumber t ≡ value z) × ((w ≡ wholeFor z) × Reads names s at t next))))
+OperandIs names s at numeric (NumberOperand w next) = (numeric ≡ true) × NumberRead names s at w next
 OperandIs names s at numeric (RegisterOperand r next) = (numeric ≡ false) × Reads names s at (register (some (indexOf r))) next
 OperandIs names s at numeric NoOperand = Unit {0}
 

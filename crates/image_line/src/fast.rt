@@ -107,8 +107,8 @@ fn tail_at(source: &[u8], at: usize, registers: [Register; 3], number: Whole) ->
     }
 }
 
-// The operands of a form from `from` on, up to the line's end. One loop over the places of any form: its parts are called at one place
-// each, so that all of it is compiled as one.
+// The operands of a form from `from` on, up to the line's end. One loop over the operands of any form: its parts are small, or called at
+// this place alone, so that all of it is compiled as one.
 fn read_tail(source: &[u8], from: usize, form: u8) -> Tail
     requires { ⌜ from ≤ length (now source) ⌝ }
     ensures { λ r. ⌜ Tails present (now (source .entry)) from form r ⌝ }
@@ -166,8 +166,7 @@ fn is_label(source: &[u8], at: usize, end: usize) -> bool
     true
 }
 
-// The first word from `start` on, and the label before it if there is one: two turns at most. One loop, so that `lower_word` is called at
-// one place and compiled in line.
+// The first word from `start` on, and the label before it if there is one: two turns at most. One loop, so that a word is read at one place.
 fn first_word(source: &[u8], start: usize) -> FirstWord
     requires { ⌜ start ≤ length (now source) ⌝ }
     ensures { λ r. ⌜ FirstWordIs present (now (source .entry)) start r ⌝ }

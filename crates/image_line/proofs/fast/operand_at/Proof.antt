@@ -54,7 +54,7 @@ returns-3 c =
     let i = a .before in
     let (u, rd) = rw (k .kind .given .1) at (a .number-at .ensures) in
     let (z, (v, e)) = extracted-is _ (sym (n .number .given .1) ∙ x .extract-number .ensures ∙ extracted-for (k .kind .given .0 .0) u) in
-    (sym (i .before .is-number .ensures) ∙ i .if1 .taken, (_, (z, (v, (e, rd)))))
+    (sym (i .before .is-number .ensures) ∙ i .if1 .taken, record { token = _; number = z; number-is = v; settled = e; reads = rd })
 
 register-at-requires : tie.Need-register-at-requires
 register-at-requires c κs = search needs

@@ -48,7 +48,7 @@ add-count c = omega (arith, array-set-from-registers c)
 after-mark-requires : tie.Need-after-mark-requires Inv-loop μ-loop
 after-mark-requires c κs =
     let o = c .before in
-    ⊎-elim (λ w. let (digit, (t, (z, (v, (e, rd))))) = rw (w .1 .given .1) at (o .operand-at .ensures) in rw (w .6) (rd .in-text))
+    ⊎-elim (λ w. let (digit, v) = rw (w .1 .given .1) at (o .operand-at .ensures) in rw (w .6) (v .reads .in-text))
     (λ w. let (letter, rd) = rw (w .1 .given .1) at (o .operand-at .ensures) in rw (w .6) (rd .in-text)) (c .match .came)
 
 enum-told-2 : tie.Need-enum-told-2 Inv-loop μ-loop
@@ -72,8 +72,8 @@ loop-again c =
     let k = l .before in
     let marked = rw (n .next .given .1) at (m .after-mark .ensures) in
     ⊎-elim
-    (λ w. let (digit, (t, (z, (v, (e, rd))))) = rw (w .1 .given .1) at (o .operand-at .ensures) in
-    rw (w .3, w .4, w .5) (mark-next (number-next (k .loop .inv) (l .loop-test .taken) digit z v e rd) (rw (w .6) at marked)))
+    (λ w. let (digit, v) = rw (w .1 .given .1) at (o .operand-at .ensures) in
+    rw (w .3, w .4, w .5) (mark-next (number-next (k .loop .inv) (l .loop-test .taken) digit v) (rw (w .6) at marked)))
     (λ w. let (letter, rd) = rw (w .1 .given .1) at (o .operand-at .ensures) in
     rw (w .3, w .4, w .5) (mark-next (register-next (w .1 .given .0 .0) (k .loop .inv) (l .loop-test .taken) letter rd) (rw (w .6) at marked)))
     (m .before .match .came)
