@@ -9,12 +9,10 @@ use mathlib.Core.List.{List, [], _∷_, map}
 use lib.ListN.{length, getD, length-map, List·getD-eq-default}
 use lib.Dec.{ltb, eqb}
 use borrow.Author.Tests.{ltb-true, eqb-true, eqb-false, eq-eqb, ne-eqb, not-true}
-use Rattle.text_lexical.specs.Bytes.{between, digit, letter, nameStart, namePart, lower, bytes, every, same, find, each}
+use Rattle.text_lexical.specs.Bytes.{bytes, every, same, find, each}
 use Rattle.text_lexical.specs.Contracts.{packed, keyOf}
-use Rattle.text_lexical.specs.Words.{wordKey}
 use Rattle.text_lexical.proofs.Tests.{by-test, both}
 use Rattle.text_lexical.proofs.Keys.{Below, isKeyed, byKey, found-by-key}
-use Rattle.text_lexical.proofs.Words.{found-by-word}
 use Rattle.instruction.specs.Table.{Row, row, table, rowNamed, rowCoded}
 use Rattle.instruction.specs.Contracts.{noRow, rowAt, mnemonicKeys, opcodeNumbers, slotRow, slotRowsFrom, slotRows, unusedBelow}
 use Rattle.instruction.specs.Fits.{InTable}
@@ -51,15 +49,6 @@ table-keyed = refl
 pub row-by-key : (s : List ℕ) → Below s → rowNamed s ≡ find (λ q. eqb (keyOf (q .mnemonic)) (keyOf s)) table
 unfolding rowNamed byKey
 row-by-key s h = found-by-key (λ r. r .mnemonic) table table-keyed s h
-
--- The same by a spelling's key as a word: mnemonics are words.
-table-words : each (λ r. every namePart (r .mnemonic)) table ≡ true
-unfolding each every namePart nameStart letter digit between table row bytes
-table-words = refl
-
-pub row-by-word : (u : List ℕ) → Below u → rowNamed (map lower u) ≡ find (λ q. eqb (keyOf (q .mnemonic)) (wordKey u)) table
-unfolding rowNamed byKey
-row-by-word u h = found-by-word (λ r. r .mnemonic) table table-keyed table-words u h
 
 -- ---- by a key's slot
 

@@ -11,7 +11,6 @@ use lib.Dec.{eqb}
 use borrow.Author.Tests.{eq-eqb, ne-eqb}
 use Rattle.text_lexical.specs.Bytes.{Result, value, refused, lower, find}
 use Rattle.text_lexical.specs.Contracts.{keyOf}
-use Rattle.text_lexical.specs.Words.{wordKey}
 use Rattle.text_lexical.proofs.Keys.{Below, lowered-below}
 use Rattle.text.specs.Tokens.{Token}
 use Rattle.text.specs.Lines.{Line}
@@ -27,7 +26,7 @@ use Rattle.instruction_operands.specs.declared.assembler.Operand.{Operan
 use Rattle.instruction_operands.specs.declared.assembler.Operand.the-variants.{Are, Refused}
 use Rattle.instruction.specs.declared.instruction.Operands.{Operands}
 use Rattle.instruction.proofs.Columns.{form-numbered}
-use Rattle.instruction.proofs.Lookup.{row-by-key, row-by-word}
+use Rattle.instruction.proofs.Lookup.{row-by-key}
 
 -- ---- forms
 
@@ -142,9 +141,6 @@ below-part k n s h = below-take n (drop k s) (λ j. rw (getD-drop k s j 0) (h (k
 -- A mnemonic's row is found by the key of its spelling in lower case.
 pub named-by-key : (u : List ℕ) (key : ℕ) → Below u → key ≡ keyOf (map lower u) → find (λ q. eqb (keyOf (q .mnemonic)) key) table ≡ rowNamed (map lower u)
 named-by-key u key h e = rw e (sym (row-by-key (map lower u) (lowered-below u h)))
-
-pub named-by-word : (u : List ℕ) (key : ℕ) → Below u → key ≡ wordKey u → find (λ q. eqb (keyOf (q .mnemonic)) key) table ≡ rowNamed (map lower u)
-named-by-word u key h e = rw e (sym (row-by-word u h))
 
 -- No row has the mnemonic.
 pub mnemonic-unknown : {k : Kind} {x : Result Instruction} (u : List ℕ) (count : ℕ) (ts : List Token) → k ≡ Identifier → rowNamed (map lower u) ≡ none

@@ -1,21 +1,18 @@
--- The key of the word at a place, from its first byte on, and of a spelling; entries found by it.
+-- The key of the word at a place, from its first byte on.
 use Prim.Native.Nat.{ℕ, suc, _+_, _-_, _*_, _^_, _≤_, _<_}
 use mathlib.Core.Path.{_≡_, refl, sym, ap, _∙_}
 use native.Mathlib.Nat.{pow-suc, pow-le-pow-right, mul-add, mul-assoc, mul-comm, mul-le-mul-right}
 use native.Mathlib.Omega.{arith}
 use mathlib.Core.Bool.{true, false}
 use mathlib.Core.List.{List, [], _∷_, _++_, map, map-append}
-use lib.ListN.{length, take, drop, getD, length-map, length-take, length-drop}
-use lib.Dec.{eqb}
-use lib.Seq.{drop-drop, take-all, take-length, take-suc, getD-drop}
-use borrow.Author.Tests.{le-leb, lt-leb, ne-eqb}
-use Rattle.text_lexical.specs.Bytes.{between, letter, digit, nameStart, namePart, lower, every, same, before, run, find, each}
+use lib.ListN.{length, drop, getD, length-map, length-take, length-drop}
+use lib.Seq.{drop-drop, take-suc, getD-drop}
+use borrow.Author.Tests.{le-leb, lt-leb}
+use Rattle.text_lexical.specs.Bytes.{between, namePart, lower, every, run}
 use Rattle.text_lexical.specs.Contracts.{packed, keyOf}
-use Rattle.text_lexical.specs.Words.{part, WordIs, wordKey}
-use Rattle.text_lexical.specs.declared.name.Word.{Word}
-use Rattle.text_lexical.proofs.Tests.{split, by-test, not-true, no-both, both, or-left, or-right}
-use Rattle.text_lexical.proofs.Strings.{same-eq, every-append, every-head, every-tail, every-cons, take-run, every-run, past-run, run-le, run-past, run-yes, run-no, run-end}
-use Rattle.text_lexical.proofs.Keys.{Below, isKeyed, byKey, key-pos, found-by-key, lower-below, lowered-below}
+use Rattle.text_lexical.specs.Words.{part, WordIs}
+use Rattle.text_lexical.proofs.Tests.{split, by-test, between-true}
+use Rattle.text_lexical.proofs.Strings.{every-append, every-cons, run-le, run-past, run-yes, run-no, run-end}
 
 -- A byte more after a spelling.
 packed-after : (u : List ℕ) (b : ℕ) → packed (u ++ (b ∷ [])) + 256 ^ length u ≡ packed u + 256 ^ length u * (b + 256)
@@ -25,6 +22,10 @@ packed-after (x ∷ u) b =
     let e = packed-after u b in
     let a : 256 * 256 ^ length u * (b + 256) ≡ 256 * (256 ^ length u * (b + 256)) = mul-assoc 256 (256 ^ length u) (b + 256) in
     rw (pow-suc 256 (length u)) (omega arith)
+
+pub lower-small : (b : ℕ) → b < 256 → lower b < 256
+unfolding lower
+lower-small b h = by-test (between 65 90 b) (λ e. rw (lower, e) (omega (arith, between-true 65 90 b e .1))) (λ e. rw (lower, e) h)
 
 -- The first bytes of a word, and their key so far.
 pub record Spelling (s : List ℕ) (at sum scale i : ℕ) : Type 0 where
@@ -75,7 +76,7 @@ spelling-more s at sum scale i q l k h byte =
     let e : scale ≡ 256 ^ length u = q .scale-is ∙ ap (λ (x : ℕ). 256 ^ x) (sym n) in
     let p : packed (u ++ (b ∷ [])) + scale ≡ packed u + scale * (b + 256) = rw e (packed-after u b) in
     let d : scale * (b + 256) ≡ b * scale + scale * 256 = mul-add scale b 256 ∙ ap (λ (x : ℕ). x + scale * 256) (mul-comm scale b) in
-    let w = product-small b scale (lower-below (getD s i 0) byte) in
+    let w = product-small b scale (lower-small (getD s i 0) byte) in
     record {
       on = omega (arith, q .on);
       in-text = omega arith;
@@ -117,57 +118,3 @@ spelling-long s at sum scale i end q l k h e =
       ends = omega (arith, r, q .on);
       key-is = sym (rw (keyOf, lt-leb (length (map lower (part s at (end - at)))) 7 (omega (arith, length-part s at end (omega arith) in-text))));
     }
-
--- ---- a spelling
-
-module _ (s : List ℕ) (w : Word) (is : WordIs s 0 w) where
-  -- It is a word, up to its end.
-  pub whole-word : length s ≤ w .end → w .key ≡ wordKey s
-  unfolding wordKey
-  whole-word l =
-      let n : run namePart s ≡ length s = omega (arith, is .ends, run-le namePart s) in
-      let e : before namePart s ≡ s = sym (take-run namePart s) ∙ ap (λ (k : ℕ). take k s) n ∙ take-length s in
-      let p : every namePart s ≡ true = rw e at (every-run namePart s) in
-      let t : part s 0 (w .end - 0) ≡ s = take-all (w .end - 0) s (omega arith) in
-      rw (wordKey, p) (rw t at (is .key-is))
-
-  -- Another byte follows: it is no word.
-  pub no-word : w .end < length s → 0 ≡ wordKey s
-  unfolding wordKey
-  no-word l =
-      let p : every namePart s ≡ false = rw (take-length s) at (past-run namePart s (length s) (omega (arith, is .ends)) (omega arith)) in
-      rw (wordKey, p)
-
--- ---- entries found by the key of a word
-
-part-lowered : (b : ℕ) → namePart (lower b) ≡ true → namePart b ≡ true
-unfolding lower namePart nameStart letter
-part-lowered b h =
-    by-test (between 65 90 b) (λ e. or-left (nameStart b) (digit b) (or-left (letter b) (eqb b 95) (or-right (between 97 122 b) (between 65 90 b) e))) (λ e. rw (lower, e) at h)
-
-parts-lowered : (u : List ℕ) → every namePart (map lower u) ≡ true → every namePart u ≡ true
-unfolding every
-parts-lowered [] h = refl
-parts-lowered (b ∷ u) h =
-    every-cons namePart b u (part-lowered b (every-head namePart (lower b) (map lower u) h)) (parts-lowered u (every-tail namePart (lower b) (map lower u) h))
-
-module _ {A : Type 0} (spell : A → List ℕ) where
-  -- An entry that is spelled as a word is none that is no word, and has another key.
-  none-found : (l : List A) → each (λ a. isKeyed (spell a)) l ≡ true → each (λ a. every namePart (spell a)) l ≡ true → (u : List ℕ) → every namePart u ≡ false
-      → find (λ a. same (spell a) (map lower u)) l ≡ byKey spell l 0
-  unfolding byKey find each
-  none-found [] keyed words u h = refl
-  none-found (a ∷ l) keyed words u h =
-      let (ka, kl) = both (isKeyed (spell a)) (each (λ a. isKeyed (spell a)) l) keyed in
-      let (wa, wl) = both (every namePart (spell a)) (each (λ a. every namePart (spell a)) l) words in
-      let other : same (spell a) (map lower u) ≡ false
-      = not-true (same (spell a) (map lower u)) (λ e. no-both (parts-lowered u (rw (same-eq (spell a) (map lower u) e) at wa)) h) in
-      rw (find, other, ne-eqb (keyOf (spell a)) 0 (λ e. omega (arith, key-pos (spell a) ka))) (none-found l kl wl u h)
-
-  -- An entry that is spelled as a word is found by the key of a spelling in lower case.
-  pub found-by-word : (l : List A) → each (λ a. isKeyed (spell a)) l ≡ true → each (λ a. every namePart (spell a)) l ≡ true → (u : List ℕ) → Below u
-      → find (λ a. same (spell a) (map lower u)) l ≡ byKey spell l (wordKey u)
-  unfolding wordKey
-  found-by-word l keyed words u h =
-      by-test (every namePart u) (λ e. rw (wordKey, e) (found-by-key spell l keyed (map lower u) (lowered-below u h)))
-      (λ e. rw (wordKey, e) (none-found l keyed words u e))

@@ -1,10 +1,9 @@
--- Words: the one at a place of a text, where it ends, and its key. A word's bytes are parts of a name.
+-- The word at a place of a text: where it ends, and its key. A word's bytes are parts of a name.
 use Prim.Native.Nat.{ℕ, _+_, _-_}
 use mathlib.Core.Path.{_≡_}
-use mathlib.Core.Bool.{true, false}
 use mathlib.Core.List.{List, map}
 use lib.ListN.{take, drop}
-use Rattle.text_lexical.specs.Bytes.{namePart, lower, every, run}
+use Rattle.text_lexical.specs.Bytes.{namePart, lower, run}
 use Rattle.text_lexical.specs.Contracts.{keyOf}
 use Rattle.text_lexical.specs.declared.name.Word.{Word}
 
@@ -19,7 +18,3 @@ part s at n = take n (drop at s)
 pub record WordIs (s : List ℕ) (at : ℕ) (w : Word) : Type 0 where
   pub ends : w .end ≡ wordEnd s at
   pub key-is : w .key ≡ keyOf (map lower (part s at (w .end - at)))
-
--- The key of a spelling that is a word, in lower case; 0 if it is none, which is the key of no mnemonic.
-unfoldable pub wordKey : List ℕ → ℕ
-wordKey u = elim (every namePart u) [ true ↦ keyOf (map lower u) | false ↦ 0 ]

@@ -1,12 +1,13 @@
 // Register names, looked up by their bytes, and the packed keys by which other words are told apart.
 ghost use mathlib.Core.Path.{_≡_};
-ghost use mathlib.Core.List.{[], _∷_};
+ghost use mathlib.Core.List.{[], _∷_, map};
 ghost use mathlib.Core.Option.{some};
 ghost use Prim.Native.Nat.{_≤_};
 ghost use lib.ListN.{length};
+ghost use Rattle.text_lexical.specs.Bytes.{lower};
 ghost use Rattle.text_lexical.specs.Names.{named, present};
-ghost use Rattle.text_lexical.specs.Contracts.{nameMeant, nameNumber, registerNumber};
-ghost use Rattle.text_lexical.specs.Words.{WordIs, wordKey};
+ghost use Rattle.text_lexical.specs.Contracts.{keyOf, nameMeant, nameNumber, registerNumber};
+ghost use Rattle.text_lexical.specs.Words.{WordIs};
 use crate::bytes::Class;
 use crate::register::Register;
 
@@ -120,6 +121,22 @@ pub fn parse_register(name: &[u8]) -> RegisterName
     RegisterName::Other
 }
 
+// The key of a spelling in lower case: its bytes, the first lowest, with a 1 after them; 0 where there are more than seven.
+pub fn lower_key(spelling: &[u8]) -> u64
+    ensures { λ r. ⌜ r ≡ keyOf (map lower (now (spelling .entry))) ⌝ }
+{
+    if 7 < spelling.len() {
+        return 0;
+    }
+    let mut key: u64 = 1;
+    let mut i = spelling.len();
+    while 0 < i {
+        i -= 1;
+        key = key * 256 + crate::number::wide(crate::bytes::to_lower(spelling[i]));
+    }
+    key
+}
+
 // The word at `at`: its key in lower case, and its end. It has no byte where no part of a name stands.
 pub fn lower_word(text: &[u8], at: usize) -> Word
     requires { ⌜ at ≤ length (now text) ⌝ }
@@ -151,16 +168,4 @@ pub fn lower_word(text: &[u8], at: usize) -> Word
         key: sum + scale,
         end: i,
     }
-}
-
-// The key of a spelling that is a word, in lower case: its bytes, the first lowest, with a 1 after them; 0 where there are more than seven,
-// and where a byte is no part of a name.
-pub fn lower_key(spelling: &[u8]) -> u64
-    ensures { λ r. ⌜ r ≡ wordKey (now (spelling .entry)) ⌝ }
-{
-    let word = lower_word(spelling, 0);
-    if word.end < spelling.len() {
-        return 0;
-    }
-    word.key
 }

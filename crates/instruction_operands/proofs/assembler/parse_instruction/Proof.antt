@@ -9,7 +9,7 @@ use denote.Enum.Declared.{tagOf}
 use types.Run.{OneOf, miss}
 use borrow.Author.Needs.{needs}
 use Rattle.text_lexical.specs.Bytes.{refused, lower}
-use Rattle.text_lexical.specs.Words.{wordKey}
+use Rattle.text_lexical.specs.Contracts.{keyOf}
 use Rattle.text.specs.Tokens.{Token as MeantToken}
 use Rattle.text.specs.Contracts.{kindMeant, spelling, meant, firsts, filler}
 use Rattle.text.specs.declared.lexer.Kind.{Kind}
@@ -19,7 +19,7 @@ use Rattle.text.proofs.lexer.Kind as kind
 use Rattle.instruction.specs.Table.{rowNamed}
 use Rattle.instruction.specs.Operands.{readIdentifier, readMnemonic, readInstruction, behind}
 use Rattle.instruction.specs.Contracts.{rowAt, formNumbers, IsRow}
-use Rattle.instruction_operands.proofs.Line.{getD-any, first-none, first-some, below-part, named-by-word, mnemonic-unknown, mnemonic-known}
+use Rattle.instruction_operands.proofs.Line.{getD-any, first-none, first-some, below-part, named-by-key, mnemonic-unknown, mnemonic-known}
 use Rattle.instruction.proofs.Columns.{form-column}
 use Rattle.instruction_operands.proofs.assembler.parse_instruction.Statement.{statement}
 use Rattle.instruction_operands.proofs.assembler.parse_instruction.Tie as tie
@@ -114,8 +114,8 @@ named c =
     let a = s .before .args in
     let t = getD (a .line .tokens) (a .at) past in
     let n : t .start + t .length - t .start ≡ t .length = omega arith in
-    let e = ap (λ (n : ℕ). wordKey (take n (drop (t .start) (a .source .now)))) n in
-    rw (← named-by-word (spelling (a .source .now) t) (k .lower-key .result) (below-part (t .start) (t .length) (a .source .now) (λ i. omega (arith, s .shared-slice-known .given i))) (k .lower-key .ensures ∙ e))
+    let e = ap (λ (n : ℕ). keyOf (map lower (take n (drop (t .start) (a .source .now))))) n in
+    rw (← named-by-key (spelling (a .source .now) t) (k .lower-key .result) (below-part (t .start) (t .length) (a .source .now) (λ i. omega (arith, s .shared-slice-known .given i))) (k .lower-key .ensures ∙ e))
     (c .find-mnemonic .ensures)
 
 found-row : (c : tie.After-row) → let a = c .before .before .before .before .before .before .before .before .before .before .before .before .args in

@@ -5,8 +5,7 @@ use native.Mathlib.Omega.{arith}
 use lib.ListN.{length, getD}
 use borrow.Author.Needs.{needs}
 use borrow.Author.Tests.{not-true, not-false}
-use Rattle.text_lexical.proofs.Words.{Spelling, spelling-begin, spelling-more, spelling-long, spelling-ends, scale-small, scale-fits, product-small}
-use Rattle.text_lexical.proofs.Keys.{lower-below}
+use Rattle.text_lexical.proofs.Words.{Spelling, spelling-begin, spelling-more, spelling-long, spelling-ends, scale-small, scale-fits, product-small, lower-small}
 use Rattle.text_lexical.proofs.name.lower_word.Statement.{statement}
 use Rattle.text_lexical.proofs.name.lower_word.Tie as tie
 
@@ -73,7 +72,7 @@ bounds c =
       scale-small (b .args .text .now) (b .args .at) (k .loop .sum) (k .loop .scale) i (k .loop .inv) (omega (arith, e .if2 .left)),
       (
         k .loop .inv .small,
-        product-small (c .wide .result) (k .loop .scale) (omega (arith, c .wide .ensures, c .before .to-lower .ensures, lower-below (getD (b .args .text .now) i 0) (omega (arith, p .before .shared-slice-known2 .given i)))),
+        product-small (c .wide .result) (k .loop .scale) (omega (arith, c .wide .ensures, c .before .to-lower .ensures, lower-small (getD (b .args .text .now) i 0) (omega (arith, p .before .shared-slice-known2 .given i)))),
       ),
     )
 
