@@ -104,7 +104,7 @@ module _ (s : List ℕ) (at end : ℕ) (l : at < length s) (start : nameStart (g
         stepped-reads names ok s at (record { kind = Identifier; start = at; length = end - at }) end (solid-step names s at _ l (start-solid _ start) (word-at names ok s at end Other l start (omega (arith, word-goes)) (sym n)))
 
     -- A row that is found by the key of the word.
-    pub mnemonic-reads : NoMnemonics names → (key i : ℕ) (r : Looked) → Below s → key ≡ keyOf (map lower (part s at (end - at))) → IsRow r (find (λ q. eqb (keyOf (q .mnemonic)) key) table) → r ≡ At i
+    mnemonic-reads : NoMnemonics names → (key i : ℕ) (r : Looked) → Below s → key ≡ keyOf (map lower (part s at (end - at))) → IsRow r (find (λ q. eqb (keyOf (q .mnemonic)) key) table) → r ≡ At i
         → (i < 50) × ((rowNamed (map lower (part s at (end - at))) ≡ some (rowAt i)) × Reads names s at (identifier (part s at (end - at))) end)
     mnemonic-reads free key i r below k row f =
         let u = part s at (end - at) in
@@ -112,7 +112,7 @@ module _ (s : List ℕ) (at end : ℕ) (l : at < length s) (start : nameStart (g
         (in-table, (n, name-reads (unnamed names free u (named names u) refl (some-row _ _ n))))
 
     -- A colon after a name that is no register's.
-    pub label-reads : end < length s → getD s end 0 ≡ 58 → nameNumber (named names (part s at (end - at))) ≡ none → Labels names s at end (end + 1)
+    label-reads : end < length s → getD s end 0 ≡ 58 → nameNumber (named names (part s at (end - at))) ≡ none → Labels names s at end (end + 1)
     label-reads h c n = record { name = name-reads n; mark = colon-reads names ok s end h c }
 
 -- Whether a word is a label, by the byte after it and by its name.

@@ -5,7 +5,7 @@ use native.Mathlib.Omega.{arith}
 use native.Mathlib.Numerals.{add-one}
 use mathlib.Core.Bool.{Bool, true, false}
 use mathlib.Core.Option.{Option, none, some}
-use mathlib.Core.List.{List, [], _∷_, _++_}
+use mathlib.Core.List.{List, [], _∷_}
 use lib.ListN.{length, take, drop, getD, length-drop}
 use lib.Seq.{drop-cons, drop-drop}
 use Rattle.text_lexical.specs.Bytes.{between, letter, digit, mark, nameStart, namePart, blank, inside, every, before, run, isSome}
@@ -14,8 +14,8 @@ use Rattle.text_lexical.specs.Contracts.{indexOf, nameMeant, nameNumber}
 use Rattle.text_lexical.specs.declared.register.Register.{Register}
 use Rattle.text_lexical.specs.declared.name.RegisterName.{RegisterName}
 use Rattle.text_lexical.specs.declared.name.RegisterName.the-variants.{Is as Named, NoSuch, Other}
-use Rattle.text_lexical.proofs.Tests.{split, both}
-use Rattle.text_lexical.proofs.Strings.{every-head, every-tail, every-mono, every-run, take-run, run-past, run-no, run-end, run-le}
+use Rattle.text_lexical.proofs.Tests.{both}
+use Rattle.text_lexical.proofs.Strings.{every-mono, every-run, take-run, run-past, run-no, run-le}
 use Rattle.text.specs.Tokens.{Token, isIdentifier, isRegister, register, comma, colon, opening, closing, markToken, infront, tokens}
 use Rattle.text.specs.NameSets.{Naming}
 use Rattle.text.specs.Places.{leftAt, endAt}
@@ -71,24 +71,15 @@ four-bytes s at h =
     let w : at + 3 ≡ suc (suc (suc at)) = omega arith in
     rw (drop-cons s at 0 (omega arith), drop-cons s (suc at) 0 (omega arith), drop-cons s (suc (suc at)) 0 (omega arith), drop-cons s (suc (suc (suc at))) 0 (omega arith), add-one at, v, w)
 
--- A run that has been passed, behind which a byte of another class stands, or none.
-pub run-to : (p : ℕ → Bool) (s : List ℕ) (at e : ℕ) → at ≤ e → e ≤ length s → every p (take (e - at) (drop at s)) ≡ true → (e < length s → p (getD s e 0) ≡ false)
+-- A run that has been passed, after which a byte of another class stands.
+run-is : (p : ℕ → Bool) (s : List ℕ) (at e : ℕ) → at ≤ e → e < length s → every p (take (e - at) (drop at s)) ≡ true → p (getD s e 0) ≡ false
     → e ≡ at + run p (drop at s)
-run-to p s at e h l f g =
+run-is p s at e h l f g =
     let d = length-drop at s in
     let a = run-past p (e - at) (drop at s) (omega arith) f in
     let q : at + (e - at) ≡ e = omega arith in
-    let z : run p (drop (e - at) (drop at s)) ≡ 0 = rw (drop-drop (e - at) at s, q) (split e (length s) (λ i. run-no p s e i (g i)) (λ i. run-end p s e i)) in
+    let z : run p (drop (e - at) (drop at s)) ≡ 0 = rw (drop-drop (e - at) at s, q) (run-no p s e l g) in
     omega arith
-
-pub run-is : (p : ℕ → Bool) (s : List ℕ) (at e : ℕ) → at ≤ e → e < length s → every p (take (e - at) (drop at s)) ≡ true → p (getD s e 0) ≡ false
-    → e ≡ at + run p (drop at s)
-run-is p s at e h l f g = run-to p s at e h (omega arith) f (λ _. g)
-
-pub every-more : (p : ℕ → Bool) (u : List ℕ) (b : ℕ) → every p u ≡ true → p b ≡ true → every p (u ++ (b ∷ [])) ≡ true
-unfolding every
-every-more p [] b h e = rw (every, e)
-every-more p (x ∷ u) b h e = rw (every, every-head p x u h) (every-more p u b (every-tail p x u h) e)
 
 -- ---- registers
 
@@ -103,7 +94,7 @@ unfolding isIdentifier
 identifier-parts b t h = both (nameStart b) (every namePart t) h
 
 -- The bytes from a place on that name a register, with no part of a name behind them.
-pub register-reads : (names : List Name) (ok : Naming names) (s : List ℕ) (from at e : ℕ) (r : Register) → from ≤ length s → at ≡ from + run blank (drop from s) → at < e → e < length s
+register-reads : (names : List Name) (ok : Naming names) (s : List ℕ) (from at e : ℕ) (r : Register) → from ≤ length s → at ≡ from + run blank (drop from s) → at < e → e < length s
     → namePart (getD s e 0) ≡ false → nameNumber (named names (take (e - at) (drop at s))) ≡ some (some (indexOf r))
     → Reads names s from (register (some (indexOf r))) e
 unfolding isRegister

@@ -50,12 +50,12 @@ module _ (s : List ℕ) (ts : List Token) (count : ℕ) where
   firsts-length = rw (length-map (take count ts) (meant s), length-take count ts) (omega arith)
 
   -- After some of them, the next one and what follows it.
-  pub token-at : (i : ℕ) → i < count → i < length ts → drop i (firsts s ts count) ≡ meant s (getD ts i filler) ∷ drop (suc i) (firsts s ts count)
+  token-at : (i : ℕ) → i < count → i < length ts → drop i (firsts s ts count) ≡ meant s (getD ts i filler) ∷ drop (suc i) (firsts s ts count)
   token-at i h l =
       let n : i < length (firsts s ts count) = rw (length-map (take count ts) (meant s), length-take count ts) (omega arith) in
       drop-cons (firsts s ts count) i (meant s filler) n ∙ rw (List·getD-map (meant s) (take count ts) i filler, getD-take count ts i filler h)
 
-  pub tokens-end : (i : ℕ) → count ≤ i → drop i (firsts s ts count) ≡ []
+  tokens-end : (i : ℕ) → count ≤ i → drop i (firsts s ts count) ≡ []
   tokens-end i h = drop-of-length-le (firsts s ts count) {i = i} (omega (arith, firsts-length))
 
   -- The line's kind by its first tokens.
@@ -79,7 +79,7 @@ module _ (s : List ℕ) (ts : List Token) (count : ℕ) where
     kind-second u k e h g = first-is k (rw (e, token-at 1 (omega arith) (omega arith)) (sym g))
 
     -- A directive.
-    pub kind-directive : (d : List ℕ) (b : Bool) → meant s (getD ts 0 filler) ≡ directive d → same d (bytes "config") ≡ b
+    kind-directive : (d : List ℕ) (b : Bool) → meant s (getD ts 0 filler) ≡ directive d → same d (bytes "config") ≡ b
         → elim b [ true ↦ config | false ↦ ignored ] ≡ kindOf (firsts s ts count)
     unfolding kindOf
     kind-directive d b e g = first-is (elim b [ true ↦ config | false ↦ ignored ]) (rw (e, kindOf, g))
