@@ -1,5 +1,7 @@
 -- `test_words::calls::read` meets its contract: the record that `tokenize` makes is one that `parse_instruction` takes.
 use borrow.Author.Needs.{needs}
+use Rattle.text_lexical.specs.Names.{present}
+use Rattle.text.proofs.NameSets.{present-naming}
 use Rattle.text.proofs.Recording.{line-read}
 use Rattle.instruction_operands.specs.Contracts.{Kept}
 use Rattle.test_words.proofs.calls.read.Statement.{statement}
@@ -12,7 +14,7 @@ tokenize-requires c κs = search needs
 kept : (c : tie.After-tokenize) → Kept (c .before .before .args .text .now) (c .tokenize .result)
 kept c =
     let a = c .before .before .args in
-    let r = line-read (a .text .now) (a .from) (c .tokenize .result) (c .tokenize .ensures) in
+    let r = line-read present present-naming (a .text .now) (a .from) (c .tokenize .result) (c .tokenize .ensures) in
     record { places = r .places; inside-text = r .inside-text }
 
 returns : tie.Need-returns
