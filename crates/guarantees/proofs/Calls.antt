@@ -7,12 +7,12 @@ use mathlib.Core.List.{List, [], map}
 use native.Mathlib.Omega.{arith}
 use lib.ListN.{length, take}
 use Rattle.text_lexical.specs.Names.{Name}
-use Rattle.image.specs.Settings.{Settings, settings}
+use Rattle.image.specs.Settings.{settings}
 use Rattle.image.specs.Assembling.{Assembled as Reading, accepted, rejected, assembling}
 use Rattle.image.specs.Listing.{textOf, Listing as Written, written, rejected as unwritten, listing}
 use Rattle.image.specs.Meaning.{instructionsOf, settingsOf, imageOf, isAccepted, Accepted, isWritten, Listed}
+use Rattle.image.specs.Contracts.{configFor}
 use Rattle.image.specs.Lent.{over, Answer, assembled, answerOf, entered, imageAfter, ListAnswer, listed, listAnswerOf, textAfter}
-use Rattle.image.specs.declared.config.Config.{Config}
 use Rattle.image_labels.specs.Contracts.{entryOf}
 use Rattle.image_labels.specs.declared.label.Label.{Label as Entry}
 use Rattle.image_assembler.specs.declared.assembler.Assembled.{Assembled}
@@ -76,9 +76,6 @@ filled-tell : {names names′ : List Name} {source source′ : List ℕ} {P : Ty
 filled-tell c c′ (to, from) = (λ e. to (sym (filled-image c) ∙ e ∙ filled-image c′), λ p. filled-image c ∙ from p ∙ sym (filled-image c′))
 
 -- A source that is accepted with a table and an image buffer has such a call, since what the contract promises of one are equations.
-abbrev configOf : Settings → Config
-configOf s = record { «limb_bits» = s .limb-bits; «data_limbs» = s .data-limbs; «addr_limbs» = s .addr-limbs }
-
 accepted-is-called : (names : List Name) (source : List ℕ) (table : List Entry) (image : List ℕ) → Accepted names source (length table) (length image) → AcceptedCall names source
 unfolding answerOf settings
 accepted-is-called names source table image k =
@@ -90,7 +87,7 @@ accepted-is-called names source table image k =
       image = image;
       table′ = over (map entryOf (entered w)) table;
       image′ = imageAfter names source w image;
-      answer = IsAssembled (length (st .instructions)) (length (st .labels)) (configOf (st .setup));
+      answer = IsAssembled (length (st .instructions)) (length (st .labels)) (configFor (st .setup));
       promised = record { answer = sym (ap answerOf (a .answer)); table-holds = refl; image-holds = refl };
       not-refused = λ r. r;
     }

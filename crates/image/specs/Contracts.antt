@@ -24,6 +24,10 @@ use Rattle.image.specs.declared.program.Opened.the-variants.{Is as IsOpe
 abbrev pub settingsMeant : Config → Settings
 settingsMeant c = settings (c .«limb_bits») (c .«data_limbs») (c .«addr_limbs»)
 
+-- The code's value for settings.
+abbrev pub configFor : Settings → Config
+configFor s = record { «limb_bits» = s .limb-bits; «data_limbs» = s .data-limbs; «addr_limbs» = s .addr-limbs }
+
 abbrev pub faultMeant : Checked → Option ℕ
 faultMeant Good = none
 faultMeant (RefusedCheck n) = some n

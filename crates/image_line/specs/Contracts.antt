@@ -34,7 +34,7 @@ use Rattle.instruction_operands.specs.Contracts.{Kept}
 use Rattle.instruction.specs.Kinds.{Kind, empty, labelled, config, ignored, plain, kindOf}
 use Rattle.image.specs.Settings.{Settings}
 use Rattle.image.specs.Assembling.{Context, Effect as MeantEffect, nothing, sets, codes, faulty, Read as MeantRead, readOn}
-use Rattle.image.specs.Contracts.{settingsMeant, recordMeant}
+use Rattle.image.specs.Contracts.{settingsMeant, configFor, recordMeant}
 use Rattle.image.specs.declared.config.Config.{Config}
 use Rattle.image_line.specs.declared.operand.RegisterAt.{RegisterAt}
 use Rattle.image_line.specs.declared.operand.RegisterAt.the-variants.{Is as IsRegister, Other as NoRegister}
@@ -235,9 +235,6 @@ pub record StartsAt (s : List ℕ) (at : ℕ) : Type 0 where
 unfoldable pub placeIn : List Row → List ℕ → ℕ
 placeIn [] u = 0
 placeIn (r ∷ rs) u = elim (same (r .mnemonic) u) [ true ↦ 0 | false ↦ suc (placeIn rs u) ]
-
-abbrev pub configFor : Settings → Config
-configFor s = record { «limb_bits» = s .limb-bits; «data_limbs» = s .data-limbs; «addr_limbs» = s .addr-limbs }
 
 -- The effect that is answered for one: of an instruction the row's place in the table, and R0 and 0 for operands that it has not.
 abbrev pub effectFor : MeantEffect → Effect

@@ -22,8 +22,8 @@ use Rattle.image.specs.Settings.{Settings, settings, begin}
 use Rattle.image.specs.Program.{headerBytes, headerFor, header-size, image, imageLength}
 use Rattle.image.specs.Assembling.{Label, State, start, Step, next, stop, readOn, entering, doing, step, contextOf, Walk, finished, stopped, walk, Refusal, Assembled, accepted, rejected, refusing, readTo, most-bytes, reading}
 use Rattle.image.specs.Meaning.{instructionsOf, settingsOf, imageOf}
-use Rattle.image.specs.Contracts.{settingsMeant}
-use Rattle.image_passes.specs.Contracts.{allRead, codeBytes, configFor, refusedAt, firstLine, begun, Begins, Accepts, WalkEnds, Ready, Fills}
+use Rattle.image.specs.Contracts.{settingsMeant, configFor}
+use Rattle.image_passes.specs.Contracts.{allRead, codeBytes, refusedAt, firstLine, begun, Begins, Accepts, WalkEnds, Ready, Fills}
 use Rattle.image.specs.declared.config.Config.{Config}
 use Rattle.image_passes.specs.declared.first_pass.Next.{Next}
 use Rattle.image_passes.specs.declared.first_pass.Next.the-variants.{From, Ended as NextEnded}

@@ -20,7 +20,7 @@ use Rattle.instruction.specs.Words.{wordOf}
 use Rattle.instruction.specs.Contracts.{partsMeant}
 use Rattle.instruction.specs.declared.instruction.Operands.{Operands}
 use Rattle.image_line.specs.Contracts.{contextFor, effectMeant, endOf, LineIs}
-use Rattle.image_passes.specs.Contracts.{effectAt, configFor, oneMore, restFor, RestFits, CodesLine}
+use Rattle.image_passes.specs.Contracts.{effectAt, oneMore, restFor, RestFits, CodesLine}
 use Rattle.image.specs.declared.config.Config.{Config}
 use Rattle.image_line.specs.declared.line.Effect.{Effect}
 use Rattle.image_line.specs.declared.line.Effect.the-variants.{Nothing, Sets, Codes, Faulty}

@@ -18,7 +18,7 @@ use Rattle.image.specs.Program.{imageLength}
 use Rattle.image.specs.Assembling.{Label as Meant, State, Effect as MeantEffect, nothing, sets, codes, faulty, Read as MeantRead, readOn, changedBy, most-words, rustLine, refusing, most-bytes, reading, accepted}
 use Rattle.image.specs.Lent.{over}
 use Rattle.image.specs.Meaning.{codedBy, instructionsOf, settingsOf, imageOf}
-use Rattle.image.specs.Contracts.{settingsMeant}
+use Rattle.image.specs.Contracts.{settingsMeant, configFor}
 use Rattle.image.specs.declared.config.Config.{Config}
 use Rattle.image_labels.specs.Contracts.{InText}
 use Rattle.image_labels.specs.declared.label.Entered.{Entered}
@@ -42,9 +42,6 @@ use Rattle.image_passes.specs.declared.second_pass.Coded.the-variants.{W
 use Rattle.image_passes.specs.declared.second_pass.CodedLine.{CodedLine}
 
 -- ---- what a line comes to
-
-abbrev pub configFor : Settings → Config
-configFor s = record { «limb_bits» = s .limb-bits; «data_limbs» = s .data-limbs; «addr_limbs» = s .addr-limbs }
 
 -- What a line reads as, and what it does, where the settings are these.
 abbrev pub readAt : List Name → List ℕ → ℕ → Settings → MeantRead
