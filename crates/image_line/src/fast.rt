@@ -116,10 +116,7 @@ fn read_tail(source: &[u8], from: usize, form: u8) -> Tail
     let none = Register::R0;
     let mut registers = [none; 3];
     let mut count = 0;
-    let mut number = Whole {
-        negative: false,
-        magnitude: 0,
-    };
+    let mut number = instruction::instruction::no_number();
     let mut at = from;
     let mut left = instruction::form::operands_of(form);
     while 0 < left {

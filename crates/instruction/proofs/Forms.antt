@@ -24,9 +24,40 @@ use Rattle.text.specs.Values.{readNumber}
 use Rattle.instruction.specs.Table.{Place, reg, num, comma-place, opening-place, closing-place, Form, R, I, Shift, Load, Store, Branch, Jump, System, places}
 use Rattle.instruction.specs.Operands.{Operands, noOperands, withRegister, withNumber, readRegister, markByte, readPlace, readOperands}
 use Rattle.instruction.specs.Contracts.{noNumber, operands, wholeOr, registersOf, operandsMeant, registersFor, numberFor, SettledFor}
-use Rattle.instruction.specs.Forms.{isNumber, markOf, OperandPlace, number-place, register-place, MarkPlace, a-comma, an-opening, a-closing, MarkPlaces, no-mark, one-mark, Ahead, no-more, operand}
+use Rattle.instruction.specs.Forms.{digitsFor, isNumber, markOf, OperandPlace, number-place, register-place, MarkPlace, a-comma, an-opening, a-closing, MarkPlaces, no-mark, one-mark, Ahead, no-more, operand}
 use Rattle.instruction.specs.declared.instruction.Operands.{Operands as KeptOperands}
 use Rattle.instruction.specs.declared.form.Mark.the-variants.{Nothing, Is}
+
+-- ---- the digits of each form
+
+-- Forms that have their operands in common, wherever these go to in a word.
+jumping : {x z width : ℕ} {signed : Bool} → Ahead (reg x ∷ comma-place ∷ num z width signed ∷ []) 0o51
+unfolding isNumber markOf
+jumping = operand {left = 0o51} (omega arith) register-place (one-mark a-comma) (operand {left = 0o5} (omega arith) number-place no-mark (no-more refl) refl) refl
+
+immediate : {x y z width : ℕ} {signed : Bool} → Ahead (reg x ∷ comma-place ∷ reg y ∷ comma-place ∷ num z width signed ∷ []) 0o511
+unfolding isNumber markOf
+immediate = operand {left = 0o511} (omega arith) register-place (one-mark a-comma) jumping refl
+
+memory : {x y z width : ℕ} {signed : Bool} → Ahead (reg x ∷ comma-place ∷ num z width signed ∷ opening-place ∷ reg y ∷ closing-place ∷ []) 0o321
+unfolding isNumber markOf
+memory =
+    operand {left = 0o321} (omega arith) register-place (one-mark a-comma)
+    (operand {left = 0o32} (omega arith) number-place (one-mark an-opening) (operand {left = 0o3} (omega arith) register-place (one-mark a-closing) (no-more refl) refl) refl) refl
+
+-- The digits of a form describe its places.
+pub form-ahead : (f : Form) → Ahead (places f) (digitsFor f)
+unfolding places digitsFor isNumber markOf
+form-ahead R =
+    operand {left = 0o411} (omega arith) register-place (one-mark a-comma)
+    (operand {left = 0o41} (omega arith) register-place (one-mark a-comma) (operand {left = 0o4} (omega arith) register-place no-mark (no-more refl) refl) refl) refl
+form-ahead I = immediate
+form-ahead Shift = immediate
+form-ahead Load = memory
+form-ahead Store = memory
+form-ahead Branch = immediate
+form-ahead Jump = jumping
+form-ahead System = no-more refl
 
 -- ---- registers and numbers of places
 

@@ -6,12 +6,23 @@ use mathlib.Core.Bool.{Bool, true, false, _||_}
 use mathlib.Core.List.{List, [], _∷_, _++_}
 use lib.ListN.{getD}
 use lib.Dec.{eqb}
-use Rattle.instruction.specs.Table.{Place, reg, num, comma-place, opening-place, closing-place}
+use Rattle.instruction.specs.Table.{Place, reg, num, comma-place, opening-place, closing-place, Form, R, I, Shift, Load, Store, Branch, Jump, System}
 use Rattle.instruction.specs.declared.form.Mark.{Mark}
 use Rattle.instruction.specs.declared.form.Mark.the-variants.{Nothing, Is}
 
--- The digits: 1 a register and a comma, 2 a number and an opening, 3 a register and a closing, 4 a register, 5 a number. Whether a
--- digit is a number's, and the mark after its operand.
+-- The digits: 1 a register and a comma, 2 a number and an opening, 3 a register and a closing, 4 a register, 5 a number. The operands of
+-- each form, the first lowest.
+unfoldable pub digitsFor : Form → ℕ
+digitsFor R = 0o411
+digitsFor I = 0o511
+digitsFor Shift = 0o511
+digitsFor Load = 0o321
+digitsFor Store = 0o321
+digitsFor Branch = 0o511
+digitsFor Jump = 0o51
+digitsFor System = 0
+
+-- Whether a digit is a number's, and the mark after its operand.
 unfoldable pub isNumber : ℕ → Bool
 isNumber d = eqb d 2 || eqb d 5
 

@@ -1,9 +1,8 @@
 // The operands of a form, described once: which operands it has, and which mark follows each. Whoever reads operands goes through this
 // description from left to right.
 ghost use mathlib.Core.Path.{_≡_};
-ghost use Rattle.instruction.specs.Table.{places};
 ghost use Rattle.instruction.specs.Contracts.{formAt};
-ghost use Rattle.instruction.specs.Forms.{Ahead, isNumber, markOf};
+ghost use Rattle.instruction.specs.Forms.{digitsFor, isNumber, markOf};
 use crate::opcode::SYSTEM;
 
 // The mark that follows an operand: its byte, and the number of the refusal where something else stands there.
@@ -15,7 +14,7 @@ pub enum Mark {
 // The operands of a form, a digit each, the first lowest: 1 `r,`, 2 `n(`, 3 `r)`, 4 `r`, 5 `n`. They are looked up: forms follow each
 // other in no order, and a branch for each would often be guessed wrong.
 pub fn operands_of(form: u8) -> u32
-    ensures { λ r. ⌜ Ahead (places (formAt form)) r ⌝ }
+    ensures { λ r. ⌜ r ≡ digitsFor (formAt form) ⌝ }
 {
     let operands = [0o411, 0o511, 0o511, 0o321, 0o321, 0o511, 0o51];
     if form < SYSTEM {

@@ -7,13 +7,13 @@ use mathlib.Core.List.{List, [], _∷_, _++_}
 use lib.IntN.{ℤ}
 use Rattle.text_lexical.specs.Bytes.{Result, value, refused}
 use Rattle.text_lexical.specs.Numbers.{meantBy}
-use Rattle.text_lexical.specs.Contracts.{indexOf}
+use Rattle.text_lexical.specs.Contracts.{indexOf, wholeMeant, wholeFor}
 use Rattle.text_lexical.specs.declared.register.Register.{Register}
 use Rattle.instruction.specs.Table.{Form, places}
 use Rattle.instruction.specs.Operands.{Instruction as Meant}
 use Rattle.instruction.specs.Text.{registerText, operandsText}
-use Rattle.instruction.specs.Words.{fields}
-use Rattle.instruction.specs.Contracts.{rowAt, instructionMeant}
+use Rattle.instruction.specs.Words.{fields, instructionOf}
+use Rattle.instruction.specs.Contracts.{rowAt, partsOf, instructionMeant}
 use Rattle.instruction_codec.specs.declared.encoder.Decoded.{Decoded}
 use Rattle.instruction_codec.specs.declared.encoder.Decoded.the-variants.{Is as IsDecoded, Refused as RefusedDecoded}
 
@@ -23,6 +23,16 @@ use Rattle.instruction_codec.specs.declared.encoder.Decoded.the-variants
 abbrev pub decodedMeant : Decoded → Result Meant
 decodedMeant (IsDecoded i) = value (instructionMeant i)
 decodedMeant (RefusedDecoded n) = refused n
+
+-- The number of a decoded instruction is settled: a 0 has no sign.
+abbrev pub DecodedSettled : Decoded → Type 0
+DecodedSettled (IsDecoded i) = partsOf i .operands .number ≡ wholeFor (wholeMeant (partsOf i .operands .number))
+DecodedSettled (RefusedDecoded n) = Unit {0}
+
+-- What a word is decoded to, in every field.
+pub record DecodesTo (word : ℕ) (r : Decoded) : Type 0 where
+  pub means : decodedMeant r ≡ instructionOf word
+  pub settled : DecodedSettled r
 
 -- The word of a form's registers and number, with the opcode of a row.
 unfoldable pub formWord : Form → ℕ → List ℕ → Option ℤ → ℕ

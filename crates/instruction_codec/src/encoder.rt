@@ -4,11 +4,11 @@ ghost use mathlib.Core.Option.{none, some};
 ghost use mathlib.Core.List.{[], _∷_};
 ghost use Prim.Native.Nat.{suc, _+_, _*_, _/_, _%_, _^_, _≤_, _<_};
 ghost use lib.Dec.{ltb};
-ghost use Rattle.text_lexical.specs.Contracts.{indexOf, wholeMeant, Reduced};
+ghost use Rattle.text_lexical.specs.Contracts.{indexOf, wholeMeant, wholeFor, Reduced};
 ghost use Rattle.instruction.specs.Table.{R, I, Shift, Store, Branch, Jump, System, places};
-ghost use Rattle.instruction.specs.Words.{unusedFrom, registersIn, numberIn, instructionOf};
+ghost use Rattle.instruction.specs.Words.{unusedFrom, registersIn, numberIn};
 ghost use Rattle.instruction.specs.Contracts.{rowAt, formAt, formNumbers, opcodeNumbers, numberFor, operandsMeant};
-ghost use Rattle.instruction_codec.specs.Contracts.{decodedMeant, formWord, Power, Signed};
+ghost use Rattle.instruction_codec.specs.Contracts.{DecodesTo, formWord, Power, Signed};
 use instruction::instruction::Instruction;
 use instruction::instruction::Operands;
 use instruction::opcode::BRANCH;
@@ -166,7 +166,7 @@ fn register_at(word: u32, unit: u32) -> Register
 // The number that the bits of a field mean, from -`half` to `half` - 1.
 fn signed(field: u32, half: u32) -> Whole
     requires { ⌜ field < half + half ⌝ ∗ ⌜ half ≤ 0x100000 ⌝ }
-    ensures { λ r. ⌜ Signed (half + half) field (wholeMeant r) ⌝ }
+    ensures { λ r. ⌜ Signed (half + half) field (wholeMeant r) ⌝ ∗ ⌜ r ≡ wholeFor (wholeMeant r) ⌝ }
 {
     if field < half {
         Whole {
@@ -182,7 +182,7 @@ fn signed(field: u32, half: u32) -> Whole
 }
 
 fn number_at(form: u8, word: u32) -> Whole
-    ensures { λ r. ⌜ numberFor (places (formAt form)) (wholeMeant r) ≡ numberIn word (places (formAt form)) ⌝ }
+    ensures { λ r. ⌜ numberFor (places (formAt form)) (wholeMeant r) ≡ numberIn word (places (formAt form)) ⌝ ∗ ⌜ r ≡ wholeFor (wholeMeant r) ⌝ }
 {
     match form {
         SHIFT => Whole {
@@ -196,7 +196,7 @@ fn number_at(form: u8, word: u32) -> Whole
 
 // The operands that a word holds.
 fn operands_of(form: u8, word: u32) -> Operands
-    ensures { λ r. ⌜ operandsMeant (places (formAt form)) r ≡ record { registers = registersIn word (places (formAt form)); number = numberIn word (places (formAt form)) } ⌝ }
+    ensures { λ r. ⌜ operandsMeant (places (formAt form)) r ≡ record { registers = registersIn word (places (formAt form)); number = numberIn word (places (formAt form)) } ⌝ ∗ ⌜ r .number ≡ wholeFor (wholeMeant (r .number)) ⌝ }
 {
     let low = register_at(word, 0x80);
     let high = register_at(word, 0x800);
@@ -221,7 +221,7 @@ fn operands_of(form: u8, word: u32) -> Operands
 // The instruction of a word, or 30, or 31.
 pub fn decode(word: u32, opcodes: &[u8; 50], forms: &[u8; 50]) -> Decoded
     requires { ⌜ now opcodes ≡ opcodeNumbers ⌝ ∗ ⌜ now forms ≡ formNumbers ⌝ }
-    ensures { λ r. ⌜ decodedMeant r ≡ instructionOf word ⌝ }
+    ensures { λ r. ⌜ DecodesTo word r ⌝ }
 {
     let Row::At(row) = instruction::opcode::find_opcode(word % 0x80, opcodes) else {
         return Decoded::Refused(30);

@@ -45,7 +45,7 @@ impl<'a> Reader<'a> {
 }
 
 // The next token of the line from `from` on, read by a reader.
-pub fn token_at(text: &[u8], from: usize) -> Scan
+pub(crate) fn token_at(text: &[u8], from: usize) -> Scan
     requires { ⌜ from ≤ length (now text) ⌝ }
     ensures { λ r. ⌜ r ≡ scanAt present (now (text .entry)) from ⌝ }
 {

@@ -157,7 +157,7 @@ pub fn ascii_end(text: &[u8], at: usize) -> usize
     run_end(text, i, Class::Ascii)
 }
 
-pub fn to_lower(b: u8) -> u8
+pub(crate) fn to_lower(b: u8) -> u8
     ensures { λ r. ⌜ r ≡ lower b ⌝ }
 {
     if within(b'A', b'Z', b) { b + 32 } else { b }

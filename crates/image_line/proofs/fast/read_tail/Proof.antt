@@ -3,6 +3,8 @@ use mathlib.Core.Logic.{⊎-elim}
 use native.Mathlib.Omega.{arith}
 use borrow.Author.Needs.{needs}
 use Rattle.text_lexical.specs.Names.{present}
+use Rattle.instruction.specs.Contracts.{formAt}
+use Rattle.instruction.proofs.Forms.{form-ahead}
 use Rattle.image_line.proofs.Operands.{OperandsUpTo, operands-begin, room-ahead, register-next, number-next, mark-next, operands-end}
 use Rattle.image_line.proofs.fast.read_tail.Statement.{statement}
 use Rattle.image_line.proofs.fast.read_tail.Tie as tie
@@ -14,11 +16,16 @@ Inv-loop source from form registers₀ count₀ number₀ at₀ left₀ register
 abbrev μ-loop : tie.MeasureT-loop
 μ-loop source from form registers₀ count₀ number₀ at₀ left₀ registers count number at left = left
 
+no-number-requires : tie.Need-no-number-requires Inv-loop μ-loop
+no-number-requires c κs = search needs
+
 operands-of-requires : tie.Need-operands-of-requires Inv-loop μ-loop
 operands-of-requires c κs = search needs
 
 loop-holds : tie.Need-loop-holds Inv-loop μ-loop
-loop-holds c = operands-begin (c .before .before .pre) (c .operands-of .ensures)
+loop-holds c =
+    let b = c .before .before .before in
+    rw (c .before .no-number .ensures) (operands-begin (b .pre) (rw (c .operands-of .ensures) (form-ahead (formAt (b .args .form)))))
 
 operand-at-requires : tie.Need-operand-at-requires Inv-loop μ-loop
 operand-at-requires c κs = c .before .loop .inv .passed .place
@@ -90,6 +97,7 @@ read-tail-spec =
     (tie.spec
     Inv-loop
     μ-loop
+    no-number-requires
     operands-of-requires
     loop-holds
     operand-at-requires

@@ -32,7 +32,7 @@ returns : tie.Need-returns
 unfolding lineLength
 returns c =
     let n = c .before in
-    let e = rw (n .n .given .1) at (n .before .before .decode .ensures) in
+    let e = rw (n .n .given .1) at (n .before .before .decode .ensures .means) in
     (ap lineLength e, λ m q. no-length q)
 
 returns-2 : tie.Need-returns-2
@@ -40,7 +40,7 @@ unfolding lineLength
 returns-2 c =
     let i = c .before .before in
     let t = instructionText (instructionMeant (i .instruction .given .0 .0)) in
-    let e = rw (i .instruction .given .1) at (i .before .before .decode .ensures) in
+    let e = rw (i .instruction .given .1) at (i .before .before .decode .ensures .means) in
     let l : 1 + c .instruction-length .result ≡ length (lineText t) = omega (arith, c .instruction-length .ensures .0, line-length t) in
     (ap value l ∙ ap lineLength e, λ n q. omega (arith, c .instruction-length .ensures .1, length-is q))
 

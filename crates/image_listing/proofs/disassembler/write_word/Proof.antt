@@ -24,7 +24,7 @@ enum-known-instruction c = search needs
 
 -- the line, which has room
 line : (c : tie.After-instruction) → wordText (c .before .before .before .before .args .word) ≡ lineText (instructionText (instructionMeant (c .instruction .given .0 .0)))
-line c = word-line _ _ (sym (rw (c .instruction .given .1) at (c .before .before .decode .ensures)))
+line c = word-line _ _ (sym (rw (c .instruction .given .1) at (c .before .before .decode .ensures .means)))
 
 room : (c : tie.After-instruction) → let a = c .before .before .before .before .args in
     a .at + length (lineText (instructionText (instructionMeant (c .instruction .given .0 .0)))) ≤ length (a .text .now)
@@ -58,7 +58,7 @@ returns : tie.Need-returns
 returns c =
     let d = c .before .before in
     let a = d .before .before .args in
-    rw (word-none (a .word) _ (sym (rw (c .enum-told .given .1) at (d .decode .ensures)))) (written-none (a .text .now) (a .at))
+    rw (word-none (a .word) _ (sym (rw (c .enum-told .given .1) at (d .decode .ensures .means)))) (written-none (a .text .now) (a .at))
 
 same-length : tie.Need-same-length
 same-length c =

@@ -1,13 +1,26 @@
 -- `instruction_codec::encoder::decode` meets its contract.
 use Prim.Native.Nat.{_%_}
-use mathlib.Core.Path.{sym, _∙_}
+use mathlib.Core.Path.{_≡_, refl, sym, _∙_}
 use borrow.Author.Needs.{needs}
-use Rattle.instruction.specs.Table.{rowCoded}
-use Rattle.instruction.specs.Contracts.{IsRow, instructionMeant}
+use Rattle.text_lexical.specs.Contracts.{wholeMeant, wholeFor}
+use Rattle.instruction.specs.Table.{Form, R, I, Shift, Load, Store, Branch, Jump, System, rowCoded}
+use Rattle.instruction.specs.Contracts.{rowAt, IsRow, keep, instructionMeant}
+use Rattle.instruction.specs.declared.instruction.Operands.{Operands}
 use Rattle.instruction.specs.declared.opcode.Row.the-variants.{At}
 use Rattle.instruction_codec.proofs.Coding.{word-unknown, word-unused, word-taken}
 use Rattle.instruction_codec.proofs.encoder.decode.Statement.{statement}
 use Rattle.instruction_codec.proofs.encoder.decode.Tie as tie
+
+-- What a form keeps of operands whose number is settled has a settled number.
+kept-settled : (f : Form) (o : Operands) → o .number ≡ wholeFor (wholeMeant (o .number)) → keep f o .number ≡ wholeFor (wholeMeant (keep f o .number))
+kept-settled R o h = refl
+kept-settled I o h = h
+kept-settled Shift o h = h
+kept-settled Load o h = h
+kept-settled Store o h = h
+kept-settled Branch o h = h
+kept-settled Jump o h = h
+kept-settled System o h = refl
 
 find-opcode-requires : tie.Need-find-opcode-requires
 find-opcode-requires c κs = search needs
@@ -19,7 +32,7 @@ enum-told : tie.Need-enum-told
 enum-told c = search needs
 
 returns : tie.Need-returns
-returns c = word-unknown (c .before .before .before .args .word) (rw (c .enum-told .given .1) at (c .before .before .find-opcode .ensures))
+returns c = record { means = word-unknown (c .before .before .before .args .word) (rw (c .enum-told .given .1) at (c .before .before .find-opcode .ensures)); settled = tt }
 
 -- the row that is found
 found : (c : tie.After-row) → IsRow (At (c .row .given .0 .0)) (rowCoded (c .before .before .before .args .word % 128))
@@ -42,16 +55,22 @@ returns-2 c =
     let t = c .before .before in
     let r = t .before .before .before .before in
     let s = r .before .before .before in
-    word-taken (s .args .word) (r .row .given .0 .0) (s .args .forms .now) (s .pre .1) (found r .0) (found r .1)
-    (instructionMeant (c .from-parts .result)) (c .before .operands-of .result)
-    (sym (t .if1 .taken) ∙ t .before .is-clear .ensures) (c .before .operands-of .ensures) (c .from-parts .ensures .1)
+    record {
+      means =
+          word-taken (s .args .word) (r .row .given .0 .0) (s .args .forms .now) (s .pre .1) (found r .0) (found r .1)
+          (instructionMeant (c .from-parts .result)) (c .before .operands-of .result)
+          (sym (t .if1 .taken) ∙ t .before .is-clear .ensures) (c .before .operands-of .ensures .0) (c .from-parts .ensures .1);
+      settled = rw (c .from-parts .ensures .0) (kept-settled (rowAt (r .row .given .0 .0) .form) (c .before .operands-of .result) (c .before .operands-of .ensures .1));
+    }
 
 returns-3 : tie.Need-returns-3
 returns-3 c =
     let r = c .before .before .before .before in
     let s = r .before .before .before in
-    word-unused (s .args .word) (r .row .given .0 .0) (s .args .forms .now) (s .pre .1) (found r .0) (found r .1)
-    (sym (c .if1 .left) ∙ c .before .is-clear .ensures)
+    record {
+      means = word-unused (s .args .word) (r .row .given .0 .0) (s .args .forms .now) (s .pre .1) (found r .0) (found r .1) (sym (c .if1 .left) ∙ c .before .is-clear .ensures);
+      settled = tt;
+    }
 
 pub decode-spec : {M : Type 1} → statement M
 decode-spec =

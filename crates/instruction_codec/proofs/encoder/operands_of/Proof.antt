@@ -21,7 +21,7 @@ returns c =
     let t = c .before .before in
     let a = t .before .before .before .args in
     let r = registers-store (a .form) (a .word) _ _ _ (t .before .before .register-at .ensures) (t .before .register-at2 .ensures) (c .if1 .taken) in
-    λ j. record { registers = r j; number = c .before .number-at .ensures j }
+    ((λ j. record { registers = r j; number = c .before .number-at .ensures .0 j }), c .before .number-at .ensures .1)
 
 returns-2 : tie.Need-returns-2
 returns-2 c =
@@ -31,7 +31,7 @@ returns-2 c =
     registers-other (a .form) (a .word) _ _ _ (t .before .before .register-at .ensures) (t .before .register-at2 .ensures) (t .register-at3 .ensures)
     (c .if1 .left)
     in
-    λ j. record { registers = r j; number = c .before .number-at .ensures j }
+    ((λ j. record { registers = r j; number = c .before .number-at .ensures .0 j }), c .before .number-at .ensures .1)
 
 pub operands-of-spec : {M : Type 1} → statement M
 operands-of-spec =

@@ -5,7 +5,7 @@ use mathlib.Core.Logic.{⊎-elim}
 use borrow.Author.Needs.{needs}
 use Rattle.instruction.specs.Table.{places}
 use Rattle.instruction.specs.Contracts.{formAt}
-use Rattle.instruction.proofs.Forms.{Counting, counting-begin, counting-none, counting-mark, counting-most, counting-end}
+use Rattle.instruction.proofs.Forms.{form-ahead, Counting, counting-begin, counting-none, counting-mark, counting-most, counting-end}
 use Rattle.instruction_operands.proofs.Line.{six-places}
 use Rattle.instruction_operands.proofs.assembler.operand_count.Statement.{statement}
 use Rattle.instruction_operands.proofs.assembler.operand_count.Tie as tie
@@ -20,7 +20,7 @@ operands-of-requires : tie.Need-operands-of-requires Inv-loop μ-loop
 operands-of-requires c κs = search needs
 
 loop-holds : tie.Need-loop-holds Inv-loop μ-loop
-loop-holds c = counting-begin (c .operands-of .ensures)
+loop-holds c = counting-begin (rw (c .operands-of .ensures) (form-ahead (formAt (c .before .args .form))))
 
 add-count : tie.Need-add-count Inv-loop μ-loop
 add-count c = let k = c .before in omega (arith, counting-most (k .loop .inv), six-places (formAt (k .before .before .args .form)))

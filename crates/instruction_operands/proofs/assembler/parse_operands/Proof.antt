@@ -11,7 +11,7 @@ use Rattle.text.specs.declared.lexer.Kind.the-variants.{Identifier}
 use Rattle.text.specs.declared.lexer.Token.{Token}
 use Rattle.instruction.specs.Table.{places}
 use Rattle.instruction.specs.Contracts.{formAt}
-use Rattle.instruction.proofs.Forms.{form-room, register-room}
+use Rattle.instruction.proofs.Forms.{form-ahead, form-room, register-room}
 use Rattle.instruction_operands.proofs.Line.{six-places}
 use Rattle.instruction_operands.proofs.Operands.{Before, Between, before-begin, operand-kept, mark-room, register-next, number-next, mark-next, operand-refuses, mark-refuses, operands-read}
 use Rattle.instruction_operands.proofs.assembler.parse_operands.Statement.{statement}
@@ -36,7 +36,7 @@ operands-of-requires c κs = search needs
 loop-holds : tie.Need-loop-holds Inv-loop μ-loop
 loop-holds c s =
     let b = c .before .before in
-    rw (c .before .no-number .ensures) (before-begin (places (formAt (b .args .form))) (b .args .t2) (b .args .at) s (form-room (formAt (b .args .form))) (c .operands-of .ensures))
+    rw (c .before .no-number .ensures) (before-begin (places (formAt (b .args .form))) (b .args .t2) (b .args .at) s (form-room (formAt (b .args .form))) (rw (c .operands-of .ensures) (form-ahead (formAt (b .args .form)))))
 
 -- What an array of tokens is read as past its end.
 abbrev past : Token
