@@ -19,7 +19,7 @@ pub enum Effect {
 }
 
 // What a line reads as: whether it has a label, where its content starts, the label's length (0 without one), what the line does then, and
-// where it ends.
+// where it ends; of a line with a bad token nobody asks for the end, and the content's start stands there.
 pub struct Read {
     pub labelled: bool,
     pub start: usize,
@@ -28,7 +28,7 @@ pub struct Read {
     pub end: usize,
 }
 
-// The line that begins at `at`, where the settings are these. Its margin is skipped once, for both ways of reading it.
+// The line that begins at `at`, where the settings are these. Both ways of reading it begin after its margin.
 pub fn read_line(
     source: &[u8],
     at: usize,

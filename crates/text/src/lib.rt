@@ -1,4 +1,4 @@
 // The upper half of the text layer: tokens and the record of a line.
 pub mod lexer;
 pub mod parser;
-pub mod reader;
+mod reader;

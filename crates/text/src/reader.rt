@@ -1,5 +1,5 @@
 // The reader: it keeps the text in which a line stands and its next position there. A function over such a struct is proved by hand
-// (docs/WALKED.md), so there are few, and each leaves the work to one over the slice and the number. `token_at` is the one for others to call.
+// (docs/WALKED.md), so there are few, and each leaves the work to one over the slice and the number. `token_at` is the one that `tokenize` calls.
 ghost use mathlib.Core.Path.{_≡_};
 ghost use Prim.Native.Nat.{_≤_};
 ghost use lib.ListN.{length};
