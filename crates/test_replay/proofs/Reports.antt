@@ -1,6 +1,7 @@
 -- Laws of texts that are put into a room, one after the other, and of a number's digits.
-use Prim.Native.Nat.{ℕ, zero, suc, _+_, _-_, _/_, _%_, _^_, _≤_, _<_, min}
+use Prim.Native.Nat.{ℕ, zero, suc, _+_, _/_, _%_, _^_, _≤_, _<_, min}
 use mathlib.Core.Path.{_≡_, refl, sym, ap, _∙_}
+use mathlib.Core.Bool.{true, false}
 use mathlib.Core.List.{List, [], _∷_, _++_, append-nil, append-assoc}
 use native.Mathlib.Nat.{add-zero, add-suc, suc-add, min-eq-left, min-eq-right, min-le-right, lt-of-not-le, pow-suc, one-le-pow}
 use native.Mathlib.Decide.{decLe}
@@ -8,9 +9,10 @@ use native.Mathlib.Numerals.{add-one, unary-clauses}
 use native.Mathlib.Omega.{arith}
 use lib.ListN.{length, drop, set, getD, length-append, length-set, drop-of-length-le}
 use lib.Seq.{sets, length-sets, set-out, drop-cons, length-take-le}
+use lib.Dec.{eqb}
 use borrow.Author.Tests.{lt-ltb, le-ltb}
 use Rattle.io.specs.Digits.{glyph, digits, Fewest}
-use Rattle.test_replay.specs.Report.{decimalIn, decimal, refusalText, refusalsFrom, refusalsText, Put}
+use Rattle.test_replay.specs.Report.{decimalIn, decimal, filled, refusalText, refusalsFrom, Put}
 
 -- ---- a text in a room
 
@@ -122,30 +124,57 @@ unfolding decimal
 decimal-is zero n f = absurd (omega (arith, f .0))
 decimal-is (suc k) n f = digits-are k n n (omega arith) (f .1) (λ h. simp unary-clauses at (f .2 h))
 
--- ---- the lines of refusals
+-- ---- a text that is put piece by piece
 
--- The lines that are put, and those that are left, are all.
-pub record Listing (old : List ℕ) (at : ℕ) (counts new : List ℕ) (place number : ℕ) : Type 0 where
+-- What is put, and what is left, are all of the text.
+pub record Telling (old : List ℕ) (at : ℕ) (text new : List ℕ) (place : ℕ) (rest : List ℕ) : Type 0 where
   pub said : List ℕ
   pub is-put : Put old at said place new
-  pub left : said ++ refusalsFrom number (drop number counts) ≡ refusalsText counts
+  pub left : said ++ rest ≡ text
 
-pub listing-none : {old new : List ℕ} {at place : ℕ} (counts : List ℕ) → Put old at [] place new → Listing old at counts new place 0
-unfolding refusalsText
-listing-none counts p = record { said = []; is-put = p; left = refl }
+pub telling-none : {old new : List ℕ} {at place : ℕ} {text : List ℕ} → Put old at [] place new → Telling old at text new place text
+telling-none p = record { said = []; is-put = p; left = refl }
 
-module _ {old : List ℕ} {at : ℕ} {counts new : List ℕ} {place number : ℕ} (l : Listing old at counts new place number) where
-  pub listing-more : {next : List ℕ} {end : ℕ} → number < length counts → Put new place (refusalText number (getD counts number 0)) end next → Listing old at counts next end (number + 1)
+module _ {old : List ℕ} {at : ℕ} {text new : List ℕ} {place : ℕ} {rest : List ℕ} (l : Telling old at text new place rest) where
+  pub telling-more : {next s after : List ℕ} {end : ℕ} → rest ≡ s ++ after → Put new place s end next → Telling old at text next end after
+  telling-more {s = s} {after} e p =
+      record { said = l .said ++ s; is-put = put-append (l .is-put) p; left = append-assoc (l .said) s after ∙ rw e at (l .left) }
+
+  pub telling-all : rest ≡ [] → Put old at text place new
+  telling-all e = rw (sym (append-nil (l .said)) ∙ rw e at (l .left)) at (l .is-put)
+
+-- ---- the lines of refusals
+
+module _ (counts : List ℕ) (number : ℕ) where
+  pub refusals-more : number < length counts
+      → refusalsFrom number (drop number counts) ≡ refusalText number (getD counts number 0) ++ refusalsFrom (number + 1) (drop (number + 1) counts)
   unfolding refusalsFrom
-  listing-more h p =
-      rw (add-one number) (record {
-        said = l .said ++ refusalText number (getD counts number 0);
-        is-put = put-append (l .is-put) p;
-        left = append-assoc (l .said) (refusalText number (getD counts number 0)) _ ∙ rw (drop-cons counts number 0 h) at (l .left);
-      })
+  refusals-more h = rw (add-one number, drop-cons counts number 0 h)
 
-  pub listing-all : length counts ≤ number → Put old at (refusalsText counts) place new
+  pub refusals-none : length counts ≤ number → refusalsFrom number (drop number counts) ≡ []
   unfolding refusalsFrom
-  listing-all h =
-      let e : l .said ≡ refusalsText counts = sym (append-nil (l .said)) ∙ rw (drop-of-length-le counts h) at (l .left) in
-      rw e at (l .is-put)
+  refusals-none h = rw (drop-of-length-le counts h)
+
+-- ---- a text that is filled with numbers
+
+filled-byte : (b : ℕ) (s ns : List ℕ) → eqb b 35 ≡ false → filled (b ∷ s) ns ≡ b ∷ filled s ns
+unfolding filled
+filled-byte b s [] h = refl
+filled-byte b s (n ∷ ns) h = rw (filled, h)
+
+module _ (s ns : List ℕ) (i n : ℕ) (h : i < length s) where
+  pub filled-number : n < length ns → eqb (getD s i 0) 35 ≡ true
+      → filled (drop i s) (drop n ns) ≡ decimal (getD ns n 0) ++ filled (drop (i + 1) s) (drop (n + 1) ns)
+  unfolding filled
+  filled-number g e = rw (add-one i, add-one n, drop-cons s i 0 h, drop-cons ns n 0 g, filled, e)
+
+  pub filled-other : eqb (getD s i 0) 35 ≡ false → filled (drop i s) (drop n ns) ≡ getD s i 0 ∷ filled (drop (i + 1) s) (drop n ns)
+  filled-other e = rw (add-one i, drop-cons s i 0 h) (filled-byte _ _ _ e)
+
+  pub filled-past : length ns ≤ n → filled (drop i s) (drop n ns) ≡ getD s i 0 ∷ filled (drop (i + 1) s) (drop n ns)
+  unfolding filled
+  filled-past g = rw (add-one i, drop-cons s i 0 h, drop-of-length-le ns g)
+
+pub filled-none : (s ns : List ℕ) (i : ℕ) → length s ≤ i → filled (drop i s) ns ≡ []
+unfolding filled
+filled-none s ns i h = rw (drop-of-length-le s h)

@@ -7,7 +7,7 @@ use mathlib.Core.Bool.{Bool, true, false}
 use mathlib.Core.List.{List, [], _∷_, _++_}
 use lib.ListN.{length, take}
 use lib.Seq.{sets}
-use lib.Dec.{ltb}
+use lib.Dec.{eqb, ltb}
 
 -- ---- texts
 
@@ -25,23 +25,20 @@ decimalIn (suc k) n = elim (ltb n 10) [ true ↦ (48 + n % 10) ∷ [] | false �
 unfoldable pub decimal : ℕ → List ℕ
 decimal n = decimalIn n n
 
--- A number, and what it counts.
-unfoldable pub countText : ℕ → List ℕ → List ℕ
-countText n what = decimal n ++ what
-
--- The same, and there the line ends.
-abbrev pub countLine : ℕ → List ℕ → List ℕ
-countLine n what = countText n (what ++ (10 ∷ []))
+-- A text in which each `#` stands for the next of the numbers, as long as there is one.
+unfoldable pub filled : List ℕ → List ℕ → List ℕ
+filled [] ns = []
+filled (b ∷ s) [] = b ∷ filled s []
+filled (b ∷ s) (n ∷ ns) = elim (eqb b 35) [ true ↦ decimal n ++ filled s ns | false ↦ b ∷ filled s (n ∷ ns) ]
 
 -- The line of a record that differs; nothing for one that agrees.
 unfoldable pub verdictText : ℕ → Bool → List ℕ
 verdictText n true = []
-verdictText n false = bytes "differs: record " ++ countText n (10 ∷ [])
+verdictText n false = filled (bytes "differs: record #\n") (n ∷ [])
 
 -- The line of a refusal that was met so often; none if it was not met.
 unfoldable pub refusalText : ℕ → ℕ → List ℕ
-refusalText number count =
-    elim (ltb 0 count) [ true ↦ countText count (bytes " refused by ") ++ countText number (10 ∷ []) | false ↦ [] ]
+refusalText number count = elim (ltb 0 count) [ true ↦ filled (bytes "# refused by #\n") (count ∷ number ∷ []) | false ↦ [] ]
 
 -- The lines of the refusals from a number on, which were met as often as is listed.
 unfoldable pub refusalsFrom : ℕ → List ℕ → List ℕ

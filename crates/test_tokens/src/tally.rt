@@ -1,7 +1,7 @@
 // How much was compared: lines, those that differ, and tokens by kind.
 ghost use Rattle.test_replay.specs.Report.{Put};
 ghost use Rattle.test_tokens.specs.Tally.{tallyText};
-use test_replay::report::put_count;
+use test_replay::report::put_filled;
 use test_replay::tally::more;
 use text::lexer::Kind;
 use text::parser::Line;
@@ -92,19 +92,28 @@ impl Tally {
     pub(crate) fn put(self, room: &mut [u8], at: usize) -> usize
         ensures { λ r. ⌜ Put (now (room .entry)) at (tallyText self) r (now (room .exit)) ⌝ }
     {
-        let at = put_count(room, at, self.lines, b" lines, ");
-        let at = put_count(room, at, self.differences, b" differences\n");
-        let at = put_count(room, at, self.bad, b" bad lines\n");
-        let at = put_count(room, at, self.identifiers, b" identifiers\n");
-        let at = put_count(room, at, self.registers, b" registers\n");
-        let at = put_count(room, at, self.numbers, b" numbers\n");
-        let at = put_count(room, at, self.negatives, b" negative numbers\n");
-        let at = put_count(room, at, self.hexes, b" hex numbers\n");
-        let at = put_count(room, at, self.binaries, b" binary numbers\n");
-        let at = put_count(room, at, self.directives, b" directives\n");
-        let at = put_count(room, at, self.commas, b" commas\n");
-        let at = put_count(room, at, self.colons, b" colons\n");
-        let at = put_count(room, at, self.openings, b" opening parentheses\n");
-        put_count(room, at, self.closings, b" closing parentheses\n")
+        let counts = [
+            self.lines,
+            self.differences,
+            self.bad,
+            self.identifiers,
+            self.registers,
+            self.numbers,
+            self.negatives,
+            self.hexes,
+            self.binaries,
+            self.directives,
+            self.commas,
+            self.colons,
+            self.openings,
+            self.closings,
+        ];
+        put_filled(
+            room,
+            at,
+            b"# lines, # differences\n# bad lines\n# identifiers\n# registers\n# numbers\n# negative numbers\n\
+              # hex numbers\n# binary numbers\n# directives\n# commas\n# colons\n# opening parentheses\n# closing parentheses\n",
+            &counts,
+        )
     }
 }

@@ -2,4 +2,4 @@ pub mod Answers
 pub mod Tables
 pub mod Rooms
 pub mod Given
-pub mod Tally
+pub mod Counts

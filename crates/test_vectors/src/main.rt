@@ -3,6 +3,9 @@
 ghost use Prim.Native.Nat.{_≤_};
 ghost use lib.ListN.{length, take};
 ghost use mathlib.Core.Path.{_≡_};
+ghost use Rattle.test_replay.specs.Report.{Put};
+ghost use Rattle.test_replay.specs.Tally.{tallyText};
+ghost use Rattle.test_vectors.specs.Counts.{counts};
 
 mod answer;
 mod calls;
@@ -12,13 +15,12 @@ mod record;
 mod room;
 mod sources;
 mod table;
-mod tally;
 
-use tally::Outcome;
-use tally::Tally;
-use tally::agrees;
 use test_replay::list::has_tag;
 use test_replay::report::put_verdict;
+use test_replay::tally::Outcome;
+use test_replay::tally::Tally;
+use test_replay::tally::agrees;
 
 fn source_outcome(
     list: &[u8],
@@ -94,6 +96,17 @@ fn outcome(
     image_outcome(list, at, source, image, image_buffer, text_buffer)
 }
 
+// Puts the counts into a room.
+fn put_counts(tally: Tally, room: &mut [u8], at: usize) -> usize
+    ensures { λ r. ⌜ Put (now (room .entry)) at (tallyText counts tally) r (now (room .exit)) ⌝ }
+{
+    tally.put(
+        b"# records, # differences\n# sources assembled\n# images listed\n",
+        room,
+        at,
+    )
+}
+
 // Compares each record, and puts the report into the room. The promises are what `&room[..end]` asks for.
 fn compare(
     list: &[u8],
@@ -117,7 +130,7 @@ fn compare(
             end = put_verdict(room, end, tally.records, agrees(outcome));
         }
     }
-    tally.put(room, end)
+    put_counts(tally, room, end)
 }
 
 // Room for the list.

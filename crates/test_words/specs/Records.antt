@@ -7,8 +7,8 @@ use lib.Dec.{leb, ltb, eqb}
 use Rattle.test_replay.specs.List.{byteAt, behind, hasTag, isRecordEnd, numberAt}
 use Rattle.test_replay.specs.Every.{everyFrom}
 use Rattle.test_words.specs.declared.calls.Text.{Text}
-use Rattle.test_words.specs.declared.tally.Outcome.{Outcome}
-use Rattle.test_words.specs.declared.tally.Outcome.the-variants.{Differs, Refused}
+use Rattle.test_replay.specs.declared.tally.Outcome.{Outcome}
+use Rattle.test_replay.specs.declared.tally.Outcome.the-variants.{Differs, Refused}
 
 -- ---- texts
 

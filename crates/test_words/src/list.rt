@@ -2,10 +2,10 @@
 ghost use mathlib.Core.Path.{_≡_};
 ghost use Rattle.test_words.specs.Records.{roomByte, holdsText, sameText, refusalAt};
 use crate::calls::Text;
-use crate::tally::Outcome;
 use std::num::wrapping_add_usize;
 use test_replay::list::byte_at;
 use test_replay::list::has_tag;
+use test_replay::tally::Outcome;
 
 // What has to stand at a place of a room of `$` that has `count` bytes of the list after its first eight.
 fn wanted_at(i: usize, count: usize, list: &[u8], at: usize) -> u8
@@ -52,12 +52,13 @@ pub(crate) fn after_text(at: usize, text: Text) -> usize {
 pub(crate) fn refusal(number: u8, list: &[u8], at: usize) -> Outcome
     ensures { λ r. ⌜ r ≡ refusalAt number (now (list .entry)) at ⌝ }
 {
+    let met = test_replay::list::wide(number);
     let wanted = test_replay::list::number_at(list, wrapping_add_usize(at, 2));
     if has_tag(list, at, b'r')
-        && wanted.value == test_replay::list::wide(number)
+        && wanted.value == met
         && test_replay::list::is_record_end(list, wanted.next)
     {
-        return Outcome::Refused(number);
+        return Outcome::Refused(met);
     }
     Outcome::Differs
 }

@@ -3,10 +3,12 @@
 ghost use Prim.Native.Nat.{_≤_, _<_};
 ghost use lib.ListN.{length, take};
 ghost use mathlib.Core.Path.{_≡_};
+ghost use Rattle.test_replay.specs.Report.{Put};
+ghost use Rattle.test_replay.specs.Tally.{tallyText};
+ghost use Rattle.test_words.specs.Counts.{counts};
 
 mod calls;
 mod list;
-mod tally;
 
 use instruction::instruction::Instruction;
 use instruction_codec::encoder::Decoded;
@@ -14,12 +16,12 @@ use list::after_text;
 use list::has_text;
 use list::refusal;
 use std::num::wrapping_add_usize;
-use tally::Outcome;
-use tally::Tally;
-use tally::agrees;
 use test_replay::list::byte_at;
 use test_replay::list::has_tag;
 use test_replay::report::put_verdict;
+use test_replay::tally::Outcome;
+use test_replay::tally::Tally;
+use test_replay::tally::agrees;
 
 // Whether the text behind the first eight bytes is read as an instruction that has this word.
 fn reads(text: &[u8], word: u32) -> bool {
@@ -59,7 +61,7 @@ fn word_outcome(list: &[u8], at: usize) -> Outcome {
         Decoded::Is(instruction) => {
             let mut room = [b'$'; 96];
             if is_decoded(instruction, word, list, next, &mut room) {
-                Outcome::Word
+                Outcome::Listed
             } else {
                 Outcome::Differs
             }
@@ -77,7 +79,7 @@ fn instruction_outcome(instruction: Instruction, list: &[u8], at: usize) -> Outc
         return Outcome::Differs;
     }
     match word_outcome(list, next) {
-        Outcome::Word => Outcome::Line,
+        Outcome::Listed => Outcome::Assembled,
         _ => Outcome::Differs,
     }
 }
@@ -114,6 +116,15 @@ fn outcome(list: &[u8], at: usize) -> Outcome {
     line_outcome(list, at, &mut room)
 }
 
+// Puts the counts into a room. A line that agrees is one that is assembled, a word one that is listed.
+fn put_counts(tally: Tally, room: &mut [u8], at: usize) -> usize
+    ensures { λ r. ⌜ Put (now (room .entry)) at (tallyText counts tally) r (now (room .exit)) ⌝ }
+{
+    let text = b"# records, # differences\n# lines read, encoded, decoded and written\n\
+                 # words decoded, encoded, written and read\n";
+    tally.put(text, room, at)
+}
+
 // Compares each record, and puts the report into the room. The promises are what `&room[..end]` asks for.
 fn compare(list: &[u8], room: &mut [u8]) -> usize
     ensures { λ r. ⌜ r ≤ length (now (room .exit)) ⌝ }
@@ -130,7 +141,7 @@ fn compare(list: &[u8], room: &mut [u8]) -> usize
             end = put_verdict(room, end, tally.records, agrees(outcome));
         }
     }
-    tally.put(room, end)
+    put_counts(tally, room, end)
 }
 
 fn main() {

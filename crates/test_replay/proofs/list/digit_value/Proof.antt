@@ -6,9 +6,6 @@ use Rattle.test_replay.specs.List.{digitValue}
 use Rattle.test_replay.proofs.list.digit_value.Statement.{statement}
 use Rattle.test_replay.proofs.list.digit_value.Tie as tie
 
-sub-result : tie.Need-sub-result
-sub-result c = search needs
-
 returns : tie.Need-returns
 unfolding digitValue
 returns c = let b = c .before .before .args .b in rw (digitValue, le-leb 48 b (omega arith), le-leb b 57 (omega arith))
@@ -36,4 +33,4 @@ returns-5 c =
     rw (digitValue, le-leb 48 b (omega arith), lt-leb b 57 (omega arith), le-leb 97 b (omega arith), lt-leb b 102 (omega arith))
 
 pub digit-value-spec : {M : Type 1} → statement M
-digit-value-spec = tie.close (tie.spec sub-result returns returns-2 returns-3 returns-4 returns-5)
+digit-value-spec = tie.close (tie.spec (search needs) returns returns-2 returns-3 returns-4 returns-5)

@@ -7,9 +7,6 @@ use Rattle.test_replay.proofs.Reading.{fits, fits-not}
 use Rattle.test_replay.proofs.list.extended.Statement.{statement}
 use Rattle.test_replay.proofs.list.extended.Tie as tie
 
-div-if1 : tie.Need-div-if1
-div-if1 c = search needs
-
 returns : tie.Need-returns
 returns c = sym (fits-not _ (omega (arith, div-lt-iff-lt-mul (c .before .pre) .0 (c .if1 .taken))))
 
@@ -29,5 +26,4 @@ returns-3 : tie.Need-returns-3
 returns-3 c = sym (fits _ (omega (arith, c .if2 .left, le-div-iff-mul-le (c .before .before .pre) .0 (c .before .if1 .left))))
 
 pub extended-spec : {M : Type 1} → statement M
-extended-spec =
-    tie.close (tie.spec div-if1 returns mul-shifted sub-if2 returns-2 add-result returns-3)
+extended-spec = tie.close (tie.spec (search needs) returns mul-shifted sub-if2 returns-2 add-result returns-3)

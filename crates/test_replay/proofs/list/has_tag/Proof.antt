@@ -6,15 +6,6 @@ use Rattle.test_replay.specs.List.{behind, hasTag}
 use Rattle.test_replay.proofs.list.has_tag.Statement.{statement}
 use Rattle.test_replay.proofs.list.has_tag.Tie as tie
 
-byte-at-requires : tie.Need-byte-at-requires
-byte-at-requires c κs = search needs
-
-wrapping-add-usize-requires : tie.Need-wrapping-add-usize-requires
-wrapping-add-usize-requires c κs = search needs
-
-byte-at-requires-2 : tie.Need-byte-at-requires-2
-byte-at-requires-2 c κs = search needs
-
 returns : tie.Need-returns
 unfolding hasTag behind
 returns c =
@@ -26,6 +17,4 @@ unfolding hasTag
 returns-2 c = rw (hasTag, ← c .before .byte-at .ensures, ne-eqb _ _ (c .if1 .left))
 
 pub has-tag-spec : {M : Type 1} → statement M
-has-tag-spec =
-    tie.close
-    (tie.spec byte-at-requires wrapping-add-usize-requires byte-at-requires-2 returns returns-2)
+has-tag-spec = tie.close (tie.spec (search needs) (search needs) (search needs) returns returns-2)

@@ -5,9 +5,6 @@ use Rattle.test_replay.specs.List.{hexDigit}
 use Rattle.test_replay.proofs.list.hex_digit.Statement.{statement}
 use Rattle.test_replay.proofs.list.hex_digit.Tie as tie
 
-digit-value-requires : tie.Need-digit-value-requires
-digit-value-requires c κs = search needs
-
 returns : tie.Need-returns
 unfolding hexDigit
 returns c = (rw (hexDigit, ← c .before .digit-value .ensures, lt-ltb _ 16 (c .if1 .taken)) (c .before .digit-value .ensures), c .if1 .taken)
@@ -17,4 +14,4 @@ unfolding hexDigit
 returns-2 c = (rw (hexDigit, ← c .before .digit-value .ensures, le-ltb _ 16 (c .if1 .left)), search needs)
 
 pub hex-digit-spec : {M : Type 1} → statement M
-hex-digit-spec = tie.close (tie.spec digit-value-requires returns returns-2)
+hex-digit-spec = tie.close (tie.spec (search needs) returns returns-2)

@@ -5,9 +5,6 @@ use Rattle.test_replay.specs.List.{isRecordEnd}
 use Rattle.test_replay.proofs.list.is_record_end.Statement.{statement}
 use Rattle.test_replay.proofs.list.is_record_end.Tie as tie
 
-byte-at-requires : tie.Need-byte-at-requires
-byte-at-requires c κs = search needs
-
 returns : tie.Need-returns
 unfolding isRecordEnd
 returns c = rw (isRecordEnd, ← c .before .byte-at .ensures, eq-eqb _ _ (c .if1 .taken))
@@ -17,4 +14,4 @@ unfolding isRecordEnd
 returns-2 c = rw (isRecordEnd, ← c .before .byte-at .ensures, ne-eqb _ _ (c .if1 .left))
 
 pub is-record-end-spec : {M : Type 1} → statement M
-is-record-end-spec = tie.close (tie.spec byte-at-requires returns returns-2)
+is-record-end-spec = tie.close (tie.spec (search needs) returns returns-2)

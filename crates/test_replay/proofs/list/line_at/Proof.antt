@@ -27,21 +27,6 @@ abbrev μ-loop : tie.MeasureT-loop
 loop-holds : tie.Need-loop-holds Inv-loop μ-loop
 loop-holds c = (search needs, search needs, refl, record { holds = refl; ends = refl; leads = refl })
 
-sub-loop : tie.Need-sub-loop Inv-loop μ-loop
-sub-loop c = search needs
-
-byte-at-requires : tie.Need-byte-at-requires Inv-loop μ-loop
-byte-at-requires c κs = search needs
-
-unescaped-at-requires : tie.Need-unescaped-at-requires Inv-loop μ-loop
-unescaped-at-requires c κs = search needs
-
-slice-write-room : tie.Need-slice-write-room Inv-loop μ-loop
-slice-write-room c = search needs
-
-add-end : tie.Need-add-end Inv-loop μ-loop
-add-end c = search needs
-
 loop-less : tie.Need-loop-less Inv-loop μ-loop
 loop-less c = simp length-set (omega arith)
 
@@ -52,15 +37,6 @@ loop-again c =
     let n : byteAt s (k .loop .at) ≡ 10 → ⊥ = λ e. eqb-false _ 10 (not-true _ (c .before .if1 .taken)) (c .before .before .byte-at .ensures ∙ e) in
     let l = left-more (k .loop .inv .3) (c .before .before .before .loop-test .taken) n in
     (omega arith, simp length-set (omega arith), simp length-set (k .loop .inv .2), rw (c .unescaped-at .ensures) l)
-
-slice-write-room-2 : tie.Need-slice-write-room-2 Inv-loop μ-loop
-slice-write-room-2 c = search needs
-
-wrapping-add-usize-requires : tie.Need-wrapping-add-usize-requires Inv-loop μ-loop
-wrapping-add-usize-requires c κs = search needs
-
-same-length : tie.Need-same-length Inv-loop μ-loop
-same-length c = search needs
 
 returns : tie.Need-returns Inv-loop μ-loop
 unfolding behind
@@ -78,18 +54,5 @@ returns c =
 pub line-at-spec : {M : Type 1} → statement M
 line-at-spec =
     tie.close
-    (tie.spec
-    Inv-loop
-    μ-loop
-    loop-holds
-    sub-loop
-    byte-at-requires
-    unescaped-at-requires
-    slice-write-room
-    add-end
-    loop-less
-    loop-again
-    slice-write-room-2
-    wrapping-add-usize-requires
-    same-length
-    returns)
+    (tie.spec Inv-loop μ-loop loop-holds (search needs) (search needs) (search needs) (search needs) (search needs)
+    loop-less loop-again (search needs) (search needs) (λ c. search needs) returns)

@@ -24,20 +24,11 @@ loop-holds : tie.Need-loop-holds Inv-loop μ-loop
 unfolding nextRecord
 loop-holds c = (omega arith, omega (arith, c .pre), refl)
 
-shared-slice-read-byte : tie.Need-shared-slice-read-byte Inv-loop μ-loop
-shared-slice-read-byte c = search needs
-
-add-at : tie.Need-add-at Inv-loop μ-loop
-add-at c = search needs
-
 returns : tie.Need-returns Inv-loop μ-loop
 returns c =
     let k = c .before .before .before .before in
     let e = through-found (k .loop .last) (k .before .args .list .now) (k .loop .at) (c .before .before .before .loop-test .taken) (rw (eq-eqb _ 10 (c .before .if1 .taken)) (c .if2 .taken)) in
     (omega (arith, k .loop .inv .2), omega arith)
-
-loop-less : tie.Need-loop-less Inv-loop μ-loop
-loop-less c = search needs
 
 loop-again : tie.Need-loop-again Inv-loop μ-loop
 loop-again c =
@@ -57,13 +48,4 @@ returns-2 c =
 pub next-record-spec : {M : Type 1} → statement M
 next-record-spec =
     tie.close
-    (tie.spec
-    Inv-loop
-    μ-loop
-    loop-holds
-    shared-slice-read-byte
-    add-at
-    returns
-    loop-less
-    loop-again
-    returns-2)
+    (tie.spec Inv-loop μ-loop loop-holds (search needs) (search needs) returns (search needs) loop-again returns-2)

@@ -18,33 +18,12 @@ abbrev μ-loop : tie.MeasureT-loop
 loop-holds : tie.Need-loop-holds Inv-loop μ-loop
 loop-holds c = record { small = search needs; means = refl; ends = refl }
 
-shared-slice-read-digit-value : tie.Need-shared-slice-read-digit-value Inv-loop μ-loop
-shared-slice-read-digit-value c = search needs
-
-digit-value-requires : tie.Need-digit-value-requires Inv-loop μ-loop
-digit-value-requires c κs = search needs
-
-wide-requires : tie.Need-wide-requires Inv-loop μ-loop
-wide-requires c κs = search needs
-
-extended-requires : tie.Need-extended-requires Inv-loop μ-loop
-extended-requires c κs = search needs
-
-add-at : tie.Need-add-at Inv-loop μ-loop
-add-at c = search needs
-
-loop-less : tie.Need-loop-less Inv-loop μ-loop
-loop-less c = search needs
-
 loop-again : tie.Need-loop-again Inv-loop μ-loop
 loop-again c =
     let k = c .before .before .before .before .before in
     let a = k .before .before .before .args in
     let d : c .before .before .wide .result ≡ digitValue (getD (a .list .now) (k .before .loop .at) 0) = c .before .before .wide .ensures ∙ c .before .before .before .digit-value .ensures in
     rw (c .extended .ensures, d) (unread-more (k .before .loop .inv) (k .before .before .before .pre) (k .loop-test .taken) (rw (← d) (c .before .if1 .left)))
-
-wrapping-add-usize-requires : tie.Need-wrapping-add-usize-requires Inv-loop μ-loop
-wrapping-add-usize-requires c κs = search needs
 
 returns : tie.Need-returns Inv-loop μ-loop
 unfolding behind
@@ -60,16 +39,5 @@ returns c =
 pub number-in-spec : {M : Type 1} → statement M
 number-in-spec =
     tie.close
-    (tie.spec
-    Inv-loop
-    μ-loop
-    loop-holds
-    shared-slice-read-digit-value
-    digit-value-requires
-    wide-requires
-    extended-requires
-    add-at
-    loop-less
-    loop-again
-    wrapping-add-usize-requires
-    returns)
+    (tie.spec Inv-loop μ-loop loop-holds (search needs) (search needs) (search needs) (search needs) (search needs)
+    (search needs) loop-again (search needs) returns)

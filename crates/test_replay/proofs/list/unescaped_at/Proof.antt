@@ -5,15 +5,6 @@ use Rattle.test_replay.specs.List.{behind, unescapedAt}
 use Rattle.test_replay.proofs.list.unescaped_at.Statement.{statement}
 use Rattle.test_replay.proofs.list.unescaped_at.Tie as tie
 
-byte-at-requires : tie.Need-byte-at-requires
-byte-at-requires c κs = search needs
-
-wrapping-add-usize-requires : tie.Need-wrapping-add-usize-requires
-wrapping-add-usize-requires c κs = search needs
-
-hex-byte-at-requires : tie.Need-hex-byte-at-requires
-hex-byte-at-requires c κs = search needs
-
 returns : tie.Need-returns
 unfolding unescapedAt behind
 returns c =
@@ -27,6 +18,4 @@ returns-2 c =
     rw (unescapedAt, ← e, ne-eqb _ 92 (c .if1 .left), e, c .before .wrapping-add-usize .ensures)
 
 pub unescaped-at-spec : {M : Type 1} → statement M
-unescaped-at-spec =
-    tie.close
-    (tie.spec byte-at-requires wrapping-add-usize-requires hex-byte-at-requires returns returns-2)
+unescaped-at-spec = tie.close (tie.spec (search needs) (search needs) (search needs) returns returns-2)

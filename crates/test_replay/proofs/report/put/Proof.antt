@@ -1,6 +1,5 @@
 -- `test_replay::report::put` meets its contract. The loop's invariant: what is left of the bytes makes of the room what is promised.
 use Prim.Native.Nat.{_-_}
-use mathlib.Core.Path.{_≡_}
 use lib.ListN.{length}
 use borrow.Author.Needs.{needs}
 use Rattle.test_replay.proofs.Reports.{put-past, Putting, putting-none, putting-more, putting-all, putting-full}
@@ -19,32 +18,11 @@ returns c = put-past _ _ _ (search needs)
 loop-holds : tie.Need-loop-holds Inv-loop μ-loop
 loop-holds c = putting-none _ _ _ (search needs)
 
-shared-slice-read-room : tie.Need-shared-slice-read-room Inv-loop μ-loop
-shared-slice-read-room c = search needs
-
-slice-write-room : tie.Need-slice-write-room Inv-loop μ-loop
-slice-write-room c = search needs
-
-add-place : tie.Need-add-place Inv-loop μ-loop
-add-place c = search needs
-
-add-i : tie.Need-add-i Inv-loop μ-loop
-add-i c = search needs
-
-loop-less : tie.Need-loop-less Inv-loop μ-loop
-loop-less c = search needs
-
 loop-again : tie.Need-loop-again Inv-loop μ-loop
 loop-again c = putting-more (c .before .before .before .loop .inv) (search needs) (search needs)
 
-same-length : tie.Need-same-length Inv-loop μ-loop
-same-length c = search needs
-
 returns-2 : tie.Need-returns-2 Inv-loop μ-loop
 returns-2 c = putting-full (c .before .before .loop .inv) (search needs)
-
-same-length-2 : tie.Need-same-length-2 Inv-loop μ-loop
-same-length-2 c = search needs
 
 returns-3 : tie.Need-returns-3 Inv-loop μ-loop
 returns-3 c = putting-all (c .before .loop .inv) (search needs)
@@ -52,18 +30,5 @@ returns-3 c = putting-all (c .before .loop .inv) (search needs)
 pub put-spec : {M : Type 1} → statement M
 put-spec =
     tie.close
-    (tie.spec
-    Inv-loop
-    μ-loop
-    returns
-    loop-holds
-    shared-slice-read-room
-    slice-write-room
-    add-place
-    add-i
-    loop-less
-    loop-again
-    same-length
-    returns-2
-    same-length-2
-    returns-3)
+    (tie.spec Inv-loop μ-loop returns loop-holds (search needs) (λ c. search needs) (search needs) (search needs)
+    (search needs) loop-again (search needs) returns-2 (search needs) returns-3)

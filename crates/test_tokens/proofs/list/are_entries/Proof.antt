@@ -26,21 +26,6 @@ loop-holds c =
     let a = c .before .before in
     (search needs, simp length-map at (a .good .0 .1 .1 .0 .1 .0 .1), rw (sub-zero (a .args .line .count)))
 
-entry-at-requires : tie.Need-entry-at-requires Inv-loop μ-loop
-entry-at-requires c κs = search needs
-
-filler-requires : tie.Need-filler-requires Inv-loop μ-loop
-filler-requires c κs = search needs
-
-mul-is-entry : tie.Need-mul-is-entry Inv-loop μ-loop
-mul-is-entry c = search needs
-
-array-copy-out-is-entry : tie.Need-array-copy-out-is-entry Inv-loop μ-loop
-array-copy-out-is-entry c = search needs
-
-is-entry-requires : tie.Need-is-entry-requires Inv-loop μ-loop
-is-entry-requires c κs = search needs
-
 -- What stands past the last place.
 abbrev past : Token
 past = record { kind = Identifier; start = 0; length = 0 }
@@ -69,17 +54,8 @@ goes c =
 returns : tie.Need-returns Inv-loop μ-loop
 returns c = sym (goes (c .before) ∙ rw (not-true (c .before .is-entry .result) (c .if2 .taken)))
 
-add-i : tie.Need-add-i Inv-loop μ-loop
-add-i c = search needs
-
-loop-less : tie.Need-loop-less Inv-loop μ-loop
-loop-less c = search needs
-
 loop-again : tie.Need-loop-again Inv-loop μ-loop
 loop-again c = (search needs, c .before .before .before .before .before .before .loop .inv .1, sym (goes (c .before) ∙ rw (not-false (c .before .is-entry .result) (c .if2 .left))))
-
-is-record-end-requires : tie.Need-is-record-end-requires Inv-loop μ-loop
-is-record-end-requires c κs = search needs
 
 returns-2 : tie.Need-returns-2 Inv-loop μ-loop
 returns-2 c =
@@ -91,18 +67,5 @@ returns-2 c =
 pub are-entries-spec : {M : Type 1} → statement M
 are-entries-spec =
     tie.close
-    (tie.spec
-    Inv-loop
-    μ-loop
-    loop-holds
-    entry-at-requires
-    filler-requires
-    mul-is-entry
-    array-copy-out-is-entry
-    is-entry-requires
-    returns
-    add-i
-    loop-less
-    loop-again
-    is-record-end-requires
-    returns-2)
+    (tie.spec Inv-loop μ-loop loop-holds (search needs) (search needs) (search needs) (search needs) (search needs)
+    returns (search needs) (search needs) loop-again (search needs) returns-2)

@@ -27,15 +27,6 @@ good-6 : (c : tie.Joined6) → let a = c .before .before .before .before .before
     c .if6 .if7 ≡ (c .before .if5 .if6 && eqb (a .line .end) (a .end))
 good-6 c = ⊎-elim (λ w. w .2 ∙ rw (w .0 .taken)) (λ w. w .1 ∙ rw (w .0 .left)) (c .if6 .came)
 
-byte-at-requires : tie.Need-byte-at-requires
-byte-at-requires c κs = search needs
-
-wrapping-add-usize-requires : tie.Need-wrapping-add-usize-requires
-wrapping-add-usize-requires c κs = search needs
-
-are-entries-requires : tie.Need-are-entries-requires
-are-entries-requires c κs = search needs
-
 returns : tie.Need-returns
 unfolding sameLine behind
 returns c =
@@ -51,12 +42,6 @@ returns-2 c =
     let t = j .before .before in
     let e = rw (bad-2 (j .before)) at (bad-3 j) in
     rw (sameLine, t .if1 .taken, ← t .before .before .byte-at .ensures, ← e, c .if4 .left)
-
-number-at-requires : tie.Need-number-at-requires
-number-at-requires c κs = search needs
-
-are-entries-requires-2 : tie.Need-are-entries-requires-2
-are-entries-requires-2 c κs = search needs
 
 returns-3 : tie.Need-returns-3
 unfolding sameLine behind
@@ -79,13 +64,5 @@ returns-4 c =
 pub is-answer-spec : {M : Type 1} → statement M
 is-answer-spec =
     tie.close
-    (tie.spec
-    byte-at-requires
-    wrapping-add-usize-requires
-    are-entries-requires
-    returns
-    returns-2
-    number-at-requires
-    are-entries-requires-2
-    returns-3
+    (tie.spec (search needs) (search needs) (search needs) returns returns-2 (search needs) (search needs) returns-3
     returns-4)

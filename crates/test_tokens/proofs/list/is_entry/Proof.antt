@@ -9,9 +9,6 @@ use Rattle.test_tokens.specs.Entries.{sameToken}
 use Rattle.test_tokens.proofs.list.is_entry.Statement.{statement}
 use Rattle.test_tokens.proofs.list.is_entry.Tie as tie
 
-spelled-requires : tie.Need-spelled-requires
-spelled-requires c κs = search needs
-
 -- What each test adds, where its ways meet.
 joined-1 : (c : tie.Joined1) → let a = c .before .before .before .args in
     c .if1 .if2 ≡ (eqb (a .entry .tag) 107 && eqb (c .before .before .spelled .result .letter) (a .entry .kind))
@@ -42,4 +39,4 @@ returns-2 c =
     rw (sameToken, ← k .spelled .ensures, ← e, c .if4 .left)
 
 pub is-entry-spec : {M : Type 1} → statement M
-is-entry-spec = tie.close (tie.spec spelled-requires returns returns-2)
+is-entry-spec = tie.close (tie.spec (search needs) returns returns-2)

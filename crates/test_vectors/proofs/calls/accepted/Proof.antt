@@ -4,18 +4,9 @@ use borrow.Author.Needs.{needs}
 use Rattle.test_vectors.proofs.calls.accepted.Statement.{statement}
 use Rattle.test_vectors.proofs.calls.accepted.Tie as tie
 
-wide-requires : tie.Need-wide-requires
-wide-requires c κs = search needs
-
-wide-requires-2 : tie.Need-wide-requires-2
-wide-requires-2 c κs = search needs
-
-wide-requires-3 : tie.Need-wide-requires-3
-wide-requires-3 c κs = search needs
-
 returns : tie.Need-returns
 unfolding answerGiven
 returns c = rw (c .wide3 .ensures, c .before .wide2 .ensures, c .before .before .wide .ensures)
 
 pub accepted-spec : {M : Type 1} → statement M
-accepted-spec = tie.close (tie.spec wide-requires wide-requires-2 wide-requires-3 returns)
+accepted-spec = tie.close (tie.spec (search needs) (search needs) (search needs) returns)

@@ -5,27 +5,6 @@ use borrow.Author.Needs.{needs}
 use Rattle.test_vectors.proofs.calls.answer_of.Statement.{statement}
 use Rattle.test_vectors.proofs.calls.answer_of.Tie as tie
 
-enum-known-assembled : tie.Need-enum-known-assembled
-enum-known-assembled c = search needs
-
-accepted-requires : tie.Need-accepted-requires
-accepted-requires c κs = search needs
-
-enum-known-assembled-2 : tie.Need-enum-known-assembled-2
-enum-known-assembled-2 c = search needs
-
-wide-requires : tie.Need-wide-requires
-wide-requires c κs = search needs
-
-refused-requires : tie.Need-refused-requires
-refused-requires c κs = search needs
-
-enum-known-assembled-3 : tie.Need-enum-known-assembled-3
-enum-known-assembled-3 c = search needs
-
-refused-requires-2 : tie.Need-refused-requires-2
-refused-requires-2 c κs = search needs
-
 returns : tie.Need-returns
 returns c = rw (c .before .before .assembled .given .1) (c .accepted .ensures)
 
@@ -40,14 +19,5 @@ returns-3 c = rw (c .before .before .assembled3 .given .1) (c .refused2 .ensures
 pub answer-of-spec : {M : Type 1} → statement M
 answer-of-spec =
     tie.close
-    (tie.spec
-    enum-known-assembled
-    accepted-requires
-    enum-known-assembled-2
-    wide-requires
-    refused-requires
-    enum-known-assembled-3
-    refused-requires-2
-    returns
-    returns-2
-    returns-3)
+    (tie.spec (search needs) (search needs) (search needs) (search needs) (search needs) (search needs) (search needs)
+    returns returns-2 returns-3)

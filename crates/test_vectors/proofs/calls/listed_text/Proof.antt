@@ -4,24 +4,6 @@ use borrow.Author.Needs.{needs}
 use Rattle.test_vectors.proofs.calls.listed_text.Statement.{statement}
 use Rattle.test_vectors.proofs.calls.listed_text.Tie as tie
 
-enum-known-listing : tie.Need-enum-known-listing
-enum-known-listing c = search needs
-
-enum-known-listing-2 : tie.Need-enum-known-listing-2
-enum-known-listing-2 c = search needs
-
-wide-requires : tie.Need-wide-requires
-wide-requires c κs = search needs
-
-enum-known-listing-3 : tie.Need-enum-known-listing-3
-enum-known-listing-3 c = search needs
-
-wide-requires-2 : tie.Need-wide-requires-2
-wide-requires-2 c κs = search needs
-
-enum-known-listing-4 : tie.Need-enum-known-listing-4
-enum-known-listing-4 c = search needs
-
 returns : tie.Need-returns
 unfolding textGiven
 returns c = rw (c .before .listing .given .1)
@@ -41,14 +23,5 @@ returns-4 c = rw (c .before .listing4 .given .1)
 pub listed-text-spec : {M : Type 1} → statement M
 listed-text-spec =
     tie.close
-    (tie.spec
-    enum-known-listing
-    enum-known-listing-2
-    wide-requires
-    enum-known-listing-3
-    wide-requires-2
-    enum-known-listing-4
-    returns
-    returns-2
-    returns-3
-    returns-4)
+    (tie.spec (search needs) (search needs) (search needs) (search needs) (search needs) (search needs) returns
+    returns-2 returns-3 returns-4)

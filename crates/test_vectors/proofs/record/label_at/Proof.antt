@@ -5,28 +5,9 @@ use borrow.Author.Needs.{needs}
 use Rattle.test_vectors.proofs.record.label_at.Statement.{statement}
 use Rattle.test_vectors.proofs.record.label_at.Tie as tie
 
-wrapping-add-usize-requires : tie.Need-wrapping-add-usize-requires
-wrapping-add-usize-requires c κs = search needs
-
-number-at-requires : tie.Need-number-at-requires
-number-at-requires c κs = search needs
-
-number-at-requires-2 : tie.Need-number-at-requires-2
-number-at-requires-2 c κs = search needs
-
-number-at-requires-3 : tie.Need-number-at-requires-3
-number-at-requires-3 c κs = search needs
-
 returns : tie.Need-returns
 unfolding labelAt behind
 returns c = rw (c .number-at3 .ensures, c .before .number-at2 .ensures, c .before .before .number-at .ensures, c .before .before .before .wrapping-add-usize .ensures)
 
 pub label-at-spec : {M : Type 1} → statement M
-label-at-spec =
-    tie.close
-    (tie.spec
-    wrapping-add-usize-requires
-    number-at-requires
-    number-at-requires-2
-    number-at-requires-3
-    returns)
+label-at-spec = tie.close (tie.spec (search needs) (search needs) (search needs) (search needs) returns)

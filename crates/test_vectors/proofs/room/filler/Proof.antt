@@ -5,15 +5,9 @@ use borrow.Author.Needs.{needs}
 use Rattle.test_vectors.proofs.room.filler.Statement.{statement}
 use Rattle.test_vectors.proofs.room.filler.Tie as tie
 
-cast-result : tie.Need-cast-result
-cast-result c = search needs
-
-add-result : tie.Need-add-result
-add-result c = search needs
-
 returns : tie.Need-returns
 unfolding fillerAt
 returns c = refl
 
 pub filler-spec : {M : Type 1} → statement M
-filler-spec = tie.close (tie.spec cast-result add-result returns)
+filler-spec = tie.close (tie.spec (search needs) (search needs) returns)

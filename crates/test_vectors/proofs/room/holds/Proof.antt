@@ -44,23 +44,11 @@ returns-2 c = rw (holdsBytes, le-leb _ _ (c .before .if1 .left), lt-leb _ _ (c .
 loop-holds : tie.Need-loop-holds Inv-loop μ-loop
 loop-holds c = (search needs, refl)
 
-shared-slice-read-if3 : tie.Need-shared-slice-read-if3 Inv-loop μ-loop
-shared-slice-read-if3 c = search needs
-
-wanted-at-requires : tie.Need-wanted-at-requires Inv-loop μ-loop
-wanted-at-requires c κs = search needs
-
 returns-3 : tie.Need-returns-3 Inv-loop μ-loop
 unfolding holdsBytes
 returns-3 c =
     let e = c .before .before .before .before .before in
     rw (holdsBytes, le-leb _ _ (e .before .if1 .left), le-leb _ _ (e .if2 .left), goes (c .before), ne-eqb _ _ (c .if3 .taken))
-
-add-i : tie.Need-add-i Inv-loop μ-loop
-add-i c = search needs
-
-loop-less : tie.Need-loop-less Inv-loop μ-loop
-loop-less c = search needs
 
 loop-again : tie.Need-loop-again Inv-loop μ-loop
 loop-again c = (search needs, sym (goes (c .before) ∙ rw (eq-eqb _ _ (c .if3 .left))))
@@ -78,16 +66,5 @@ returns-4 c =
 pub holds-spec : {M : Type 1} → statement M
 holds-spec =
     tie.close
-    (tie.spec
-    Inv-loop
-    μ-loop
-    returns
-    returns-2
-    loop-holds
-    shared-slice-read-if3
-    wanted-at-requires
-    returns-3
-    add-i
-    loop-less
-    loop-again
-    returns-4)
+    (tie.spec Inv-loop μ-loop returns returns-2 loop-holds (search needs) (search needs) returns-3 (search needs)
+    (search needs) loop-again returns-4)

@@ -5,12 +5,6 @@ use borrow.Author.Needs.{needs}
 use Rattle.test_vectors.proofs.room.wanted_at.Statement.{statement}
 use Rattle.test_vectors.proofs.room.wanted_at.Tie as tie
 
-shared-slice-read-result : tie.Need-shared-slice-read-result
-shared-slice-read-result c = search needs
-
-filler-requires : tie.Need-filler-requires
-filler-requires c κs = search needs
-
 returns : tie.Need-returns
 unfolding bufferByte
 returns c = rw (bufferByte, lt-ltb _ _ (c .before .if1 .taken))
@@ -20,4 +14,4 @@ unfolding bufferByte
 returns-2 c = rw (bufferByte, le-ltb _ _ (c .before .if1 .left)) (c .filler .ensures)
 
 pub wanted-at-spec : {M : Type 1} → statement M
-wanted-at-spec = tie.close (tie.spec shared-slice-read-result filler-requires returns returns-2)
+wanted-at-spec = tie.close (tie.spec (search needs) (search needs) returns returns-2)

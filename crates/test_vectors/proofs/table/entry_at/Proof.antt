@@ -4,9 +4,6 @@ use borrow.Author.Needs.{needs}
 use Rattle.test_vectors.proofs.table.entry_at.Statement.{statement}
 use Rattle.test_vectors.proofs.table.entry_at.Tie as tie
 
-label-at-requires : tie.Need-label-at-requires
-label-at-requires c κs = search needs
-
 returns : tie.Need-returns
 unfolding entryAt
 returns c = rw (c .before .if1 .taken) (c .label-at .ensures)
@@ -16,4 +13,4 @@ unfolding entryAt
 returns-2 c = rw (c .if1 .left)
 
 pub entry-at-spec : {M : Type 1} → statement M
-entry-at-spec = tie.close (tie.spec label-at-requires returns returns-2)
+entry-at-spec = tie.close (tie.spec (search needs) returns returns-2)

@@ -22,18 +22,6 @@ abbrev μ-loop : tie.MeasureT-loop
 loop-holds : tie.Need-loop-holds Inv-loop μ-loop
 loop-holds c = (search needs, c .before .good .0 .1 .0 .1, rw (sub-zero (c .before .args .count)))
 
-entry-at-requires : tie.Need-entry-at-requires Inv-loop μ-loop
-entry-at-requires c κs = search needs
-
-mul-is-entry : tie.Need-mul-is-entry Inv-loop μ-loop
-mul-is-entry c = search needs
-
-array-copy-out-is-entry : tie.Need-array-copy-out-is-entry Inv-loop μ-loop
-array-copy-out-is-entry c = search needs
-
-is-entry-requires : tie.Need-is-entry-requires Inv-loop μ-loop
-is-entry-requires c κs = search needs
-
 -- What stands past the last entry.
 abbrev past : Label
 past = record { start = 0; length = 0; address = 0 }
@@ -52,12 +40,6 @@ goes c =
 returns : tie.Need-returns Inv-loop μ-loop
 returns c = sym (goes (c .before) ∙ rw (not-true (c .before .is-entry .result) (c .if1 .taken)))
 
-add-i : tie.Need-add-i Inv-loop μ-loop
-add-i c = search needs
-
-loop-less : tie.Need-loop-less Inv-loop μ-loop
-loop-less c = search needs
-
 loop-again : tie.Need-loop-again Inv-loop μ-loop
 loop-again c = (search needs, c .before .before .before .before .before .loop .inv .1, sym (goes (c .before) ∙ rw (not-false (c .before .is-entry .result) (c .if1 .left))))
 
@@ -70,16 +52,5 @@ returns-2 c =
 pub has-labels-spec : {M : Type 1} → statement M
 has-labels-spec =
     tie.close
-    (tie.spec
-    Inv-loop
-    μ-loop
-    loop-holds
-    entry-at-requires
-    mul-is-entry
-    array-copy-out-is-entry
-    is-entry-requires
-    returns
-    add-i
-    loop-less
-    loop-again
-    returns-2)
+    (tie.spec Inv-loop μ-loop loop-holds (search needs) (search needs) (search needs) (search needs) returns
+    (search needs) (search needs) loop-again returns-2)

@@ -13,30 +13,15 @@ use Rattle.test_words.proofs.calls.write.Tie as tie
 parted : (end : ℕ) (room : List ℕ) → end ≤ length room → (end ≤ length room) × (end ≡ length (take end room))
 parted end room h = (h, sym (length-take-le _ room h))
 
-mnemonics-requires : tie.Need-mnemonics-requires
-mnemonics-requires c κs = search needs
-
-instruction-length-requires : tie.Need-instruction-length-requires
-instruction-length-requires c κs = search needs
-
 write-instruction-requires : tie.Need-write-instruction-requires
 write-instruction-requires c κs =
     let m = c .before .before in
     let f = m .before .before in
     (f .mnemonics .ensures, omega (arith, m .instruction-length .ensures .0, m .instruction-length .ensures .1, f .before .before .pre))
 
-same-length : tie.Need-same-length
-same-length c = search needs
-
 returns : tie.Need-returns
 returns c = parted _ _ (search needs)
 
 pub write-spec : {M : Type 1} → statement M
 write-spec =
-    tie.close
-    (tie.spec
-    mnemonics-requires
-    instruction-length-requires
-    write-instruction-requires
-    same-length
-    returns)
+    tie.close (tie.spec (search needs) (λ c κs. search needs) write-instruction-requires (search needs) returns)

@@ -10,18 +10,6 @@ use borrow.Author.Needs.{needs}
 use Rattle.test_words.proofs.list.has_text.Statement.{statement}
 use Rattle.test_words.proofs.list.has_text.Tie as tie
 
-wrapping-add-usize-requires : tie.Need-wrapping-add-usize-requires
-wrapping-add-usize-requires c κs = search needs
-
-has-tag-requires : tie.Need-has-tag-requires
-has-tag-requires c κs = search needs
-
-wrapping-add-usize-requires-2 : tie.Need-wrapping-add-usize-requires-2
-wrapping-add-usize-requires-2 c κs = search needs
-
-holds-requires : tie.Need-holds-requires
-holds-requires c κs = search needs
-
 -- What the first two tests say, where their ways meet.
 joined : (c : tie.Joined1) → let w = c .before .before in let a = w .before .before .before .args in
     c .if1 .if2 ≡ (eqb (a .text .end) (w .wrapping-add-usize .result) && hasTag (a .list .now) (a .at) (a .tag))
@@ -40,12 +28,4 @@ returns-2 c =
     rw (sameText, behind, ← j .before .before .wrapping-add-usize .ensures, ← joined j, c .if2 .left)
 
 pub has-text-spec : {M : Type 1} → statement M
-has-text-spec =
-    tie.close
-    (tie.spec
-    wrapping-add-usize-requires
-    has-tag-requires
-    wrapping-add-usize-requires-2
-    holds-requires
-    returns
-    returns-2)
+has-text-spec = tie.close (tie.spec (search needs) (search needs) (search needs) (search needs) returns returns-2)

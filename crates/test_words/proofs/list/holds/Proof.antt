@@ -26,12 +26,6 @@ abbrev μ-loop : tie.MeasureT-loop
 loop-holds : tie.Need-loop-holds Inv-loop μ-loop
 loop-holds c = (search needs, refl)
 
-shared-slice-read-if1 : tie.Need-shared-slice-read-if1 Inv-loop μ-loop
-shared-slice-read-if1 c = search needs
-
-wanted-at-requires : tie.Need-wanted-at-requires Inv-loop μ-loop
-wanted-at-requires c κs = search needs
-
 -- What is left of the room agrees if its first byte does, and what is left behind it.
 goes : (c : tie.After-wanted-at Inv-loop μ-loop) → let k = c .before .before .before in let a = k .before .before .before .args in let T = inRoom (a .count) (a .list .now) (a .at) in
     everyFrom T 0 (a .room .now) ≡ (eqb (getD (a .room .now) (k .loop .i) 0) (c .wanted-at .result) && everyFrom T (k .loop .i + 1) (drop (k .loop .i + 1) (a .room .now)))
@@ -66,23 +60,8 @@ returns : tie.Need-returns Inv-loop μ-loop
 unfolding holdsText
 returns c = rw (holdsText, goes (c .before), ne-eqb _ _ (c .if1 .taken))
 
-add-i : tie.Need-add-i Inv-loop μ-loop
-add-i c = search needs
-
-loop-less : tie.Need-loop-less Inv-loop μ-loop
-loop-less c = search needs
-
 loop-again : tie.Need-loop-again Inv-loop μ-loop
 loop-again c = (search needs, sym (goes (c .before) ∙ rw (eq-eqb _ _ (c .if1 .left))))
-
-sub-if3 : tie.Need-sub-if3 Inv-loop μ-loop
-sub-if3 c = search needs
-
-wrapping-add-usize-requires : tie.Need-wrapping-add-usize-requires Inv-loop μ-loop
-wrapping-add-usize-requires c κs = search needs
-
-byte-at-requires : tie.Need-byte-at-requires Inv-loop μ-loop
-byte-at-requires c κs = search needs
 
 returns-2 : tie.Need-returns-2 Inv-loop μ-loop
 unfolding holdsText behind
@@ -97,18 +76,5 @@ returns-3 c = rw (holdsText, left (c .before .before), ← fits (c .before), c .
 pub holds-spec : {M : Type 1} → statement M
 holds-spec =
     tie.close
-    (tie.spec
-    Inv-loop
-    μ-loop
-    loop-holds
-    shared-slice-read-if1
-    wanted-at-requires
-    returns
-    add-i
-    loop-less
-    loop-again
-    sub-if3
-    wrapping-add-usize-requires
-    byte-at-requires
-    returns-2
-    returns-3)
+    (tie.spec Inv-loop μ-loop loop-holds (search needs) (search needs) returns (search needs) (search needs) loop-again
+    (search needs) (search needs) (search needs) returns-2 returns-3)

@@ -7,12 +7,6 @@ use borrow.Author.Needs.{needs}
 use Rattle.test_words.proofs.list.wanted_at.Statement.{statement}
 use Rattle.test_words.proofs.list.wanted_at.Tie as tie
 
-wrapping-add-usize-requires : tie.Need-wrapping-add-usize-requires
-wrapping-add-usize-requires c κs = search needs
-
-byte-at-requires : tie.Need-byte-at-requires
-byte-at-requires c κs = search needs
-
 returns : tie.Need-returns
 unfolding roomByte behind
 returns c =
@@ -25,5 +19,4 @@ returns-2 c =
     ⊎-elim (λ w. rw (roomByte, le-leb _ _ (w .0 .taken), w .1 .left)) (λ w. rw (roomByte, lt-leb _ _ (w .left))) (c .if1 .came)
 
 pub wanted-at-spec : {M : Type 1} → statement M
-wanted-at-spec =
-    tie.close (tie.spec wrapping-add-usize-requires byte-at-requires returns returns-2)
+wanted-at-spec = tie.close (tie.spec (search needs) (search needs) returns returns-2)

@@ -9,21 +9,6 @@ use Rattle.test_replay.specs.Tally.{oneMore, counted}
 use Rattle.test_replay.proofs.tally.Refusals.with.Statement.{statement}
 use Rattle.test_replay.proofs.tally.Refusals.with.Tie as tie
 
-mul-more : tie.Need-mul-more
-mul-more c = search needs
-
-array-read-more : tie.Need-array-read-more
-array-read-more c = search needs
-
-more-requires : tie.Need-more-requires
-more-requires c κs = search needs
-
-mul-counts : tie.Need-mul-counts
-mul-counts c = search needs
-
-array-write-counts : tie.Need-array-write-counts
-array-write-counts c = search needs
-
 returns : tie.Need-returns
 unfolding counted
 returns c = rw (c .more .ensures)
@@ -38,12 +23,4 @@ returns-2 c =
 
 pub with-spec : {M : Type 1} → statement M
 with-spec =
-    tie.close
-    (tie.spec
-    mul-more
-    array-read-more
-    more-requires
-    mul-counts
-    array-write-counts
-    returns
-    returns-2)
+    tie.close (tie.spec (search needs) (search needs) (search needs) (search needs) (search needs) returns returns-2)

@@ -3,14 +3,8 @@ use borrow.Author.Needs.{needs}
 use Rattle.test_vectors.proofs.answer.Answer.is.Statement.{statement}
 use Rattle.test_vectors.proofs.answer.Answer.is.Tie as tie
 
-values-requires : tie.Need-values-requires
-values-requires c κs = search needs
-
-has-requires : tie.Need-has-requires
-has-requires c κs = search needs
-
 returns : tie.Need-returns
 returns c = rw (← c .before .before .values .ensures) (c .has .ensures)
 
 pub is-spec : {M : Type 1} → statement M
-is-spec = tie.close (tie.spec values-requires has-requires returns)
+is-spec = tie.close (tie.spec (search needs) (search needs) returns)

@@ -5,15 +5,6 @@ use borrow.Author.Needs.{needs}
 use Rattle.test_vectors.proofs.answer.Header.has.Statement.{statement}
 use Rattle.test_vectors.proofs.answer.Header.has.Tie as tie
 
-values-requires : tie.Need-values-requires
-values-requires c κs = search needs
-
-slice-aggregate-same : tie.Need-slice-aggregate-same
-slice-aggregate-same c = search needs
-
-same-requires : tie.Need-same-requires
-same-requires c κs = search needs
-
 returns : tie.Need-returns
 unfolding sameHeader
 returns c =
@@ -25,5 +16,4 @@ unfolding sameHeader
 returns-2 c = rw (sameHeader, ne-eqb _ _ (c .if1 .left))
 
 pub has-spec : {M : Type 1} → statement M
-has-spec =
-    tie.close (tie.spec values-requires slice-aggregate-same same-requires returns returns-2)
+has-spec = tie.close (tie.spec (search needs) (search needs) (search needs) returns returns-2)
