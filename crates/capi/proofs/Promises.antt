@@ -4,12 +4,12 @@ use mathlib.Core.Path.{_≡_, refl, sym, ap, _∙_, subst}
 use mathlib.Core.Logic.{_↔_}
 use mathlib.Core.Bool.{Bool, true, false, true≢false}
 use mathlib.Core.Option.{Option, none, some}
-use mathlib.Core.List.{List, [], _∷_}
+use mathlib.Core.List.{List, _∷_}
 use native.Mathlib.Omega.{arith}
 use lib.ListN.{length, getD}
 use lib.Dec.{leb, eqb}
 use borrow.Author.Tests.{le-leb}
-use Rattle.text_lexical.specs.Bytes.{value, refused}
+use Rattle.text_lexical.specs.Bytes.{Result, value, refused}
 use Rattle.text_lexical.specs.Names.{Name}
 use Rattle.image.specs.Program.{header-size, imageLength}
 use Rattle.image.specs.Opening.{Opened as Parts, openingFault, opening}
@@ -21,7 +21,7 @@ use Rattle.image.proofs.Listed.{listed-usual}
 use Rattle.image.proofs.Lengths.{listed-short}
 use Rattle.image.proofs.Walking.{MeansIf, reading-means, accepted-assembles}
 use Rattle.guarantees.specs.Calls.{readingNumbers, assemblingNumbers, openingNumbers, textlessNumbers, listingNumbers, isOneOf, OneOf}
-use Rattle.guarantees.proofs.Numbered.{OfFault, OfAnswer, OfRefusal, OfListing, reading-numbered, assembling-numbered, opening-numbered, fault-numbered, listing-numbered}
+use Rattle.guarantees.proofs.Numbered.{by-test, by-fault, OfFault, OfAnswer, OfRefusal, OfListing, reading-numbered, assembling-numbered, opening-numbered, fault-numbered, listing-numbered}
 use Rattle.capi.specs.Contracts.{assembleNumber, assembleValues, openNumber, listNumber, listValues}
 use Rattle.capi.specs.Promises.{Promises}
 
@@ -33,11 +33,7 @@ not-missing ns m n miss h e = true≢false (sym h ∙ ap (isOneOf ns) e ∙ miss
 
 -- It is one of these and 0 as well.
 or-zero : (ns : List ℕ) (n : ℕ) → OneOf ns n → OneOf (0 ∷ ns) n
-or-zero ns n h = go (eqb n 0)
-  where
-    go : (b : Bool) → elim b [ true ↦ true | false ↦ isOneOf ns n ] ≡ true
-    go true = refl
-    go false = h
+or-zero ns n h = by-test (λ (b : Bool). b ≡ true) (eqb n 0) refl h
 
 -- What is known of a number is known of the one that is returned.
 returned : {n r : ℕ} {P : Type 0} → r ≡ n → (n ≡ 0) ↔ P → (r ≡ 0) ↔ P
@@ -89,13 +85,9 @@ opening-zero : (b : List ℕ) → (openNumber (opening b) ≡ 0) ↔ (openingFau
 unfolding opening
 opening-zero b = opened-zero _ (openingFault b) (opening-numbered b)
 
-opened-number : (parts : Parts) (o : Option ℕ) → OfFault (OneOf openingNumbers) o → OneOf (0 ∷ openingNumbers) (openNumber (elim o [ some n ↦ refused n | none ↦ value parts ]))
-opened-number parts none h = refl
-opened-number parts (some n) h = or-zero openingNumbers n h
-
 opening-number : (b : List ℕ) → OneOf (0 ∷ openingNumbers) (openNumber (opening b))
 unfolding opening
-opening-number b = opened-number _ (openingFault b) (opening-numbered b)
+opening-number b = by-fault (λ (r : Result Parts). OneOf (0 ∷ openingNumbers) (openNumber r)) (openingFault b) (opening-numbered b) refl (or-zero openingNumbers)
 
 -- ---- listing
 

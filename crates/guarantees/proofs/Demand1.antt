@@ -1,12 +1,10 @@
 -- Demand 1 holds of every call.
-use Prim.Native.Nat.{ℕ, _+_}
-use mathlib.Core.Option.{Option, none, some}
+use Prim.Native.Nat.{ℕ}
 use mathlib.Core.Path.{_≡_, sym, ap, subst}
 use mathlib.Core.List.{List}
 use lib.ListN.{length}
-use Rattle.text_lexical.specs.Bytes.{Result, value, refused}
+use Rattle.text_lexical.specs.Bytes.{Result}
 use Rattle.text_lexical.specs.Names.{Name}
-use Rattle.image.specs.Program.{header-size, headerOf, codeOf, dataOf}
 use Rattle.image.specs.Opening.{Opened, openingFault, opening}
 use Rattle.image.specs.Assembling.{Assembled as Reading, accepted, rejected, assembling}
 use Rattle.image.specs.Listing.{Listing as Written, written, rejected as unwritten, listing}
@@ -14,8 +12,8 @@ use Rattle.image.specs.Lent.{Answer, answerOf, entered, imageAfter, ListAnswer,
 use Rattle.image.specs.Contracts.{openedMeant}
 use Rattle.image_assembler.specs.Contracts.{answerMeant}
 use Rattle.image_listing.specs.Contracts.{listingMeant}
-use Rattle.guarantees.specs.Calls.{assemblingNumbers, openingNumbers, OneOf, IsNumbered, IsOpening, IsListing, IsRefusal, IsUnlisted, labelCount, Demand1}
-use Rattle.guarantees.proofs.Numbered.{OfFault, OfAnswer, OfListing, assembling-numbered, opening-numbered, listing-numbered}
+use Rattle.guarantees.specs.Calls.{assemblingNumbers, IsNumbered, IsOpening, IsListing, IsRefusal, IsUnlisted, labelCount, Demand1}
+use Rattle.guarantees.proofs.Numbered.{by-fault, OfAnswer, OfListing, assembling-numbered, opening-numbered, listing-numbered}
 
 -- An answer that is a refusal is that of a refused source, which leaves the image.
 image-left : (names : List Name) (source image image′ : List ℕ) (a : Reading) (x : Answer) → x ≡ answerOf a → image′ ≡ imageAfter names source a image → IsRefusal x → image′ ≡ image
@@ -40,14 +38,7 @@ is-numbered (rejected r) x e h = subst IsNumbered (sym e) h
 
 is-opening : (b : List ℕ) (x : Result Opened) → x ≡ opening b → IsOpening x
 unfolding opening
-is-opening b x e = subst IsOpening (sym e) (go (openingFault b) (opening-numbered b))
-  where
-    go : (o : Option ℕ) → OfFault (OneOf openingNumbers) o → IsOpening (elim o [
-      | some n ↦ refused n
-      | none ↦ value (record { header = headerOf b; code-end = header-size + headerOf b .code-size; code = codeOf b; initialized = dataOf b })
-    ])
-    go (some n) k = k
-    go none k = tt
+is-opening b x e = subst IsOpening (sym e) (by-fault IsOpening (openingFault b) (opening-numbered b) tt (λ n k. k))
 
 is-listing : (w : Written) (x : ListAnswer) → x ≡ listAnswerOf w → OfListing w → IsListing x
 unfolding listAnswerOf

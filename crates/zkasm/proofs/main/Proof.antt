@@ -14,26 +14,11 @@ output c = output-fits (rw (c .length .given .1) at (c .before .before .before .
 error : (c : tie.After-length2) → c .length2 .given .0 .0 ≤ length (c .before .before .before .answer-input .last .0)
 error c = error-fits (rw (c .length2 .given .1) at (c .before .before .before .answer-input .ensures))
 
-slice-aggregate-answer-input : tie.Need-slice-aggregate-answer-input
-slice-aggregate-answer-input c = search needs
-
-answer-input-requires : tie.Need-answer-input-requires
-answer-input-requires c κs = search needs
-
-enum-known-length : tie.Need-enum-known-length
-enum-known-length c = search needs
-
 array-share-prefix-out : tie.Need-array-share-prefix-out
 array-share-prefix-out c = output (c .before)
 
 slice-aggregate-print : tie.Need-slice-aggregate-print
 slice-aggregate-print c = sym (length-take-le _ _ (output (c .before .before)))
-
-print-requires : tie.Need-print-requires
-print-requires c κs = search needs
-
-enum-known-length-2 : tie.Need-enum-known-length-2
-enum-known-length-2 c = search needs
 
 array-share-prefix-out-2 : tie.Need-array-share-prefix-out-2
 array-share-prefix-out-2 c = error (c .before)
@@ -41,28 +26,8 @@ array-share-prefix-out-2 c = error (c .before)
 slice-aggregate-tell : tie.Need-slice-aggregate-tell
 slice-aggregate-tell c = sym (length-take-le _ _ (error (c .before .before)))
 
-tell-requires : tie.Need-tell-requires
-tell-requires c κs = search needs
-
-returns : tie.Need-returns
-returns c = search needs
-
-returns-2 : tie.Need-returns-2
-returns-2 c = search needs
-
 pub main-spec : {M : Type 1} → statement M
 main-spec =
     tie.close
-    (tie.spec
-    slice-aggregate-answer-input
-    answer-input-requires
-    enum-known-length
-    array-share-prefix-out
-    slice-aggregate-print
-    print-requires
-    enum-known-length-2
-    array-share-prefix-out-2
-    slice-aggregate-tell
-    tell-requires
-    returns
-    returns-2)
+    (tie.spec (search needs) (search needs) (λ c. search needs) array-share-prefix-out slice-aggregate-print (search needs)
+    (λ c. search needs) array-share-prefix-out-2 slice-aggregate-tell (search needs) (search needs) (search needs))

@@ -22,47 +22,11 @@ whole c = rw (c .n .given .1) at (c .before .before .before .read-input .ensures
 fits : (c : tie.After-n) → c .n .given .0 .0 ≤ length (c .before .before .before .read-input .last .0)
 fits c = whole-fits (sym (c .before .before .before .before .before .blank .ensures)) (whole c)
 
-blank-requires : tie.Need-blank-requires
-blank-requires c κs = search needs
-
-slice-aggregate-read-input : tie.Need-slice-aggregate-read-input
-slice-aggregate-read-input c = search needs
-
-read-input-requires : tie.Need-read-input-requires
-read-input-requires c κs = search needs
-
-enum-known-n : tie.Need-enum-known-n
-enum-known-n c = search needs
-
 array-share-prefix-input : tie.Need-array-share-prefix-input
 array-share-prefix-input c = fits (c .before)
 
 slice-aggregate-report : tie.Need-slice-aggregate-report
 slice-aggregate-report c = sym (length-take-le _ _ (fits (c .before .before)))
-
-report-requires : tie.Need-report-requires
-report-requires c κs = search needs
-
-enum-told : tie.Need-enum-told
-enum-told c = search needs
-
-slice-aggregate-report-2 : tie.Need-slice-aggregate-report-2
-slice-aggregate-report-2 c = search needs
-
-report-requires-2 : tie.Need-report-requires-2
-report-requires-2 c κs = search needs
-
-enum-told-2 : tie.Need-enum-told-2
-enum-told-2 c = search needs
-
-slice-aggregate-write-bytes : tie.Need-slice-aggregate-write-bytes
-slice-aggregate-write-bytes c = search needs
-
-write-bytes-requires : tie.Need-write-bytes-requires
-write-bytes-requires c κs = search needs
-
-same-length : tie.Need-same-length
-same-length c = search needs
 
 returns : tie.Need-returns
 unfolding writingOf
@@ -76,9 +40,6 @@ returns c =
       calls = r .calls;
       writes = rw (whole-front (sym (n .before .before .before .before .before .blank .ensures)) r) at (p .report .ensures);
     }
-
-same-length-2 : tie.Need-same-length-2
-same-length-2 c = search needs
 
 returns-2 : tie.Need-returns-2
 unfolding writingOf
@@ -94,9 +55,6 @@ returns-2 c =
       writes = rw (too-long-fills (sym (i .before .before .blank .ensures)) r) at (p .report2 .ensures);
     }
 
-same-length-3 : tie.Need-same-length-3
-same-length-3 c = search needs
-
 returns-3 : tie.Need-returns-3
 unfolding writingOf incomplete-line bytes
 returns-3 c =
@@ -109,23 +67,6 @@ returns-3 c =
 pub answer-input-spec : {M : Type 1} → statement M
 answer-input-spec =
     tie.close
-    (tie.spec
-    blank-requires
-    slice-aggregate-read-input
-    read-input-requires
-    enum-known-n
-    array-share-prefix-input
-    slice-aggregate-report
-    report-requires
-    enum-told
-    slice-aggregate-report-2
-    report-requires-2
-    enum-told-2
-    slice-aggregate-write-bytes
-    write-bytes-requires
-    same-length
-    returns
-    same-length-2
-    returns-2
-    same-length-3
-    returns-3)
+    (tie.spec (search needs) (search needs) (search needs) (search needs) array-share-prefix-input
+    slice-aggregate-report (search needs) (search needs) (search needs) (search needs) (search needs) (search needs)
+    (search needs) (search needs) returns (search needs) returns-2 (search needs) returns-3)

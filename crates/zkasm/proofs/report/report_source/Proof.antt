@@ -15,18 +15,6 @@ use Rattle.zkasm.proofs.Printing.{Listable, listable, output-refused, n
 use Rattle.zkasm.proofs.report.report_source.Statement.{statement}
 use Rattle.zkasm.proofs.report.report_source.Tie as tie
 
-assemble-requires : tie.Need-assemble-requires
-assemble-requires c κs = search needs
-
-enum-known-number : tie.Need-enum-known-number
-enum-known-number c = search needs
-
-write-refusal-requires : tie.Need-write-refusal-requires
-write-refusal-requires c κs = search needs
-
-enum-known-words : tie.Need-enum-known-words
-enum-known-words c = search needs
-
 -- the input is accepted
 accepted : (c : tie.After-words) → let a = c .before .before .before .before .before .before .before .before .before .args in
     Listable (a .input .now) (c .words .given .0 .0) (assembling present (a .input .now) table-room (length (a .image .now)))
@@ -74,15 +62,6 @@ write-listing-requires c κs =
     let t = text-short (s .args .input .now) (s .pre .0) in
     rw (front n) (never-32 (s .args .input .now) (s .pre .0) (length (s .args .out .now)) (s .pre .1 .1), omega arith)
 
-enum-known-labels : tie.Need-enum-known-labels
-enum-known-labels c = search needs
-
-same-length : tie.Need-same-length
-same-length c = search needs
-
-same-length-2 : tie.Need-same-length-2
-same-length-2 c = search needs
-
 returns : tie.Need-returns
 returns c =
     let w = c .before .before in
@@ -92,20 +71,11 @@ returns c =
     rw (output-refused (s .args .input .now) (length (s .args .image .now)) (s .pre .0) (s .pre .1 .0) (rw (n .number .given .1) at (f .assemble .ensures .answer)))
     (w .write-refusal .ensures)
 
-same-length-3 : tie.Need-same-length-3
-same-length-3 c = search needs
-
-same-length-4 : tie.Need-same-length-4
-same-length-4 c = search needs
-
 returns-2 : tie.Need-returns-2
 returns-2 c =
     let w = c .before .before in
     let n = w .before .before .before .before in
     rw (accepted n .output ∙ ap textOf (sym (front n))) (w .write-listing .ensures)
-
-same-length-5 : tie.Need-same-length-5
-same-length-5 c = search needs
 
 returns-3 : tie.Need-returns-3
 returns-3 c =
@@ -117,22 +87,6 @@ returns-3 c =
 pub report-source-spec : {M : Type 1} → statement M
 report-source-spec =
     tie.close
-    (tie.spec
-    assemble-requires
-    enum-known-number
-    write-refusal-requires
-    enum-known-words
-    mul-write-listing
-    add-write-listing
-    slice-reshare-prefix-write-listing
-    slice-aggregate-write-listing
-    write-listing-requires
-    enum-known-labels
-    same-length
-    same-length-2
-    returns
-    same-length-3
-    same-length-4
-    returns-2
-    same-length-5
-    returns-3)
+    (tie.spec (search needs) (search needs) (search needs) (search needs) mul-write-listing add-write-listing
+    slice-reshare-prefix-write-listing slice-aggregate-write-listing write-listing-requires (search needs)
+    (search needs) (search needs) returns (search needs) (search needs) returns-2 (search needs) returns-3)

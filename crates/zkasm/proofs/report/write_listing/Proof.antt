@@ -16,24 +16,12 @@ use Rattle.zkasm.proofs.Printing.{lists-always, lists-prints}
 use Rattle.zkasm.proofs.report.write_listing.Statement.{statement}
 use Rattle.zkasm.proofs.report.write_listing.Tie as tie
 
-list-requires : tie.Need-list-requires
-list-requires c κs = search needs
-
-enum-known-length : tie.Need-enum-known-length
-enum-known-length c = search needs
-
-same-length : tie.Need-same-length
-same-length c = search needs
-
 returns : tie.Need-returns
 returns c =
     let n = c .before in
     let l = n .before .before .before .before in
     let s = l .before .before .before .before in
     lists-prints (s .args .image .now) (s .args .out .now) (s .pre .0) (s .pre .1) (rw (n .length .given .1) at (l .list .ensures))
-
-same-length-2 : tie.Need-same-length-2
-same-length-2 c = search needs
 
 -- The places of the refusals.
 abbrev refusals : List ℕ
@@ -53,6 +41,4 @@ returns-2 c =
     no-refusal (s .args .image .now) (s .args .out .now) (s .pre .0) (l .list .result) (c .match .keys2) (l .list .ensures .answer)
 
 pub write-listing-spec : {M : Type 1} → statement M
-write-listing-spec =
-    tie.close
-    (tie.spec list-requires enum-known-length same-length returns same-length-2 returns-2)
+write-listing-spec = tie.close (tie.spec (search needs) (search needs) (search needs) returns (search needs) returns-2)

@@ -44,20 +44,11 @@ room-3 c =
     let x = c .before .before .before .before .before in
     room-behind (c .write-bytes2 .ensures) (decimal (x .before .before .before .before .before .before .before .before .args .line) ++ (10 ∷ [])) (room-2 x)
 
-slice-aggregate-write-bytes : tie.Need-slice-aggregate-write-bytes
-slice-aggregate-write-bytes c = search needs
-
-write-bytes-requires : tie.Need-write-bytes-requires
-write-bytes-requires c κs = search needs
-
 write-decimal-requires : tie.Need-write-decimal-requires
 write-decimal-requires c κs =
     let x = c .before .before .before in
     let a = x .before .before .before .before .args in
     room-before (x .write-bytes .last .0) (x .write-bytes .result) (decimal (a .number)) _ (room-1 x)
-
-slice-aggregate-write-bytes-2 : tie.Need-slice-aggregate-write-bytes-2
-slice-aggregate-write-bytes-2 c = search needs
 
 write-bytes-requires-2 : tie.Need-write-bytes-requires-2
 unfolding bytes
@@ -72,16 +63,10 @@ write-decimal-requires-2 c κs =
     let a = x .before .before .before .before .before .before .before .before .before .before .before .before .before .args in
     room-before (x .write-bytes2 .last .0) (x .write-bytes2 .result) (decimal (a .line)) _ (room-3 x)
 
-slice-aggregate-write-bytes-3 : tie.Need-slice-aggregate-write-bytes-3
-slice-aggregate-write-bytes-3 c = search needs
-
 write-bytes-requires-3 : tie.Need-write-bytes-requires-3
 write-bytes-requires-3 c κs =
     let x = c .before .before .before .before in
     room-behind (x .write-decimal2 .ensures) (10 ∷ []) (room-3 (x .before .before .before .before))
-
-same-length : tie.Need-same-length
-same-length c = search needs
 
 returns : tie.Need-returns
 unfolding refusalText bytes
@@ -106,14 +91,5 @@ returns c =
 pub write-refusal-spec : {M : Type 1} → statement M
 write-refusal-spec =
     tie.close
-    (tie.spec
-    slice-aggregate-write-bytes
-    write-bytes-requires
-    write-decimal-requires
-    slice-aggregate-write-bytes-2
-    write-bytes-requires-2
-    write-decimal-requires-2
-    slice-aggregate-write-bytes-3
-    write-bytes-requires-3
-    same-length
-    returns)
+    (tie.spec (search needs) (search needs) write-decimal-requires (search needs) write-bytes-requires-2
+    write-decimal-requires-2 (search needs) write-bytes-requires-3 (search needs) returns)

@@ -20,9 +20,6 @@ Inv-loop input₀ piece₀ filled₀ tries₀ input piece filled tries = (input-
 abbrev μ-loop : tie.MeasureT-loop
 μ-loop input₀ piece₀ filled₀ tries₀ input piece filled tries = input-room - filled + tries
 
-blank-requires : tie.Need-blank-requires Inv-loop μ-loop
-blank-requires c κs = search needs
-
 loop-holds : tie.Need-loop-holds Inv-loop μ-loop
 unfolding over
 loop-holds c = (c .blank .ensures, record { came = []; calls = start; holds = refl })
@@ -55,9 +52,6 @@ step-after-requires c κs =
     let l = p .before .before .before in
     next-fits (l .loop .inv .1) (l .before .before .before .pre) (p .read-piece .ensures)
 
-enum-known-more : tie.Need-enum-known-more Inv-loop μ-loop
-enum-known-more c = search needs
-
 loop-less : tie.Need-loop-less Inv-loop μ-loop
 loop-less c =
     let m = c .before in
@@ -71,9 +65,6 @@ loop-again c =
     let m = c .before in
     let a = m .before .before in
     (piece-room (a .before .before .before .before), rw (m .more .given .1) at (turned a))
-
-enum-known-outcome : tie.Need-enum-known-outcome Inv-loop μ-loop
-enum-known-outcome c = search needs
 
 same-length : tie.Need-same-length Inv-loop μ-loop
 same-length c =
@@ -90,17 +81,5 @@ returns c =
 pub read-input-spec : {M : Type 1} → statement M
 read-input-spec =
     tie.close
-    (tie.spec
-    Inv-loop
-    μ-loop
-    blank-requires
-    loop-holds
-    slice-aggregate-read-piece
-    read-piece-requires
-    step-after-requires
-    enum-known-more
-    loop-less
-    loop-again
-    enum-known-outcome
-    same-length
-    returns)
+    (tie.spec Inv-loop μ-loop (search needs) loop-holds slice-aggregate-read-piece read-piece-requires
+    step-after-requires (search needs) loop-less loop-again (search needs) same-length returns)

@@ -54,20 +54,11 @@ none-came End h = refl
 none-came Interrupted h = refl
 none-came Failed h = refl
 
-sub-left : tie.Need-sub-left
-sub-left c = search needs
-
-slice-relend-prefix-read-some : tie.Need-slice-relend-prefix-read-some
-slice-relend-prefix-read-some c = search needs
-
 slice-aggregate-read-some : tie.Need-slice-aggregate-read-some
 slice-aggregate-read-some c = sym (left (c .before .before .before))
 
 read-some-requires : tie.Need-read-some-requires
 read-some-requires c κs = omega (arith, left (c .before .before .before), c .before .before .before .pre .0)
-
-enum-known-delivery : tie.Need-enum-known-delivery
-enum-known-delivery c = search needs
 
 slice-reshare-prefix-write-bytes : tie.Need-slice-reshare-prefix-write-bytes
 slice-reshare-prefix-write-bytes c = within (c .before .before)
@@ -80,21 +71,12 @@ write-bytes-requires c κs =
     let a = c .before .before .before in
     omega (arith, few a, sized a)
 
-same-length : tie.Need-same-length
-same-length c = search needs
-
-same-length-2 : tie.Need-same-length-2
-same-length-2 c = search needs
-
 returns : tie.Need-returns
 unfolding countOf
 returns c =
     let w = c .before .before in
     let a = w .before .before .before .before in
     record { delivers = rw (a .delivery .given .1) at (delivered (a .before .before .before .before)); holds = w .write-bytes .ensures .holds }
-
-same-length-3 : tie.Need-same-length-3
-same-length-3 c = search needs
 
 returns-2 : tie.Need-returns-2
 returns-2 c =
@@ -104,17 +86,6 @@ returns-2 c =
 pub read-piece-spec : {M : Type 1} → statement M
 read-piece-spec =
     tie.close
-    (tie.spec
-    sub-left
-    slice-relend-prefix-read-some
-    slice-aggregate-read-some
-    read-some-requires
-    enum-known-delivery
-    slice-reshare-prefix-write-bytes
-    slice-aggregate-write-bytes
-    write-bytes-requires
-    same-length
-    same-length-2
-    returns
-    same-length-3
-    returns-2)
+    (tie.spec (search needs) (search needs) slice-aggregate-read-some read-some-requires (search needs)
+    slice-reshare-prefix-write-bytes slice-aggregate-write-bytes write-bytes-requires (search needs) (search needs)
+    returns (search needs) returns-2)

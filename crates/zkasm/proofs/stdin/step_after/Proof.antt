@@ -30,9 +30,6 @@ unfolding stepOf
 gives-up filled zero h = refl
 gives-up filled (suc tries) h = absurd (omega arith)
 
-enum-known-delivery : tie.Need-enum-known-delivery
-enum-known-delivery c = search needs
-
 add-filled : tie.Need-add-filled
 unfolding countOf
 add-filled c =
@@ -45,18 +42,6 @@ returns c =
     let s = c .before .before .before .before in
     let a = c .before .before .delivery .given in
     rw (a .1) (goes-on (s .args .filled) (s .args .tries) (a .0 .0) (c .if1 .taken))
-
-enum-told : tie.Need-enum-told
-enum-told c = search needs
-
-enum-told-2 : tie.Need-enum-told-2
-enum-told-2 c = search needs
-
-sub-tries : tie.Need-sub-tries
-sub-tries c = search needs
-
-enum-told-3 : tie.Need-enum-told-3
-enum-told-3 c = search needs
 
 returns-2 : tie.Need-returns-2
 returns-2 c =
@@ -85,16 +70,5 @@ returns-6 c = rw (c .enum-told3 .given .1)
 pub step-after-spec : {M : Type 1} → statement M
 step-after-spec =
     tie.close
-    (tie.spec
-    enum-known-delivery
-    add-filled
-    returns
-    enum-told
-    enum-told-2
-    sub-tries
-    enum-told-3
-    returns-2
-    returns-3
-    returns-4
-    returns-5
-    returns-6)
+    (tie.spec (search needs) add-filled returns (search needs) (search needs) (search needs) (search needs) returns-2
+    returns-3 returns-4 returns-5 returns-6)
