@@ -2,12 +2,12 @@
 ghost use mathlib.Core.Path.{_≡_};
 ghost use mathlib.Core.List.{[], _∷_, map};
 ghost use mathlib.Core.Option.{some};
-ghost use Prim.Native.Nat.{_≤_};
+ghost use Prim.Native.Nat.{_+_, _^_, _≤_, _<_};
 ghost use lib.ListN.{length};
 ghost use Rattle.text_lexical.specs.Bytes.{lower};
 ghost use Rattle.text_lexical.specs.Names.{named, present};
 ghost use Rattle.text_lexical.specs.Contracts.{keyOf, nameMeant, nameNumber, registerNumber};
-ghost use Rattle.text_lexical.specs.Words.{WordIs};
+ghost use Rattle.text_lexical.specs.Words.{WordIs, Roomy, withByte};
 use crate::bytes::Class;
 use crate::register::Register;
 
@@ -121,20 +121,53 @@ pub fn parse_register(name: &[u8]) -> RegisterName
     RegisterName::Other
 }
 
-// The key of a spelling in lower case: its bytes, the first lowest, with a 1 after them; 0 where there are more than seven.
+// How many bytes a key has at most.
+const KEY_BYTES: usize = 7;
+
+// Bytes packed so far: their number, the first byte lowest, and what the next byte counts. Passed by value, so that it stays in registers.
+struct Packed {
+    sum: u64,
+    scale: u64,
+}
+
+// No byte.
+const UNPACKED: Packed = Packed { sum: 0, scale: 1 };
+
+impl Packed {
+    // A byte more, in lower case.
+    fn with(self, b: u8) -> Packed
+        requires { ⌜ Roomy self ⌝ }
+        ensures { λ r. ⌜ r ≡ withByte self (lower b) ⌝ }
+    {
+        Packed {
+            sum: self.sum + crate::number::wide(crate::bytes::to_lower(b)) * self.scale,
+            scale: self.scale * 256,
+        }
+    }
+
+    // The key: a 1 after the last byte.
+    fn key(self) -> u64
+        requires { ⌜ self .sum + self .scale < 2 ^ 64 ⌝ }
+        ensures { λ r. ⌜ r ≡ self .sum + self .scale ⌝ }
+    {
+        self.sum + self.scale
+    }
+}
+
+// The key of a spelling in lower case; 0 where it has too many bytes.
 pub fn lower_key(spelling: &[u8]) -> u64
     ensures { λ r. ⌜ r ≡ keyOf (map lower (now (spelling .entry))) ⌝ }
 {
-    if 7 < spelling.len() {
+    if KEY_BYTES < spelling.len() {
         return 0;
     }
-    let mut key: u64 = 1;
-    let mut i = spelling.len();
-    while 0 < i {
-        i -= 1;
-        key = key * 256 + crate::number::wide(crate::bytes::to_lower(spelling[i]));
+    let mut packed = UNPACKED;
+    let mut i = 0;
+    while i < spelling.len() {
+        packed = packed.with(spelling[i]);
+        i += 1;
     }
-    key
+    packed.key()
 }
 
 // The word at `at`: its key in lower case, and its end. It has no byte where no part of a name stands.
@@ -142,30 +175,27 @@ pub fn lower_word(text: &[u8], at: usize) -> Word
     requires { ⌜ at ≤ length (now text) ⌝ }
     ensures { λ r. ⌜ WordIs (now (text .entry)) at r ⌝ }
 {
-    let mut sum: u64 = 0;
-    let mut scale: u64 = 1;
+    let mut packed = UNPACKED;
     let mut i = at;
     while i < text.len() {
         let b = text[i];
         if !crate::bytes::is_name_part(b) {
             return Word {
-                key: sum + scale,
+                key: packed.key(),
                 end: i,
             };
         }
-        if 7 <= i - at {
-            // the key of a longer word is 0
+        if KEY_BYTES <= i - at {
             return Word {
                 key: 0,
                 end: crate::bytes::run_end(text, i, Class::NamePart),
             };
         }
-        sum = sum + crate::number::wide(crate::bytes::to_lower(b)) * scale;
-        scale = scale * 256;
+        packed = packed.with(b);
         i += 1;
     }
     Word {
-        key: sum + scale,
+        key: packed.key(),
         end: i,
     }
 }
