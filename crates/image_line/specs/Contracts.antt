@@ -13,8 +13,8 @@ use Rattle.text_lexical.specs.Bytes.{value, nameStart, same, isSome}
 use Rattle.text_lexical.specs.Names.{Name, named}
 use Rattle.text_lexical.specs.Contracts.{indexOf, nameNumber, wholeFor}
 use Rattle.text_lexical.specs.Words.{part, WordIs}
-use Rattle.text_lexical.specs.declared.name.RegisterName.{RegisterName}
-use Rattle.text_lexical.specs.declared.name.RegisterName.the-variants.{Is as Named, NoSuch, Other as NoName}
+use Rattle.text_lexical.specs.declared.name.RegisterWord.{RegisterWord}
+use Rattle.text_lexical.specs.declared.name.RegisterWord.the-variants.{Is as IsRegister, Other as NoRegister}
 use Rattle.text_lexical.specs.declared.number.Whole.{Whole}
 use Rattle.text_lexical.specs.declared.register.Register.{Register}
 use Rattle.text_lexical.specs.declared.register.Register.the-variants.{R0}
@@ -36,8 +36,6 @@ use Rattle.image.specs.Settings.{Settings}
 use Rattle.image.specs.Assembling.{Context, Effect as MeantEffect, nothing, sets, codes, faulty, Read as MeantRead, readOn}
 use Rattle.image.specs.Contracts.{settingsMeant, configFor, recordMeant}
 use Rattle.image.specs.declared.config.Config.{Config}
-use Rattle.image_line.specs.declared.operand.RegisterAt.{RegisterAt}
-use Rattle.image_line.specs.declared.operand.RegisterAt.the-variants.{Is as IsRegister, Other as NoRegister}
 use Rattle.image_line.specs.declared.operand.NumberAt.{NumberAt}
 use Rattle.image_line.specs.declared.operand.NumberAt.the-variants.{Is as IsNumber, Other as NoNumber}
 use Rattle.image_line.specs.declared.operand.AfterMark.{AfterMark}
@@ -68,15 +66,9 @@ pub record Reads (names : List Name) (s : List ℕ) (at : ℕ) (t : Token) (next
   pub in-text : next ≤ length s
   pub ends : endAt s next ≡ endAt s at
 
-abbrev pub RegisterIs : List Name → List ℕ → ℕ → RegisterAt → Type 0
+abbrev pub RegisterIs : List Name → List ℕ → ℕ → RegisterWord → Type 0
 RegisterIs names s at (IsRegister r next) = Reads names s at (register (some (indexOf r))) next
 RegisterIs names s at NoRegister = Unit {0}
-
--- A register that is named up to a place.
-abbrev pub upTo : RegisterName → ℕ → RegisterAt
-upTo (Named r) next = IsRegister r next
-upTo NoSuch next = NoRegister
-upTo NoName next = NoRegister
 
 -- A token of such a kind, whatever its spelling.
 abbrev pub NumberIs : List Name → List ℕ → ℕ → NumberAt → Type 0

@@ -7,7 +7,7 @@ ghost use lib.ListN.{length};
 ghost use Rattle.text_lexical.specs.Bytes.{lower};
 ghost use Rattle.text_lexical.specs.Names.{named, present};
 ghost use Rattle.text_lexical.specs.Contracts.{keyOf, nameMeant, nameNumber, registerNumber};
-ghost use Rattle.text_lexical.specs.Words.{WordIs, Roomy, withByte};
+ghost use Rattle.text_lexical.specs.Words.{Roomy, withByte, WordIs, upTo, RegisterWordIs};
 use crate::bytes::Class;
 use crate::register::Register;
 
@@ -24,6 +24,16 @@ pub enum RegisterName {
     // no name
     Other,
 }
+
+// The register that the word at a place names, and the word's end.
+pub enum RegisterWord {
+    Is { register: Register, end: usize },
+    // The word names no register, or it stands too near the text's end for this look-up.
+    Other,
+}
+
+// How many bytes the longest name has.
+pub const LONGEST: usize = 4;
 
 // The names of two bytes, by the last three bits of the first byte, which tell the letters apart: a branch for each letter would often be
 // guessed wrong. Each table has eight bytes, so that it stays in a register.
@@ -50,7 +60,7 @@ fn numbered(number: u8) -> RegisterName
 }
 
 // The register that two bytes name.
-pub fn two_bytes(first: u8, second: u8) -> RegisterName
+fn two_bytes(first: u8, second: u8) -> RegisterName
     ensures { λ r. ⌜ nameMeant r ≡ nameNumber (named present (first ∷ second ∷ [])) ⌝ }
 {
     let slot = (first % 8) as usize;
@@ -70,7 +80,7 @@ pub fn two_bytes(first: u8, second: u8) -> RegisterName
 }
 
 // The register that three bytes name: r10 to r15.
-pub fn three_bytes(first: u8, second: u8, third: u8) -> RegisterName
+fn three_bytes(first: u8, second: u8, third: u8) -> RegisterName
     ensures { λ r. ⌜ nameMeant r ≡ nameNumber (named present (first ∷ second ∷ third ∷ [])) ⌝ }
 {
     if first != b'r' {
@@ -86,7 +96,7 @@ pub fn three_bytes(first: u8, second: u8, third: u8) -> RegisterName
 }
 
 // The register that four bytes name: zero.
-pub fn four_bytes(first: u8, second: u8, third: u8, fourth: u8) -> RegisterName
+fn four_bytes(first: u8, second: u8, third: u8, fourth: u8) -> RegisterName
     ensures { λ r. ⌜ nameMeant r ≡ nameNumber (named present (first ∷ second ∷ third ∷ fourth ∷ [])) ⌝ }
 {
     if first != b'z' {
@@ -119,6 +129,41 @@ pub fn parse_register(name: &[u8]) -> RegisterName
         return four_bytes(name[0], name[1], name[2], name[3]);
     }
     RegisterName::Other
+}
+
+// A register that is named up to a place.
+fn up_to(name: RegisterName, end: usize) -> RegisterWord
+    ensures { λ r. ⌜ r ≡ upTo name end ⌝ }
+{
+    match name {
+        RegisterName::Is(register) => RegisterWord::Is { register, end },
+        _ => RegisterWord::Other,
+    }
+}
+
+// The register that the word at `at` names, found while the word's end is: for an operand, whose name is looked up at once. The byte after
+// the longest name is looked at too, so that a word at the text's end is left to `parse_register`.
+pub fn register_word(text: &[u8], at: usize) -> RegisterWord
+    requires { ⌜ at ≤ length (now text) ⌝ }
+    ensures { λ r. ⌜ RegisterWordIs present (now (text .entry)) at r ⌝ }
+{
+    if text.len() - at <= LONGEST {
+        return RegisterWord::Other;
+    }
+    let first = text[at];
+    let second = text[at + 1];
+    let third = text[at + 2];
+    if !crate::bytes::is_name_part(third) {
+        return up_to(two_bytes(first, second), at + 2);
+    }
+    let fourth = text[at + 3];
+    if !crate::bytes::is_name_part(fourth) {
+        return up_to(three_bytes(first, second, third), at + 3);
+    }
+    if !crate::bytes::is_name_part(text[at + 4]) {
+        return up_to(four_bytes(first, second, third, fourth), at + 4);
+    }
+    RegisterWord::Other
 }
 
 // How many bytes a key has at most.

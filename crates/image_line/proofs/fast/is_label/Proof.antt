@@ -4,17 +4,18 @@ use mathlib.Core.Path.{_≡_, sym}
 use native.Mathlib.Omega.{arith}
 use mathlib.Core.Bool.{false}
 use mathlib.Core.List.{List, [], _∷_}
-use lib.ListN.{getD}
+use lib.ListN.{drop, getD, length-take, length-drop}
 use denote.Enum.Declared.{tagOf}
 use types.Run.{OneOf, miss}
 use Rattle.text_lexical.specs.Names.{named, present}
 use Rattle.text_lexical.specs.Contracts.{nameNumber, nameMeant}
 use Rattle.text_lexical.specs.declared.name.RegisterName.{RegisterName}
 use Rattle.text_lexical.specs.declared.name.RegisterName.the-variants.{Is, NoSuch, Other}
+use Rattle.text_lexical.proofs.Naming.{long-none}
 use Rattle.text_lexical.proofs.name.RegisterName as register-name-type
 use Rattle.text_lexical.specs.Words.{part}
 use Rattle.image_line.specs.Contracts.{isLabel}
-use Rattle.image_line.proofs.Lines.{no-byte, no-colon, no-name, a-name, names-short, long-name}
+use Rattle.image_line.proofs.Lines.{no-byte, no-colon, no-name, a-name}
 use borrow.Author.Needs.{needs}
 use Rattle.image_line.proofs.fast.is_label.Statement.{statement}
 use Rattle.image_line.proofs.fast.is_label.Tie as tie
@@ -75,7 +76,9 @@ returns-5 c =
     let e = c .before in
     let b = e .before .before .before .before in
     let a = b .args in
-    no-name present (a .source .now) (a .at) (a .end) (e .if2 .left) (long-name present (a .source .now) (a .at) (a .end) names-short (b .pre .1) (omega (arith, c .if3 .left)))
+    let s = a .source .now in
+    no-name present s (a .at) (a .end) (e .if2 .left)
+    (long-none (part s (a .at) (a .end - a .at)) (omega (arith, c .if3 .left, length-take (a .end - a .at) (drop (a .at) s), length-drop (a .at) s)))
 
 pub is-label-spec : {M : Type 1} → statement M
 is-label-spec =

@@ -1,17 +1,17 @@
--- `image_line::operand::up_to` meets its contract.
+-- `text_lexical::name::up_to` meets its contract.
 use Prim.Native.Nat.{ℕ}
 use mathlib.Core.Path.{_≡_, refl}
 use mathlib.Core.List.{List, [], _∷_}
 use denote.Enum.Declared.{tagOf}
 use types.Run.{OneOf, miss}
 use borrow.Author.Needs.{needs}
 use Rattle.text_lexical.specs.declared.name.RegisterName.{RegisterName}
 use Rattle.text_lexical.specs.declared.name.RegisterName.the-variants.{Is, NoSuch, Other}
 use Rattle.text_lexical.proofs.name.RegisterName as name
-use Rattle.image_line.specs.Contracts.{upTo}
-use Rattle.image_line.specs.declared.operand.RegisterAt.the-variants.{Other as NoRegister}
-use Rattle.image_line.proofs.operand.up_to.Statement.{statement}
-use Rattle.image_line.proofs.operand.up_to.Tie as tie
+use Rattle.text_lexical.specs.Words.{upTo}
+use Rattle.text_lexical.specs.declared.name.RegisterWord.the-variants.{Other as NoRegister}
+use Rattle.text_lexical.proofs.name.up_to.Statement.{statement}
+use Rattle.text_lexical.proofs.name.up_to.Tie as tie
 
 enum-known-name : tie.Need-enum-known-name
 enum-known-name c = search needs
@@ -29,7 +29,7 @@ others-none NoSuch next h = refl
 others-none Other next h = refl
 
 returns-2 : tie.Need-returns-2
-returns-2 c = others-none (c .before .args .name) (c .before .args .next) (c .match .keys2)
+returns-2 c = others-none (c .before .args .name) (c .before .args .end) (c .match .keys2)
 
 pub up-to-spec : {M : Type 1} → statement M
 up-to-spec = tie.close (tie.spec enum-known-name returns returns-2)
