@@ -7,9 +7,9 @@ use mathlib.Core.Option.{Option, none, some}
 use mathlib.Core.List.{List, [], _∷_, map}
 use lib.ListN.{length, drop, getD, List·getD-eq-default}
 use lib.Seq.{take-all}
-use lib.Dec.{leb, eqb}
-use borrow.Author.Tests.{leb-true, eq-eqb, ne-eqb, eqb-true}
-use Rattle.text_lexical.specs.Bytes.{Result, value, bytes, between, digit, nameStart, namePart, lower, blank, same, run, find, isSome, each}
+use lib.Dec.{eqb}
+use borrow.Author.Tests.{eq-eqb, ne-eqb, eqb-true}
+use Rattle.text_lexical.specs.Bytes.{Result, value, bytes, between, nameStart, namePart, lower, blank, same, run, find, isSome, each}
 use Rattle.text_lexical.specs.Names.{Name, name, named, numbered, conventional, present}
 use Rattle.text_lexical.specs.Contracts.{keyOf, nameNumber}
 use Rattle.text_lexical.specs.Words.{wordEnd, part}
@@ -20,7 +20,7 @@ use Rattle.text_lexical.proofs.Strings.{same-eq, found}
 use Rattle.text.specs.Tokens.{Token, identifier, register, number, hex, binary, directive, comma, colon, opening, closing, infront, tokens}
 use Rattle.text.specs.Lines.{Line, kept, lineOf, recordOf, readLine}
 use Rattle.text.specs.NameSets.{Naming}
-use Rattle.text.specs.Places.{restAt, leftAt, endAt}
+use Rattle.text.specs.Places.{restAt, leftAt, endAt, StartsAt}
 use Rattle.text.specs.declared.lexer.Kind.the-variants.{Identifier}
 use Rattle.text.proofs.Left.{start-solid}
 use Rattle.text.proofs.Fronts.{run-in, word-at}
@@ -35,7 +35,7 @@ use Rattle.instruction.proofs.Columns.{form-numbered}
 use Rattle.instruction_operands.proofs.Line.{six-places, below-part, named-by-key}
 use Rattle.instruction.specs.Kinds.{plain, identifierKind, kindOf}
 use Rattle.image.specs.Assembling.{Context, nothing, codes, coding, afterLabel, readKind, readOn}
-use Rattle.image_line.specs.Contracts.{Reads, StartsAt, TailIs, isLabel, Labels, OptionalLabel, without, with-label, WordAfter, InTable, EffectSettled, readMeant, endOf, LineIs, ReadsAs}
+use Rattle.image_line.specs.Contracts.{Reads, TailIs, isLabel, Labels, OptionalLabel, without, with-label, WordAfter, InTable, EffectSettled, readMeant, endOf, LineIs, ReadsAs}
 use Rattle.image_line.specs.declared.fast.LabelPart.{LabelPart}
 use Rattle.image_line.specs.declared.line.Effect.the-variants.{Nothing, Codes}
 use Rattle.image_line.specs.declared.line.Read.{Read}

@@ -3,12 +3,12 @@ use Prim.Native.Nat.{ℕ, zero, suc, _+_, _-_, _≤_, _<_}
 use mathlib.Core.Path.{_≡_, refl, sym, ap, _∙_}
 use native.Mathlib.Omega.{arith}
 use native.Mathlib.Numerals.{add-one}
-use mathlib.Core.Bool.{true, false}
+use mathlib.Core.Bool.{true}
 use mathlib.Core.Option.{Option, none, some}
 use mathlib.Core.List.{List, [], _∷_}
 use lib.ListN.{length, take, drop, getD, length-drop}
 use Rattle.text_lexical.specs.Bytes.{between, letter, digit, mark, nameStart, namePart, blank, inside, every, before, run, isSome}
-use Rattle.text_lexical.specs.Names.{Name, named}
+use Rattle.text_lexical.specs.Names.{Name}
 use Rattle.text_lexical.specs.Contracts.{nameNumber}
 use Rattle.text_lexical.specs.Words.{RegisterWordIs}
 use Rattle.text_lexical.specs.declared.name.RegisterName.the-variants.{Is as Named}
@@ -16,7 +16,7 @@ use Rattle.text_lexical.specs.declared.name.RegisterWord.{RegisterWord}
 use Rattle.text_lexical.specs.declared.name.RegisterWord.the-variants.{Is as IsRegister, Other}
 use Rattle.text_lexical.proofs.Tests.{both, or-left}
 use Rattle.text_lexical.proofs.Strings.{every-mono, every-run, take-run, run-yes, run-le}
-use Rattle.text.specs.Tokens.{Token, isIdentifier, isRegister, register, comma, colon, opening, closing, markToken, infront, tokens}
+use Rattle.text.specs.Tokens.{Token, isIdentifier, isRegister, comma, colon, opening, closing, markToken, infront, tokens}
 use Rattle.text.specs.NameSets.{Naming}
 use Rattle.text.specs.Places.{leftAt, endAt}
 use Rattle.text.specs.Contracts.{meant, scanAt, numberStart, NoWord}

@@ -32,7 +32,6 @@ use Rattle.instruction.specs.declared.form.Mark.{Mark}
 use Rattle.instruction.specs.declared.form.Mark.the-variants.{Nothing as NoMark, Is as IsMark}
 use Rattle.instruction_operands.specs.Contracts.{Kept}
 use Rattle.instruction.specs.Kinds.{Kind, empty, labelled, config, ignored, plain, kindOf}
-use Rattle.image.specs.Settings.{Settings}
 use Rattle.image.specs.Assembling.{Context, Effect as MeantEffect, nothing, sets, codes, faulty, Read as MeantRead, readOn}
 use Rattle.image.specs.Contracts.{settingsMeant, configFor, recordMeant}
 use Rattle.image.specs.declared.config.Config.{Config}
@@ -215,11 +214,6 @@ readMeant s r = record { label = labelIf (r .labelled) (take (r .length) (drop (
 -- Where the line at a place ends; a bad token leaves that open, and the start of its content is answered.
 unfoldable pub endOf : List Name → List ℕ → ℕ → ℕ
 endOf names s from = elim (readLine names (restAt s from)) [ none ↦ from + indent (restAt s from) | some l ↦ endAt s from ]
-
--- The content of a line starts at a place: no margin stands there.
-pub record StartsAt (s : List ℕ) (at : ℕ) : Type 0 where
-  pub in-text : at ≤ length s
-  pub no-indent : indent (restAt s at) ≡ 0
 
 -- ---- the answer
 

@@ -23,26 +23,8 @@ use Rattle.image_line.proofs.fast.is_label.Tie as tie
 returns : tie.Need-returns
 returns c = let a = c .before .before .args in no-byte present (a .source .now) (a .at) (a .end) (c .if1 .taken)
 
-shared-slice-read-if2 : tie.Need-shared-slice-read-if2
-shared-slice-read-if2 c = search needs
-
 returns-2 : tie.Need-returns-2
 returns-2 c = let a = c .before .before .before .before .args in no-colon present (a .source .now) (a .at) (a .end) (c .if2 .taken)
-
-sub-if3 : tie.Need-sub-if3
-sub-if3 c = search needs
-
-sub-parse-register : tie.Need-sub-parse-register
-sub-parse-register c = search needs
-
-part-parse-register-start : tie.Need-part-parse-register-start
-part-parse-register-start c = search needs
-
-part-parse-register-end : tie.Need-part-parse-register-end
-part-parse-register-end c = search needs
-
-parse-register-requires : tie.Need-parse-register-requires
-parse-register-requires c κs = search needs
 
 enum-told : tie.Need-enum-told
 enum-told c = search needs
@@ -85,13 +67,9 @@ is-label-spec =
     tie.close
     (tie.spec
     returns
-    shared-slice-read-if2
+    (λ c. search needs)
     returns-2
-    sub-if3
-    sub-parse-register
-    part-parse-register-start
-    part-parse-register-end
-    parse-register-requires
+    (λ c. search needs) (λ c. search needs) (λ c. search needs) (λ c. search needs) (λ c κs. search needs)
     enum-told
     returns-3
     returns-4

@@ -1,6 +1,6 @@
 -- `text_lexical::name::lower_key` meets its contract. The loop's invariant: the bytes so far are packed.
-use mathlib.Core.Path.{_≡_, sym, ap, _∙_}
-use Prim.Native.Nat.{_≤_, _<_, _-_}
+use mathlib.Core.Path.{_≡_, sym, _∙_}
+use Prim.Native.Nat.{_<_, _-_}
 use native.Mathlib.Omega.{arith}
 use mathlib.Core.List.{map}
 use lib.ListN.{length, take, length-map}
@@ -39,13 +39,7 @@ returns-2 c =
     c .key .ensures ∙ rw e at (spelling-key (k .inv))
 
 pub lower-key-spec : {M : Type 1} → statement M
-lower-key-spec =
-    tie.close
-    (tie.spec
-    Inv-loop
-    μ-loop
-    returns
-    (λ c. spelling-begin _ 0 (omega arith))
+lower-key-spec = tie.close (tie.spec Inv-loop μ-loop returns (λ c. spelling-begin _ 0 (omega arith))
     (λ c. search needs)
     (λ c κs. spelling-room (c .before .before .loop .inv) (few (c .before)))
     (λ c. search needs)

@@ -59,13 +59,7 @@ returns-3 c =
     rw (c .key2 .ensures) (word-ends (k .inv .0) (k .inv .1) (λ h. absurd (omega (arith, c .before .loop-test .left))))
 
 pub lower-word-spec : {M : Type 1} → statement M
-lower-word-spec =
-    tie.close
-    (tie.spec
-    Inv-loop
-    μ-loop
-    loop-holds
-    (λ c. search needs)
+lower-word-spec = tie.close (tie.spec Inv-loop μ-loop loop-holds (λ c. search needs)
     (λ c κs. search needs)
     (λ c κs. spelling-fits (c .before .before .before .before .loop .inv .0))
     returns

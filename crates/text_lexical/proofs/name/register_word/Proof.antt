@@ -63,10 +63,7 @@ returns-5 c =
     (omega (arith, fourth t, part-next (a .text .now) (a .at) 4 (omega arith) (sym (c .before .is-name-part3 .ensures) ∙ not-false _ (c .if4 .left))))
 
 pub register-word-spec : {M : Type 1} → statement M
-register-word-spec =
-    tie.close
-    (tie.spec
-    (λ c. search needs) (λ c. search needs)
+register-word-spec = tie.close (tie.spec (λ c. search needs) (λ c. search needs)
     (λ c. search needs) (λ c. search needs) (λ c. search needs) (λ c. search needs) (λ c. search needs)
     (λ c κs. search needs) (λ c κs. search needs) (λ c. search needs) (λ c κs. search needs)
     returns-2

@@ -13,9 +13,6 @@ use Rattle.text_lexical.specs.declared.name.RegisterWord.the-variants.{O
 use Rattle.text_lexical.proofs.name.up_to.Statement.{statement}
 use Rattle.text_lexical.proofs.name.up_to.Tie as tie
 
-enum-known-name : tie.Need-enum-known-name
-enum-known-name c = search needs
-
 returns : tie.Need-returns
 returns c = rw (c .before .name .given .1)
 
@@ -32,4 +29,4 @@ returns-2 : tie.Need-returns-2
 returns-2 c = others-none (c .before .args .name) (c .before .args .end) (c .match .keys2)
 
 pub up-to-spec : {M : Type 1} → statement M
-up-to-spec = tie.close (tie.spec enum-known-name returns returns-2)
+up-to-spec = tie.close (tie.spec (λ c. search needs) returns returns-2)

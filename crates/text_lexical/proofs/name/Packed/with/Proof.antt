@@ -24,4 +24,8 @@ returns : tie.Need-returns
 returns c = let w = c .before .before .before in rw (w .wide .ensures ∙ w .before .to-lower .ensures)
 
 pub with-spec : {M : Type 1} → statement M
-with-spec = tie.close (tie.spec (λ c κs. search needs) (λ c κs. search needs) mul-t5 add-t6 (λ c. search needs) returns)
+with-spec = tie.close (tie.spec (λ c κs. search needs) (λ c κs. search needs)
+    mul-t5
+    add-t6
+    (λ c. search needs)
+    returns)
