@@ -2,26 +2,25 @@
 use Prim.Native.Nat.{ℕ, suc, _+_, _-_, _≤_, _<_}
 use mathlib.Core.Path.{_≡_, refl, sym, ap, _∙_}
 use native.Mathlib.Omega.{arith}
-use native.Mathlib.Numerals.{add-one}
 use mathlib.Core.Bool.{true, false, not, and-eq-true-iff, true≢false}
 use mathlib.Core.Option.{Option, none, some}
 use mathlib.Core.List.{List, [], _∷_, map}
-use lib.ListN.{length, drop, getD, length-take, length-drop, List·getD-eq-default}
+use lib.ListN.{length, drop, getD, List·getD-eq-default}
 use lib.Seq.{take-all}
-use lib.Dec.{leb, eqb}
-use borrow.Author.Tests.{leb-true, eq-eqb, ne-eqb, eqb-true}
-use Rattle.text_lexical.specs.Bytes.{Result, value, bytes, between, digit, nameStart, namePart, lower, blank, same, run, find, isSome, each}
+use lib.Dec.{eqb}
+use borrow.Author.Tests.{eq-eqb, ne-eqb, eqb-true}
+use Rattle.text_lexical.specs.Bytes.{Result, value, bytes, between, nameStart, namePart, lower, blank, same, run, find, isSome, each}
 use Rattle.text_lexical.specs.Names.{Name, name, named, numbered, conventional, present}
 use Rattle.text_lexical.specs.Contracts.{keyOf, nameNumber}
 use Rattle.text_lexical.specs.Words.{wordEnd, part}
 use Rattle.text_lexical.specs.declared.name.RegisterName.the-variants.{Other}
 use Rattle.text_lexical.proofs.Keys.{Below}
-use Rattle.text_lexical.proofs.Tests.{split, no-both, or-left}
-use Rattle.text_lexical.proofs.Strings.{run-yes, same-eq, found}
+use Rattle.text_lexical.proofs.Tests.{split, no-both}
+use Rattle.text_lexical.proofs.Strings.{same-eq, found}
 use Rattle.text.specs.Tokens.{Token, identifier, register, number, hex, binary, directive, comma, colon, opening, closing, infront, tokens}
 use Rattle.text.specs.Lines.{Line, kept, lineOf, recordOf, readLine}
 use Rattle.text.specs.NameSets.{Naming}
-use Rattle.text.specs.Places.{restAt, leftAt, endAt}
+use Rattle.text.specs.Places.{restAt, leftAt, endAt, StartsAt}
 use Rattle.text.specs.declared.lexer.Kind.the-variants.{Identifier}
 use Rattle.text.proofs.Left.{start-solid}
 use Rattle.text.proofs.Fronts.{run-in, word-at}
@@ -36,17 +35,13 @@ use Rattle.instruction.proofs.Columns.{form-numbered}
 use Rattle.instruction_operands.proofs.Line.{six-places, below-part, named-by-key}
 use Rattle.instruction.specs.Kinds.{plain, identifierKind, kindOf}
 use Rattle.image.specs.Assembling.{Context, nothing, codes, coding, afterLabel, readKind, readOn}
-use Rattle.image_line.specs.Contracts.{Reads, StartsAt, TailIs, isLabel, Labels, OptionalLabel, without, with-label, WordAfter, InTable, EffectSettled, readMeant, endOf, LineIs, ReadsAs}
+use Rattle.image_line.specs.Contracts.{Reads, TailIs, isLabel, Labels, OptionalLabel, without, with-label, WordAfter, InTable, EffectSettled, readMeant, endOf, LineIs, ReadsAs}
 use Rattle.image_line.specs.declared.fast.LabelPart.{LabelPart}
 use Rattle.image_line.specs.declared.line.Effect.the-variants.{Nothing, Codes}
 use Rattle.image_line.specs.declared.line.Read.{Read}
 use Rattle.image_line.proofs.Answers.{answered}
 use Rattle.image_line.proofs.Starts.{starts-here, content-reads}
-use Rattle.image_line.proofs.Places.{stepped-reads, colon-reads, blanks-after}
-
-start-part : (b : ℕ) → nameStart b ≡ true → namePart b ≡ true
-unfolding namePart
-start-part b h = or-left (nameStart b) (digit b) h
+use Rattle.image_line.proofs.Places.{stepped-reads, word-goes, colon-reads, blanks-after}
 
 -- ---- a mnemonic is no register's name
 
@@ -70,30 +65,11 @@ some-row : {A : Type 0} (o : Option A) (a : A) → o ≡ some a → isSome o ≡
 unfolding isSome
 some-row o a e = rw e
 
--- Names of four bytes at most; a longer one is none of them.
-abbrev pub Short : List Name → Type 0
-Short names = each (λ n. leb (length (n .spelling)) 4) names ≡ true
-
-pub names-short : Short present
-unfolding each present numbered conventional name bytes
-names-short = refl
-
-long-unnamed : (names : List Name) → Short names → (u : List ℕ) (o : Option Name) → named names u ≡ o → 4 < length u → nameNumber o ≡ none
-unfolding named
-long-unnamed names short u none e h = refl
-long-unnamed names short u (some n) e h =
-    let (p, q) = found (λ x. same (x .spelling) u) (λ x. leb (length (x .spelling)) 4) names n e short in
-    let k : length u ≤ 4 = leb-true (length u) 4 (rw (same-eq (n .spelling) u p) at q) in
-    absurd (omega arith)
-
 -- ---- what a line begins with
 
 module _ (s : List ℕ) (at end : ℕ) (l : at < length s) (start : nameStart (getD s at 0) ≡ true) (ends : end ≡ wordEnd s at) where
-  word-goes : run namePart (drop at s) ≡ suc (run namePart (drop (at + 1) s))
-  word-goes = rw (add-one at) (run-yes namePart s at l (start-part (getD s at 0) start))
-
   pub word-some : at < end
-  word-some = omega (arith, word-goes)
+  word-some = omega (arith, word-goes s at l start)
 
   pub word-in : end ≤ length s
   word-in = omega (arith, run-in namePart s at (omega arith))
@@ -101,7 +77,7 @@ module _ (s : List ℕ) (at end : ℕ) (l : at < length s) (start : nameStart (g
   module _ (names : List Name) (ok : Naming names) where
     name-reads : nameNumber (named names (part s at (end - at))) ≡ none → Reads names s at (identifier (part s at (end - at))) end
     name-reads n =
-        stepped-reads names ok s at (record { kind = Identifier; start = at; length = end - at }) end (solid-step names s at _ l (start-solid _ start) (word-at names ok s at end Other l start (omega (arith, word-goes)) (sym n)))
+        stepped-reads names ok s at (record { kind = Identifier; start = at; length = end - at }) end (solid-step names s at _ l (start-solid _ start) (word-at names ok s at end Other l start (omega (arith, word-goes s at l start)) (sym n)))
 
     -- A row that is found by the key of the word.
     mnemonic-reads : NoMnemonics names → (key i : ℕ) (r : Looked) → Below s → key ≡ keyOf (map lower (part s at (end - at))) → IsRow r (find (λ q. eqb (keyOf (q .mnemonic)) key) table) → r ≡ At i
@@ -131,9 +107,6 @@ module _ (names : List Name) (s : List ℕ) (at end : ℕ) where
   pub a-name : (o : Option ℕ) → getD s end 0 ≡ 58 → nameNumber (named names (part s at (end - at))) ≡ some o → false ≡ isLabel names s at end
   unfolding isLabel isSome
   a-name o c n = sym (rw (isLabel, c, n))
-
-  pub long-name : Short names → end ≤ length s → 4 < end - at → nameNumber (named names (part s at (end - at))) ≡ none
-  long-name short h l = long-unnamed names short (part s at (end - at)) _ refl (omega (arith, length-take (end - at) (drop at s), length-drop at s))
 
 no-number : (o : Option (Option ℕ)) → not (isSome o) ≡ true → o ≡ none
 unfolding isSome

@@ -3,20 +3,20 @@ use Prim.Native.Nat.{ℕ, zero, suc, _+_, _-_, _≤_, _<_}
 use mathlib.Core.Path.{_≡_, refl, sym, ap, _∙_}
 use native.Mathlib.Omega.{arith}
 use native.Mathlib.Numerals.{add-one}
-use mathlib.Core.Bool.{Bool, true, false}
+use mathlib.Core.Bool.{true}
 use mathlib.Core.Option.{Option, none, some}
 use mathlib.Core.List.{List, [], _∷_}
 use lib.ListN.{length, take, drop, getD, length-drop}
-use lib.Seq.{drop-cons, drop-drop}
 use Rattle.text_lexical.specs.Bytes.{between, letter, digit, mark, nameStart, namePart, blank, inside, every, before, run, isSome}
-use Rattle.text_lexical.specs.Names.{Name, named}
-use Rattle.text_lexical.specs.Contracts.{indexOf, nameMeant, nameNumber}
-use Rattle.text_lexical.specs.declared.register.Register.{Register}
-use Rattle.text_lexical.specs.declared.name.RegisterName.{RegisterName}
-use Rattle.text_lexical.specs.declared.name.RegisterName.the-variants.{Is as Named, NoSuch, Other}
-use Rattle.text_lexical.proofs.Tests.{both}
-use Rattle.text_lexical.proofs.Strings.{every-mono, every-run, take-run, run-past, run-no, run-le}
-use Rattle.text.specs.Tokens.{Token, isIdentifier, isRegister, register, comma, colon, opening, closing, markToken, infront, tokens}
+use Rattle.text_lexical.specs.Names.{Name}
+use Rattle.text_lexical.specs.Contracts.{nameNumber}
+use Rattle.text_lexical.specs.Words.{RegisterWordIs}
+use Rattle.text_lexical.specs.declared.name.RegisterName.the-variants.{Is as Named}
+use Rattle.text_lexical.specs.declared.name.RegisterWord.{RegisterWord}
+use Rattle.text_lexical.specs.declared.name.RegisterWord.the-variants.{Is as IsRegister, Other}
+use Rattle.text_lexical.proofs.Tests.{both, or-left}
+use Rattle.text_lexical.proofs.Strings.{every-mono, every-run, take-run, run-yes, run-le}
+use Rattle.text.specs.Tokens.{Token, isIdentifier, isRegister, comma, colon, opening, closing, markToken, infront, tokens}
 use Rattle.text.specs.NameSets.{Naming}
 use Rattle.text.specs.Places.{leftAt, endAt}
 use Rattle.text.specs.Contracts.{meant, scanAt, numberStart, NoWord}
@@ -31,7 +31,7 @@ use Rattle.instruction.specs.Table.{Place}
 use Rattle.instruction.specs.Operands.{markByte}
 use Rattle.instruction.specs.Forms.{markOf, MarkPlace, a-comma, an-opening, a-closing, MarkPlaces, no-mark, one-mark}
 use Rattle.instruction.specs.declared.form.Mark.the-variants.{Is}
-use Rattle.image_line.specs.Contracts.{Reads, RegisterIs, upTo, MarkRead}
+use Rattle.image_line.specs.Contracts.{Reads, RegisterIs, MarkRead}
 
 -- ---- what a scan finds
 
@@ -55,32 +55,6 @@ blanks-after names s at end next t r q =
       ends = ap (endAt s) q ∙ end-on s end (run blank (drop end s)) (omega (arith, r .in-text)) i ∙ r .ends;
     }
 
--- ---- bytes from a place on
-
-pub two-bytes : (s : List ℕ) (at : ℕ) → at + 2 ≤ length s → take 2 (drop at s) ≡ getD s at 0 ∷ getD s (at + 1) 0 ∷ []
-two-bytes s at h = rw (drop-cons s at 0 (omega arith), drop-cons s (suc at) 0 (omega arith), add-one at)
-
-pub three-bytes : (s : List ℕ) (at : ℕ) → at + 3 ≤ length s → take 3 (drop at s) ≡ getD s at 0 ∷ getD s (at + 1) 0 ∷ getD s (at + 2) 0 ∷ []
-three-bytes s at h =
-    let v : at + 2 ≡ suc (suc at) = omega arith in
-    rw (drop-cons s at 0 (omega arith), drop-cons s (suc at) 0 (omega arith), drop-cons s (suc (suc at)) 0 (omega arith), add-one at, v)
-
-pub four-bytes : (s : List ℕ) (at : ℕ) → at + 4 ≤ length s → take 4 (drop at s) ≡ getD s at 0 ∷ getD s (at + 1) 0 ∷ getD s (at + 2) 0 ∷ getD s (at + 3) 0 ∷ []
-four-bytes s at h =
-    let v : at + 2 ≡ suc (suc at) = omega arith in
-    let w : at + 3 ≡ suc (suc (suc at)) = omega arith in
-    rw (drop-cons s at 0 (omega arith), drop-cons s (suc at) 0 (omega arith), drop-cons s (suc (suc at)) 0 (omega arith), drop-cons s (suc (suc (suc at))) 0 (omega arith), add-one at, v, w)
-
--- A run that has been passed, after which a byte of another class stands.
-run-is : (p : ℕ → Bool) (s : List ℕ) (at e : ℕ) → at ≤ e → e < length s → every p (take (e - at) (drop at s)) ≡ true → p (getD s e 0) ≡ false
-    → e ≡ at + run p (drop at s)
-run-is p s at e h l f g =
-    let d = length-drop at s in
-    let a = run-past p (e - at) (drop at s) (omega arith) f in
-    let q : at + (e - at) ≡ e = omega arith in
-    let z : run p (drop (e - at) (drop at s)) ≡ 0 = rw (drop-drop (e - at) at s, q) (run-no p s e l g) in
-    omega arith
-
 -- ---- registers
 
 some-named : (o : Option Name) (n : ℕ) → nameNumber o ≡ some (some n) → isSome o ≡ true
@@ -88,29 +62,26 @@ unfolding isSome
 some-named none n h = let z : _≡_ {A = ℕ} 0 1 = cc in absurd (omega arith)
 some-named (some m) n h = refl
 
--- An Identifier's first byte, and the others.
-identifier-parts : (b : ℕ) (t : List ℕ) → isIdentifier (b ∷ t) ≡ true → (nameStart b ≡ true) × (every namePart t ≡ true)
+identifier-start : (b : ℕ) (t : List ℕ) → isIdentifier (b ∷ t) ≡ true → nameStart b ≡ true
 unfolding isIdentifier
-identifier-parts b t h = both (nameStart b) (every namePart t) h
+identifier-start b t h = both (nameStart b) (every namePart t) h .0
 
--- The bytes from a place on that name a register, with no part of a name behind them.
-register-reads : (names : List Name) (ok : Naming names) (s : List ℕ) (from at e : ℕ) (r : Register) → from ≤ length s → at ≡ from + run blank (drop from s) → at < e → e < length s
-    → namePart (getD s e 0) ≡ false → nameNumber (named names (take (e - at) (drop at s))) ≡ some (some (indexOf r))
-    → Reads names s from (register (some (indexOf r))) e
+-- A word goes on after the byte that begins it.
+pub word-goes : (s : List ℕ) (at : ℕ) → at < length s → nameStart (getD s at 0) ≡ true → run namePart (drop at s) ≡ suc (run namePart (drop (at + 1) s))
+unfolding namePart
+word-goes s at l h = rw (add-one at) (run-yes namePart s at l (or-left (nameStart (getD s at 0)) (digit (getD s at 0)) h))
+
+-- A word past blanks that names a register.
+pub register-reads : (names : List Name) (ok : Naming names) (s : List ℕ) (from at : ℕ) (r : RegisterWord) → from ≤ length s → at ≡ from + run blank (drop from s) → RegisterWordIs names s at r
+    → RegisterIs names s from r
 unfolding isRegister
-register-reads names ok s from at e r fl q h l g n =
+register-reads names ok s from at Other fl q h = tt
+register-reads names ok s from at (IsRegister r e) fl q (g, m, n) =
+    let l : at < length s = omega (arith, run-le namePart (drop at s), length-drop at s) in
     let i = register-identifier names (ok .identifiers) (take (e - at) (drop at s)) (some-named _ _ n) in
-    let (b, f) = identifier-parts (getD s at 0) (take (e - (at + 1)) (drop (at + 1) s)) (rw (part-cons s at e h (omega arith)) at i) in
-    let m = run-is namePart s (at + 1) e (omega arith) l f g in
-    let w = word-at names ok s at e (Named r) (omega arith) b m (sym n) in
-    stepped-reads names ok s from (record { kind = RegisterKind r; start = at; length = e - at }) e (blank-step names s from at _ fl q (omega arith) (solid-step names s at _ (omega arith) (start-solid _ b) w))
-
--- The same by the name that they are.
-pub register-case : (names : List Name) (ok : Naming names) (s : List ℕ) (from at e : ℕ) (r : RegisterName) → from ≤ length s → at ≡ from + run blank (drop from s) → at < e → e < length s
-    → namePart (getD s e 0) ≡ false → nameMeant r ≡ nameNumber (named names (take (e - at) (drop at s))) → RegisterIs names s from (upTo r e)
-register-case names ok s from at e (Named r) fl q h l g n = register-reads names ok s from at e r fl q h l g (sym n)
-register-case names ok s from at e NoSuch fl q h l g n = tt
-register-case names ok s from at e Other fl q h l g n = tt
+    let b = identifier-start (getD s at 0) _ (rw (part-cons s at e g l) at i) in
+    let w = word-at names ok s at e (Named r) l b (omega (arith, word-goes s at l b)) (sym n) in
+    stepped-reads names ok s from (record { kind = RegisterKind r; start = at; length = e - at }) e (blank-step names s from at _ fl q l (solid-step names s at _ l (start-solid _ b) w))
 
 -- ---- marks
 

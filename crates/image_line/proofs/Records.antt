@@ -16,7 +16,7 @@ use Rattle.text.specs.Tokens.{Token as Meant}
 use Rattle.text.specs.Lines.{kept, readLine}
 use Rattle.text.specs.Lines.{Line as Record}
 use Rattle.text.specs.NameSets.{Naming}
-use Rattle.text.specs.Places.{restAt}
+use Rattle.text.specs.Places.{restAt, StartsAt}
 use Rattle.text.specs.Contracts.{kindMeant, filler, firsts, meant, spelling, recordAt}
 use Rattle.text.specs.declared.lexer.Kind.{Kind as TokenKind}
 use Rattle.text.specs.declared.lexer.Kind.the-variants.{Directive}
@@ -31,7 +31,7 @@ use Rattle.instruction.specs.Kinds.{Kind, empty, labelled, config, ignored, pla
 use Rattle.image.specs.Assembling.{Context, nothing, setting, coding, afterLabel, readKind, readOn}
 use Rattle.image.specs.Assembling.{Effect as MeantEffect}
 use Rattle.image.specs.Contracts.{recordMeant}
-use Rattle.image_line.specs.Contracts.{effectMeant, InTable, EffectSettled, EffectIs, endOf, StartsAt, LineIs, Recorded, RecordIs}
+use Rattle.image_line.specs.Contracts.{effectMeant, InTable, EffectSettled, EffectIs, endOf, LineIs, Recorded, RecordIs}
 use Rattle.image_line.specs.declared.line.Effect.{Effect}
 use Rattle.image_line.specs.declared.line.Effect.the-variants.{Nothing, Faulty}
 use Rattle.image_line.specs.declared.line.Read.{Read}

@@ -4,20 +4,16 @@ use mathlib.Core.Path.{_≡_, sym, ap, _∙_}
 use native.Mathlib.Omega.{arith}
 use mathlib.Core.Option.{Option, none, some}
 use mathlib.Core.List.{List}
-use lib.ListN.{length, drop, getD, length-drop}
-use lib.Seq.{getD-drop}
-use mathlib.Core.Bool.{false}
+use lib.ListN.{length, drop}
 use Rattle.text_lexical.specs.Bytes.{margin, run}
 use Rattle.text_lexical.specs.Names.{Name}
-use Rattle.text_lexical.proofs.Tests.{split}
-use Rattle.text_lexical.proofs.Strings.{run-stop, run-no, run-end}
 use Rattle.text.specs.Tokens.{tokens}
 use Rattle.text.specs.Lines.{Line, indent, recordOf, readLine}
-use Rattle.text.specs.Places.{restAt, leftAt, endAt}
+use Rattle.text.specs.Places.{restAt, leftAt, endAt, StartsAt}
 use Rattle.text.proofs.Left.{content-at, indent-at}
-use Rattle.text.proofs.Endings.{margin-on}
+use Rattle.text.proofs.Endings.{margin-on, past-margin}
 use Rattle.image.specs.Assembling.{Context}
-use Rattle.image_line.specs.Contracts.{StartsAt, endOf, LineIs}
+use Rattle.image_line.specs.Contracts.{endOf, LineIs}
 use Rattle.image_line.specs.declared.line.Read.{Read}
 
 -- The record of a line is that of what is left from the start of its content on.
@@ -33,20 +29,8 @@ pub content-reads : (names : List Name) (s : List ℕ) (start : ℕ) → StartsA
 content-reads names s start h = line-reads names s start ∙ ap (λ (x : ℕ). recordOf (tokens names (leftAt s x))) (sym (starts-here h))
 
 module _ (s : List ℕ) (from start : ℕ) (l : from ≤ length s) (q : start ≡ from + run margin (drop from s)) where
-  no-margin : run margin (drop start s) ≡ 0
-  no-margin =
-      split start (length s)
-      (λ i. let g : getD (drop from s) (run margin (drop from s)) 0 ≡ getD s start 0 = getD-drop from s (run margin (drop from s)) 0 ∙ ap (λ (x : ℕ). getD s x 0) (sym q) in
-      let m : margin (getD s start 0) ≡ false = rw (← g) (run-stop margin (drop from s) (rw (length-drop from s) (omega arith))) in
-      run-no margin s start i m)
-      (λ i. run-end margin s start i)
-
-  -- Past the margin the content starts,
-  pub past-margin : StartsAt s start
-  past-margin = let (x, y, z) = margin-on s from start l q in record { in-text = y; no-indent = indent-at s start ∙ no-margin }
-
   starts : start + indent (restAt s start) ≡ from + indent (restAt s from)
-  starts = sym (starts-here past-margin) ∙ q ∙ ap (λ (n : ℕ). from + n) (sym (indent-at s from))
+  starts = sym (starts-here (past-margin s from start l q)) ∙ q ∙ ap (λ (n : ℕ). from + n) (sym (indent-at s from))
 
   module _ (names : List Name) where
     same-line : readLine names (restAt s start) ≡ readLine names (restAt s from)

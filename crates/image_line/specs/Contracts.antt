@@ -13,8 +13,8 @@ use Rattle.text_lexical.specs.Bytes.{value, nameStart, same, isSome}
 use Rattle.text_lexical.specs.Names.{Name, named}
 use Rattle.text_lexical.specs.Contracts.{indexOf, nameNumber, wholeFor}
 use Rattle.text_lexical.specs.Words.{part, WordIs}
-use Rattle.text_lexical.specs.declared.name.RegisterName.{RegisterName}
-use Rattle.text_lexical.specs.declared.name.RegisterName.the-variants.{Is as Named, NoSuch, Other as NoName}
+use Rattle.text_lexical.specs.declared.name.RegisterWord.{RegisterWord}
+use Rattle.text_lexical.specs.declared.name.RegisterWord.the-variants.{Is as IsRegister, Other as NoRegister}
 use Rattle.text_lexical.specs.declared.number.Whole.{Whole}
 use Rattle.text_lexical.specs.declared.register.Register.{Register}
 use Rattle.text_lexical.specs.declared.register.Register.the-variants.{R0}
@@ -32,12 +32,9 @@ use Rattle.instruction.specs.declared.form.Mark.{Mark}
 use Rattle.instruction.specs.declared.form.Mark.the-variants.{Nothing as NoMark, Is as IsMark}
 use Rattle.instruction_operands.specs.Contracts.{Kept}
 use Rattle.instruction.specs.Kinds.{Kind, empty, labelled, config, ignored, plain, kindOf}
-use Rattle.image.specs.Settings.{Settings}
 use Rattle.image.specs.Assembling.{Context, Effect as MeantEffect, nothing, sets, codes, faulty, Read as MeantRead, readOn}
 use Rattle.image.specs.Contracts.{settingsMeant, configFor, recordMeant}
 use Rattle.image.specs.declared.config.Config.{Config}
-use Rattle.image_line.specs.declared.operand.RegisterAt.{RegisterAt}
-use Rattle.image_line.specs.declared.operand.RegisterAt.the-variants.{Is as IsRegister, Other as NoRegister}
 use Rattle.image_line.specs.declared.operand.NumberAt.{NumberAt}
 use Rattle.image_line.specs.declared.operand.NumberAt.the-variants.{Is as IsNumber, Other as NoNumber}
 use Rattle.image_line.specs.declared.operand.AfterMark.{AfterMark}
@@ -68,15 +65,9 @@ pub record Reads (names : List Name) (s : List ℕ) (at : ℕ) (t : Token) (next
   pub in-text : next ≤ length s
   pub ends : endAt s next ≡ endAt s at
 
-abbrev pub RegisterIs : List Name → List ℕ → ℕ → RegisterAt → Type 0
+abbrev pub RegisterIs : List Name → List ℕ → ℕ → RegisterWord → Type 0
 RegisterIs names s at (IsRegister r next) = Reads names s at (register (some (indexOf r))) next
 RegisterIs names s at NoRegister = Unit {0}
-
--- A register that is named up to a place.
-abbrev pub upTo : RegisterName → ℕ → RegisterAt
-upTo (Named r) next = IsRegister r next
-upTo NoSuch next = NoRegister
-upTo NoName next = NoRegister
 
 -- A token of such a kind, whatever its spelling.
 abbrev pub NumberIs : List Name → List ℕ → ℕ → NumberAt → Type 0
@@ -223,11 +214,6 @@ readMeant s r = record { label = labelIf (r .labelled) (take (r .length) (drop (
 -- Where the line at a place ends; a bad token leaves that open, and the start of its content is answered.
 unfoldable pub endOf : List Name → List ℕ → ℕ → ℕ
 endOf names s from = elim (readLine names (restAt s from)) [ none ↦ from + indent (restAt s from) | some l ↦ endAt s from ]
-
--- The content of a line starts at a place: no margin stands there.
-pub record StartsAt (s : List ℕ) (at : ℕ) : Type 0 where
-  pub in-text : at ≤ length s
-  pub no-indent : indent (restAt s at) ≡ 0
 
 -- ---- the answer
 

@@ -5,16 +5,18 @@ ghost use Prim.Native.Nat.{_≤_, _<_};
 ghost use lib.ListN.{length};
 ghost use Rattle.text_lexical.specs.Names.{present};
 ghost use Rattle.instruction.specs.Forms.{isNumber};
-ghost use Rattle.image_line.specs.Contracts.{Tables, StartsAt, OperandIs, EndsWith, Tails, isLabel, FirstWordIs, FastIs};
+ghost use Rattle.text.specs.Places.{StartsAt};
+ghost use Rattle.image_line.specs.Contracts.{Tables, OperandIs, EndsWith, Tails, isLabel, FirstWordIs, FastIs};
 use crate::operand::AfterMark;
 use crate::operand::EndAt;
 use crate::operand::NumberAt;
-use crate::operand::RegisterAt;
 use instruction::instruction::Operands;
 use instruction::opcode::Row;
 use text::parser::Extracted;
 use text_lexical::bytes::Class;
+use text_lexical::name::LONGEST;
 use text_lexical::name::RegisterName;
+use text_lexical::name::RegisterWord;
 use text_lexical::number::Whole;
 use text_lexical::register::Register;
 
@@ -83,8 +85,11 @@ fn operand_at(source: &[u8], at: usize, operand: u32) -> OperandAt
         };
     }
     match crate::operand::register_at(source, at) {
-        RegisterAt::Other => OperandAt::Other,
-        RegisterAt::Is { register, next } => OperandAt::Register { register, next },
+        RegisterWord::Other => OperandAt::Other,
+        RegisterWord::Is { register, end } => OperandAt::Register {
+            register,
+            next: end,
+        },
     }
 }
 
@@ -143,7 +148,7 @@ fn read_tail(source: &[u8], from: usize, form: u8) -> Tail
     tail_at(source, at, registers, number)
 }
 
-// Whether the word from `at` to `end` is a label: a colon follows it at once, and it is no register's name. These have four bytes at most.
+// Whether the word from `at` to `end` is a label: a colon follows it at once, and it is no register's name. A longer word is none.
 fn is_label(source: &[u8], at: usize, end: usize) -> bool
     requires { ⌜ at < end ⌝ ∗ ⌜ end ≤ length (now source) ⌝ }
     ensures { λ r. ⌜ r ≡ isLabel present (now (source .entry)) at end ⌝ }
@@ -154,7 +159,7 @@ fn is_label(source: &[u8], at: usize, end: usize) -> bool
     if source[end] != b':' {
         return false;
     }
-    if end - at <= 4 {
+    if end - at <= LONGEST {
         match text_lexical::name::parse_register(&source[at..end]) {
             RegisterName::Other => return true,
             _ => return false,

@@ -1,23 +1,16 @@
 // What an operand's place is expected to hold, read at once: a register, a number, a mark, the line's end. Anything else is left to the
 // record of the line's tokens.
-ghost use mathlib.Core.Path.{_≡_};
-ghost use Prim.Native.Nat.{_≤_, _<_};
+ghost use Prim.Native.Nat.{_≤_};
 ghost use lib.ListN.{length};
 ghost use Rattle.text_lexical.specs.Names.{present};
 ghost use Rattle.instruction.specs.Forms.{markOf};
-ghost use Rattle.image_line.specs.Contracts.{upTo, RegisterIs, NumberIs, AfterMarkIs, EndIs};
+ghost use Rattle.image_line.specs.Contracts.{RegisterIs, NumberIs, AfterMarkIs, EndIs};
 use instruction::form::Mark;
 use text::lexer::Ending;
 use text::lexer::Kind;
 use text::lexer::Scan;
 use text_lexical::bytes::Class;
-use text_lexical::name::RegisterName;
-use text_lexical::register::Register;
-
-pub(crate) enum RegisterAt {
-    Is { register: Register, next: usize },
-    Other,
-}
+use text_lexical::name::RegisterWord;
 
 // A token that may be a number, by its kind.
 pub(crate) enum NumberAt {
@@ -36,46 +29,13 @@ pub(crate) enum EndAt {
     Other,
 }
 
-// A register that is named up to a place.
-fn up_to(name: RegisterName, next: usize) -> RegisterAt
-    ensures { λ r. ⌜ r ≡ upTo name next ⌝ }
-{
-    match name {
-        RegisterName::Is(register) => RegisterAt::Is { register, next },
-        _ => RegisterAt::Other,
-    }
-}
-
 // A register, past blanks.
-pub(crate) fn register_at(text: &[u8], from: usize) -> RegisterAt
+pub(crate) fn register_at(text: &[u8], from: usize) -> RegisterWord
     requires { ⌜ from ≤ length (now text) ⌝ }
     ensures { λ r. ⌜ RegisterIs present (now (text .entry)) from r ⌝ }
 {
     let at = text_lexical::bytes::run_end(text, from, Class::Blank);
-    let left = text.len() - at;
-    if left < 5 {
-        return RegisterAt::Other;
-    }
-    let first = text[at];
-    let second = text[at + 1];
-    let third = text[at + 2];
-    if !text_lexical::bytes::is_name_part(third) {
-        return up_to(text_lexical::name::two_bytes(first, second), at + 2);
-    }
-    let fourth = text[at + 3];
-    if !text_lexical::bytes::is_name_part(fourth) {
-        return up_to(
-            text_lexical::name::three_bytes(first, second, third),
-            at + 3,
-        );
-    }
-    if !text_lexical::bytes::is_name_part(text[at + 4]) {
-        return up_to(
-            text_lexical::name::four_bytes(first, second, third, fourth),
-            at + 4,
-        );
-    }
-    RegisterAt::Other
+    text_lexical::name::register_word(text, at)
 }
 
 // The token at a number's place, past blanks; its number is read of its kind.

@@ -1,5 +1,5 @@
 -- The operands of a form, read one by one from the tokens that a line's record keeps.
-use Prim.Native.Nat.{ℕ, _+_, _/_, _%_, _≤_, _<_}
+use Prim.Native.Nat.{ℕ, zero, suc, _+_, _/_, _%_, _≤_, _<_}
 use mathlib.Core.Path.{_≡_, refl, sym, ap, _∙_}
 use native.Mathlib.Omega.{arith}
 use native.Mathlib.Numerals.{add-one}
@@ -7,7 +7,9 @@ use mathlib.Core.Bool.{Bool, true, false}
 use mathlib.Core.List.{List, [], _∷_, _++_, map, append-assoc}
 use lib.ListN.{length, drop, getD, set, replicate, length-append}
 use lib.Seq.{drop-cons}
+use lib.Dec.{eqb}
 use lib.IntN.{ℤ}
+use borrow.Author.Tests.{ne-eqb}
 use Rattle.text_lexical.specs.Bytes.{value, refused}
 use Rattle.text_lexical.specs.Contracts.{indexOf, wholeFor}
 use Rattle.text_lexical.specs.declared.number.Whole.{Whole}
@@ -16,10 +18,12 @@ use Rattle.text_lexical.specs.declared.register.Register.the-variants.{R0}
 use Rattle.text.specs.Tokens.{Token}
 use Rattle.text.specs.Lines.{kept}
 use Rattle.text.specs.Values.{readNumber}
-use Rattle.text.specs.Contracts.{kindMeant, spelling, meant, filler}
+use Rattle.text.specs.Contracts.{kindMeant, spelling, meant, filler, markOfByte}
+use Rattle.text.specs.declared.lexer.Kind.{Kind}
+use Rattle.text.specs.declared.lexer.Kind.the-variants.{Identifier, Register as RegisterKind, NoRegister, Number, Negative, Hex, Binary, Directive, Comma, Colon, LParen, RParen}
 use Rattle.text.specs.declared.lexer.Token.{Token as KeptToken}
 use Rattle.instruction.specs.Table.{Place}
-use Rattle.instruction.specs.Operands.{readRegister, readOperands}
+use Rattle.instruction.specs.Operands.{readRegister, markByte, readOperands}
 use Rattle.instruction.specs.Contracts.{noNumber, operands}
 use Rattle.instruction.specs.Forms.{isNumber, markOf, Ahead}
 use Rattle.instruction.specs.declared.form.Mark.{Mark}
@@ -32,6 +36,31 @@ use Rattle.instruction_operands.specs.declared.assembler.Passed.the-vari
 
 never : {n m : ℕ} → NotPassed n ≡ PassedAt m → ⊥
 never e = let z : _≡_ {A = ℕ} 0 1 = cc in omega arith
+
+-- The mark after an operand has a byte,
+mark-some : (d : ℕ) {byte n : ℕ} → markOf d ≡ Is byte n → 0 < byte
+unfolding markOf
+mark-some zero e = let z : _≡_ {A = ℕ} 0 1 = cc in absurd (omega arith)
+mark-some (suc zero) {byte} e = let k : byte ≡ 44 = cc in omega arith
+mark-some (suc (suc zero)) {byte} e = let k : byte ≡ 40 = cc in omega arith
+mark-some (suc (suc (suc zero))) {byte} e = let k : byte ≡ 41 = cc in omega arith
+mark-some (suc (suc (suc (suc d)))) e = let z : _≡_ {A = ℕ} 0 1 = cc in absurd (omega arith)
+
+-- and a token of a kind is the mark of it exactly if its byte is that one.
+pub mark-of : (k : Kind) (u : List ℕ) (b : ℕ) → 0 < b → markOfByte k b ≡ eqb b (markByte (kindMeant k u))
+unfolding markByte
+mark-of Comma u b h = refl
+mark-of Colon u b h = refl
+mark-of LParen u b h = refl
+mark-of RParen u b h = refl
+mark-of Identifier u b h = sym (ne-eqb b 0 (λ e. omega arith))
+mark-of (RegisterKind r) u b h = sym (ne-eqb b 0 (λ e. omega arith))
+mark-of NoRegister u b h = sym (ne-eqb b 0 (λ e. omega arith))
+mark-of (Number n) u b h = sym (ne-eqb b 0 (λ e. omega arith))
+mark-of (Negative n) u b h = sym (ne-eqb b 0 (λ e. omega arith))
+mark-of (Hex n) u b h = sym (ne-eqb b 0 (λ e. omega arith))
+mark-of (Binary n) u b h = sym (ne-eqb b 0 (λ e. omega arith))
+mark-of Directive u b h = sym (ne-eqb b 0 (λ e. omega arith))
 
 module _ (all : List Place) (ts : List KeptToken) (at : ℕ) where
   -- Before the token of an operand: what has been read of those after the mnemonic.
@@ -70,7 +99,7 @@ module _ (all : List Place) (ts : List KeptToken) (at : ℕ) where
 
     pub mark-room : Between next count rs w left s → (m : Mark) → m ≡ markOf (left % 8) → Within next m
     mark-room q Nothing e = tt
-    mark-room q (Is byte n) e = mark-kept q (sym e)
+    mark-room q (Is byte n) e = (mark-kept q (sym e), mark-some (left % 8) (sym e))
 
     pub register-next : (d : KeptToken) (r : Register) → Before next count rs w left s → 0 < left → isNumber (left % 8) ≡ false
         → ((u : List ℕ) → readRegister (kindMeant (getD ts next d .kind) u) ≡ value (indexOf r)) → Between (next + 1) (count + 1) (set rs count r) w left s

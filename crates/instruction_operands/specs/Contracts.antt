@@ -47,10 +47,10 @@ OperandIs k numeric (RegisterToken r) = (numeric ≡ false) × ((u : List ℕ) �
 OperandIs k true (NoOperand n) = (u : List ℕ) → readNumber (kindMeant k u) ≡ refused n
 OperandIs k false (NoOperand n) = (u : List ℕ) → readRegister (kindMeant k u) ≡ refused n
 
--- A mark is one of the tokens that are kept.
+-- A mark is one of the tokens that are kept, and has a byte.
 abbrev pub Within : ℕ → Mark → Type 0
 Within at Nothing = Unit {0}
-Within at (Is byte n) = at < kept
+Within at (Is byte n) = (at < kept) × (0 < byte)
 
 -- The token at a place is the mark that is asked for, if one is.
 abbrev pub MarkIs : List KeptToken → ℕ → Mark → Passed → Type 0

@@ -6,7 +6,7 @@ ghost use lib.ListN.{length};
 ghost use Rattle.text.specs.Lines.{kept};
 ghost use Rattle.text.specs.Contracts.{kindMeant};
 ghost use Rattle.instruction.specs.Table.{places};
-ghost use Rattle.instruction.specs.Operands.{readRegister, markByte};
+ghost use Rattle.instruction.specs.Operands.{readRegister};
 ghost use Rattle.instruction.specs.Contracts.{rowAt, formAt, formNumber, mnemonicKeys, formNumbers, slotRows};
 ghost use Rattle.instruction_operands.specs.Contracts.{registerMeant, OperandIs, Within, MarkIs, Reads, RowIs, ParsedIs, Kept};
 use instruction::form::Mark;
@@ -61,19 +61,6 @@ fn extract_register(kind: Kind) -> RegisterOperand
     }
 }
 
-// The byte of a mark, and 0 for any other token.
-fn mark_byte(kind: Kind) -> u8
-    ensures { λ r. ⌜ ((u : List ℕ) → r ≡ markByte (kindMeant kind u)) ⌝ }
-{
-    match kind {
-        Kind::Comma => b',',
-        Kind::Colon => b':',
-        Kind::LParen => b'(',
-        Kind::RParen => b')',
-        _ => 0,
-    }
-}
-
 // A token at an operand's place: a number (8), or a register (17, 18).
 fn read_operand(kind: Kind, numeric: bool) -> OperandToken
     ensures { λ r. ⌜ OperandIs kind numeric r ⌝ }
@@ -100,7 +87,7 @@ fn after_mark(tokens: [Token; KEPT], at: usize, mark: Mark) -> Passed
         Mark::Is { byte, refusal } => {
             let token = tokens[at];
             let kind = token.kind;
-            if mark_byte(kind) != byte {
+            if !text::lexer::is_mark(kind, byte) {
                 return Passed::Refused(refusal);
             }
             Passed::At(at + 1)

@@ -69,12 +69,12 @@ sameTokens left from [] s at = isRecordEnd s at
 sameTokens left from (t ∷ ts) s at =
     sameToken t (wantedAt left from s at) && sameTokens (left - 1) from ts s (wantedAt left from s at .next)
 
--- The record of the line from `from` to `end` is what the list has at a place: "`b`: a token of it is bad", of which the record
+-- The record of the line from `from` to `end`, whose content starts at `start`, is what the list has at a place: "`b`: a token of it is bad", of which the record
 -- holds nothing; "`n COUNT`: or all its tokens, then the first nine of them".
-unfoldable pub sameLine : Line → ℕ → ℕ → List ℕ → ℕ → Bool
-sameLine l from end s at =
+unfoldable pub sameLine : Line → ℕ → ℕ → ℕ → List ℕ → ℕ → Bool
+sameLine l from start end s at =
     elim (l .bad) [
-      | true ↦ eqb (byteAt s at) 98 && eqb (l .count) 0 && eqb (l .end) from && sameTokens (l .count) from (l .tokens) s (behind at 2)
+      | true ↦ eqb (byteAt s at) 98 && eqb (l .count) 0 && eqb (l .end) start && sameTokens (l .count) from (l .tokens) s (behind at 2)
       | false ↦
           let count = numberAt 10 s (behind at 2) in
           eqb (byteAt s at) 110 && eqb (l .count) (count .value) && eqb (l .end) end && sameTokens (l .count) from (l .tokens) s (count .next)

@@ -118,16 +118,24 @@ fn are_entries(line: Line, from: usize, list: &[u8], at: usize) -> bool
     test_replay::list::is_record_end(list, next)
 }
 
-// Whether the record of the line from `from` to `end` is what the list has at `at`. Of a bad line it holds nothing.
-pub(crate) fn is_answer(line: Line, from: usize, end: usize, list: &[u8], at: usize) -> bool
-    ensures { λ r. ⌜ r ≡ sameLine line from end (now (list .entry)) at ⌝ }
+// Whether the record of the line from `from` to `end`, whose content starts at `start`, is what the list has at `at`. Of a bad line it holds
+// nothing.
+pub(crate) fn is_answer(
+    line: Line,
+    from: usize,
+    start: usize,
+    end: usize,
+    list: &[u8],
+    at: usize,
+) -> bool
+    ensures { λ r. ⌜ r ≡ sameLine line from start end (now (list .entry)) at ⌝ }
 {
     let tag = byte_at(list, at);
     let next = wrapping_add_usize(at, 2);
     if line.bad {
         return tag == b'b'
             && line.count == 0
-            && line.end == from
+            && line.end == start
             && are_entries(line, from, list, next);
     }
     let count = number_at(list, next);

@@ -12,11 +12,20 @@ use std::num::wrapping_add_usize;
 use tally::Tally;
 use test_replay::report::put_verdict;
 use text::parser::Line;
+use text_lexical::bytes::Class;
 
 // What comparing a record gave: its line as it is read within a text, and whether that agrees.
 struct Compared {
     line: Line,
     agrees: bool,
+}
+
+// The record of the line that begins at `from`, past its margin.
+fn record_of(text: &[u8], from: usize) -> Line
+    requires { ⌜ from ≤ length (now text) ⌝ }
+{
+    let start = text_lexical::bytes::run_end(text, from, Class::Margin);
+    text::parser::tokenize(text, start)
 }
 
 // The line stands twice: within a text, where what is before it and after its byte 10 must not matter, and at a text's end.
@@ -27,9 +36,11 @@ fn outcome_in(list: &[u8], at: usize, room: &mut [u8]) -> Compared
     let from = piece.start;
     let end = piece.end;
     let next = piece.next;
-    let line = text::parser::tokenize(room, from);
-    let last = text::parser::tokenize(&room[..end], from);
-    let agrees = is_answer(line, from, end, list, next) && is_answer(last, from, end, list, next);
+    let start = text_lexical::bytes::run_end(room, from, Class::Margin);
+    let line = record_of(room, from);
+    let last = record_of(&room[..end], from);
+    let agrees = is_answer(line, from, start, end, list, next)
+        && is_answer(last, from, start, end, list, next);
     Compared { line, agrees }
 }
 

@@ -5,6 +5,7 @@ ghost use mathlib.Core.Path.{_≡_};
 use instruction::instruction::Instruction;
 use instruction_codec::encoder::Decoded;
 use instruction_operands::assembler::Parsed;
+use text_lexical::bytes::Class;
 
 // The text of an instruction in the room: how long it was said to be, and where it ends.
 pub struct Text {
@@ -22,7 +23,8 @@ pub(crate) enum Line {
 pub(crate) fn read(text: &[u8], from: usize, place: usize) -> Line
     requires { ⌜ from ≤ length (now text) ⌝ ∗ ⌜ place ≤ 2 ⌝ }
 {
-    let line = text::parser::tokenize(text, from);
+    let start = text_lexical::bytes::run_end(text, from, Class::Margin);
+    let line = text::parser::tokenize(text, start);
     if line.bad {
         return Line::Refused(3);
     }

@@ -5,20 +5,17 @@ use native.Mathlib.Omega.{arith}
 use mathlib.Core.Bool.{Bool, true, false}
 use mathlib.Core.Logic.{inl, inr}
 use mathlib.Core.List.{List, [], _∷_}
-use mathlib.Core.Option.{some}
 use lib.ListN.{length, take, drop, getD, length-drop, List·getD-eq-default}
 use lib.Dec.{eqb}
 use borrow.Author.Tests.{eqb-true, eqb-false, eq-eqb, ne-eqb}
 use Rattle.text_lexical.specs.Bytes.{every, before, run, inside, margin}
-use Rattle.text_lexical.specs.Names.{Name}
 use Rattle.text_lexical.proofs.Tests.{by-test, split}
-use Rattle.text_lexical.proofs.Strings.{run-le, run-no, run-end, take-run, every-run, every-mono}
-use Rattle.text.specs.Tokens.{tokens}
-use Rattle.text.specs.Places.{restAt, leftAt, endAt}
+use Rattle.text_lexical.proofs.Strings.{run-over, run-le, run-no, run-end, take-run, every-run, every-mono}
+use Rattle.text.specs.Places.{restAt, leftAt, endAt, StartsAt}
 use Rattle.text.specs.Contracts.{endedAt, endingAt}
 use Rattle.text.specs.declared.lexer.Ending.{Ending}
 use Rattle.text.specs.declared.lexer.Ending.the-variants.{Line, Comment, Other}
-use Rattle.text.proofs.Left.{margin-inside, nothing-left, something-left, none-read, end-on}
+use Rattle.text.proofs.Left.{margin-inside, nothing-left, something-left, end-on, indent-at}
 
 -- A run of bytes that do not end the line goes on within it.
 pub run-within : (p : ℕ → Bool) → ((b : ℕ) → p b ≡ true → inside b ≡ true) → (s : List ℕ) (at stop : ℕ) → at ≤ length s → stop ≡ at + run p (drop at s)
@@ -32,6 +29,10 @@ run-within p f s at stop l q =
 -- So does margin.
 pub margin-on : (s : List ℕ) (at stop : ℕ) → at ≤ length s → stop ≡ at + run margin (drop at s) → (at ≤ stop) × (stop ≤ length s) × (endAt s stop ≡ endAt s at)
 margin-on s at stop l q = run-within margin margin-inside s at stop l q
+
+-- Past it the content of a line starts.
+pub past-margin : (s : List ℕ) (from start : ℕ) → from ≤ length s → start ≡ from + run margin (drop from s) → StartsAt s start
+past-margin s from start l q = record { in-text = margin-on s from start l q .1; no-indent = indent-at s start ∙ rw q (run-over margin s from) }
 
 -- ---- the answers
 
@@ -90,20 +91,18 @@ newline-outside : (b : ℕ) → b ≡ 10 → inside b ≡ false
 unfolding inside
 newline-outside b e = rw e
 
--- No token is left, and the line ends there.
-pub line-ends : (names : List Name) (s : List ℕ) (at stop : ℕ) → at ≤ length s → Line stop ≡ endingAt s at
-    → (tokens names (leftAt s at) ≡ some []) × (stop ≡ endAt s at)
+-- Where the line ends, as a run.
+pub end-run : (s : List ℕ) (at : ℕ) → endAt s at ≡ at + run inside (drop at s)
 unfolding endAt restAt run
-line-ends names s at stop l e =
-    let (n, q, f) = ended s at (Line stop) e in
-    let (a, b, c) = margin-on s at stop l q in
-    let here : endAt s stop ≡ stop = split stop (length s) (λ m. omega (arith, run-no inside s stop m (newline-outside _ (f m)))) (λ m. omega (arith, run-end inside s stop m)) in
-    (none-read names s at n, sym here ∙ c)
+end-run s at = refl
 
--- No token is left, and the line ends where the comment does.
-pub comment-ends : (names : List Name) (s : List ℕ) (at stop : ℕ) → at ≤ length s → Comment stop ≡ endingAt s at
-    → (tokens names (leftAt s at) ≡ some []) × (stop ≤ length s) × (endAt s stop ≡ endAt s at)
-comment-ends names s at stop l e =
-    let (n, q) = ended s at (Comment stop) e in
-    let (a, b, c) = margin-on s at stop l q in
-    (none-read names s at n, b, c)
+-- Nothing is left, and the line ends there.
+pub line-ends : (s : List ℕ) (at stop : ℕ) → at ≤ length s → Line stop ≡ endingAt s at → (leftAt s at ≡ []) × (stop ≡ endAt s at)
+line-ends s at stop l e =
+    let (n, q, f) = ended s at (Line stop) e in
+    let here : endAt s stop ≡ stop = end-run s stop ∙ split stop (length s) (λ m. omega (arith, run-no inside s stop m (newline-outside _ (f m)))) (λ m. omega (arith, run-end inside s stop m)) in
+    (n, sym here ∙ margin-on s at stop l q .2)
+
+-- Nothing is left, and the line ends where the comment does.
+pub comment-ends : (s : List ℕ) (at stop : ℕ) → at ≤ length s → Comment stop ≡ endingAt s at → (leftAt s at ≡ []) × (stop ≤ length s) × (endAt s stop ≡ endAt s at)
+comment-ends s at stop l e = let (n, q) = ended s at (Comment stop) e in let (a, b, c) = margin-on s at stop l q in (n, b, c)

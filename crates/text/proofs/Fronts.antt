@@ -4,7 +4,6 @@ use Prim.Native.Nat.{ℕ, suc, _+_, _-_, _^_, _≤_, _<_}
 use native.Mathlib.Omega.{arith}
 use native.Mathlib.Numerals.{add-one}
 use mathlib.Core.Bool.{Bool, true, false}
-use mathlib.Core.Logic.{_⊎_, inl, inr}
 use mathlib.Core.List.{List, [], _∷_}
 use mathlib.Core.Option.{Option, none, some}
 use lib.ListN.{length, take, drop, getD, length-drop, drop-of-length-le}
@@ -158,19 +157,9 @@ module _ (radix : Radix) (s : List ℕ) (begin : ℕ) (d : Digits) (q : Digits-a
 
 -- ---- marks
 
-pub mark-yes : (b : ℕ) → (b ≡ 44) ⊎ ((b ≡ 58) ⊎ ((b ≡ 40) ⊎ (b ≡ 41))) → mark b ≡ true
-unfolding mark
-mark-yes b (inl e) = rw e
-mark-yes b (inr (inl e)) = rw e
-mark-yes b (inr (inr (inl e))) = rw e
-mark-yes b (inr (inr (inr e))) = rw e
-
 pub mark-no : (b : ℕ) → (b ≡ 44 → ⊥) → (b ≡ 58 → ⊥) → (b ≡ 40 → ⊥) → (b ≡ 41 → ⊥) → mark b ≡ false
 unfolding mark
 mark-no b f g h k = rw (ne-eqb b 44 f, ne-eqb b 58 g, ne-eqb b 40 h, ne-eqb b 41 k)
-
-pub mark-token : (b k : ℕ) (t : Token) → b ≡ k → markToken (k ∷ []) ≡ some t → markToken (b ∷ []) ≡ some t
-mark-token b k t e h = rw e h
 
 -- ---- what the scan finds, by any set of names
 

@@ -7,7 +7,7 @@ use mathlib.Core.List.{List, [], _∷_, _++_, map, append-assoc, append-nil}
 use mathlib.Core.Option.{Option, none, some}
 use lib.ListN.{length, take, drop, getD, set, replicate, length-append, length-drop, length-take, length-map, length-replicate, List·getD-append}
 use lib.Seq.{take-all, take-append-le, take-append-seam, set-at, getD-append-add, getD-drop, getD-take}
-use Rattle.text_lexical.specs.Bytes.{blank, run, inside, margin}
+use Rattle.text_lexical.specs.Bytes.{blank, run, margin}
 use Rattle.text_lexical.specs.Names.{Name}
 use Rattle.text_lexical.proofs.Tests.{split, not-true, no-both}
 use Rattle.text_lexical.proofs.Strings.{run-no, run-end, run-stop}
@@ -16,14 +16,13 @@ use Rattle.text.specs.Tokens.{Token as Meant}
 use Rattle.text.specs.Lines.{indent, kept, lineOf, recordOf, readLine}
 use Rattle.text.specs.Lines.{Line as Record}
 use Rattle.text.specs.NameSets.{Naming}
-use Rattle.text.specs.Places.{restAt, leftAt, endAt}
+use Rattle.text.specs.Places.{restAt, leftAt, endAt, StartsAt}
 use Rattle.text.specs.Contracts.{meant, past, scanAt, infrontOf, followed, tokensFrom, allFrom, filler, firstKept, spoiled, lineWith, recordAt, firsts}
 use Rattle.text.specs.declared.lexer.Token.{Token}
 use Rattle.text.specs.declared.lexer.Scan.{Scan}
 use Rattle.text.specs.declared.lexer.Scan.the-variants.{Found, Bad, End}
 use Rattle.text.specs.declared.parser.Line.{Line}
 use Rattle.text.proofs.Left.{blank-margin, left-byte, none-read, content-at, indent-at}
-use Rattle.text.proofs.Endings.{margin-on}
 use Rattle.text.proofs.Stepping.{Leads, Stepped, stepped}
 
 -- ---- the tokens of a line
@@ -224,19 +223,19 @@ module _ (names : List Name) where
     all : allFrom names s (begin s from) ≡ joined read (tokensFrom names (suc (length s) - count) s at)
     ends : endAt s at ≡ endAt s from
 
-  pub reading-begin : (s : List ℕ) (from at : ℕ) → from ≤ length s → at ≡ from + run margin (drop from s) → Reading s from (replicate kept filler) 0 at
+  pub reading-begin : (s : List ℕ) (from : ℕ) → StartsAt s from → Reading s from (replicate kept filler) 0 from
   unfolding firstKept
-  reading-begin s from at h q =
-      let (a, b, c) = margin-on s from at h q in
+  reading-begin s from h =
+      let b : begin s from ≡ from = omega (arith, indent-at s from, h .no-indent) in
       let n : suc (length s) - 0 ≡ suc (length s) = omega arith in
       record {
-        place = b;
+        place = h .in-text;
         few = omega arith;
         read = [];
         keeps = refl;
         counts = refl;
-        all = rw (n, q) (joined-none (allFrom names s (begin s from)));
-        ends = c;
+        all = rw (n, b) (joined-none (allFrom names s from));
+        ends = refl;
       }
 
   module _ (ok : Naming names) where
@@ -318,11 +317,10 @@ module _ (names : List Name) where
       pub reading-full : (t : Token) (next : ℕ) → kept ≤ n → Found t next ≡ scanAt names s at → Reading s from ts (n + 1) next
       reading-full t next h e = more ts t next (r .keeps ∙ kept-full (r .read) t (omega (arith, r .counts))) e
 
-      pub reading-end : (stop end : ℕ) → End stop ≡ scanAt names s at → end ≡ stop + run inside (drop stop s)
-          → record { tokens = ts; count = n; bad = false; end = end } ≡ recordAt names s from
-      unfolding endAt restAt run recordAt joined
-      reading-end stop end e q =
-          let z : end ≡ endAt s from = q ∙ stepped names ok s at _ e .leads (r .place) .2 ∙ r .ends in
+      pub reading-end : (end : ℕ) → End end ≡ scanAt names s at → record { tokens = ts; count = n; bad = false; end = end } ≡ recordAt names s from
+      unfolding recordAt joined
+      reading-end end e =
+          let z : end ≡ endAt s from = stepped names ok s at _ e .leads (r .place) ∙ r .ends in
           rw (r .keeps, r .counts, z, goes-on _ e, append-nil (r .read))
 
       pub reading-bad : Bad ≡ scanAt names s at → spoiled from ≡ recordAt names s from

@@ -9,7 +9,7 @@ use lib.ListN.{length, take, drop, getD, length-drop}
 use lib.Seq.{getD-take, getD-drop}
 use lib.Dec.{eqb}
 use borrow.Author.Tests.{eqb-true, eqb-false}
-use Rattle.text_lexical.specs.Bytes.{blank, mark, run, margin}
+use Rattle.text_lexical.specs.Bytes.{blank, inside, mark, run}
 use Rattle.text_lexical.specs.Names.{Name}
 use Rattle.text_lexical.proofs.Tests.{by-test}
 use Rattle.text_lexical.proofs.Strings.{run-le, run-no, run-end, run-stop}
@@ -23,7 +23,7 @@ use Rattle.text.specs.declared.lexer.Token.{Token}
 use Rattle.text.specs.declared.lexer.Scan.{Scan}
 use Rattle.text.specs.declared.lexer.Scan.the-variants.{Found, Bad, End}
 use Rattle.text.proofs.Left.{solid, digit-solid, high-solid, mark-solid, solid-plain, blank-inside, blanks-at, front-at, left-byte, solid-left, found-at, found-solid, nothing-left, none-read, left-read-bad, end-on}
-use Rattle.text.proofs.Endings.{run-within, margin-on}
+use Rattle.text.proofs.Endings.{run-within, end-run}
 use Rattle.text.proofs.Meanings.{front-means, kind-sign}
 use Rattle.text.proofs.Fronts.{at-found, at-none, mark-front, mark-none, number-digit}
 
@@ -44,7 +44,7 @@ past-in s from l = (omega arith, past-blank s from (past s from) (omega arith) r
 abbrev pub Leads : List ℕ → ℕ → Scan → Type 0
 Leads s from (Found t next) = (t .start ≡ past s from) × (t .start + t .length ≡ next) × (0 < t .length) × (from < next) × (next ≤ length s) × (endAt s next ≡ endAt s from)
 Leads s from Bad = Unit {0}
-Leads s from (End e) = from ≤ length s → (from ≤ e) × (e ≤ length s) × (endAt s e ≡ endAt s from)
+Leads s from (End e) = from ≤ length s → e ≡ endAt s from
 
 Signs : List ℕ → Scan → Type 0
 Signs s (Found t next) = (n : ℕ) → (t .kind ≡ Negative n → getD s (t .start) 0 ≡ 45) × (t .kind ≡ Number n → getD s (t .start) 0 ≡ 45 → ⊥)
@@ -54,7 +54,7 @@ Signs s (End e) = Unit {0}
 -- ---- what stands at a place, by any set of names
 
 module _ (names : List Name) where
-  stands-end : (s : List ℕ) (at : ℕ) → leftAt s at ≡ [] → End (at + run margin (drop at s)) ≡ standsAt names s at
+  stands-end : (s : List ℕ) (at : ℕ) → leftAt s at ≡ [] → End (endAt s at) ≡ standsAt names s at
   unfolding standsAt
   stands-end s at e = rw (standsAt, e)
 
@@ -62,7 +62,7 @@ module _ (names : List Name) where
   unfolding standsAt
   stands-token s at f = go (leftAt s at) refl
     where
-      go : (l : List ℕ) → leftAt s at ≡ l → tokenAt names s at ≡ elim l [ [] ↦ End (at + run margin (drop at s)) | b ∷ m ↦ tokenAt names s at ]
+      go : (l : List ℕ) → leftAt s at ≡ l → tokenAt names s at ≡ elim l [ [] ↦ End (endAt s at) | b ∷ m ↦ tokenAt names s at ]
       go [] e = absurd (f e)
       go (b ∷ m) e = refl
 
@@ -83,9 +83,9 @@ module _ (names : List Name) where
       (λ t. solid-step s at r l (high-solid (getD s at 0) (omega (arith, eqb-true (getD s at 0) 45 t))) e)
       (λ f. solid-step s at r l (digit-solid (getD s at 0) (number-digit (getD s at 0) h (eqb-false (getD s at 0) 45 f))) e)
 
-  -- Nothing is left, up to the place past the margin.
-  pub end-step : (s : List ℕ) (at stop : ℕ) → at < length s → blank (getD s at 0) ≡ false → leftAt s at ≡ [] → stop ≡ at + run margin (drop at s) → End stop ≡ scanAt names s at
-  end-step s at stop l b n q = ap End q ∙ stands-end s at n ∙ scan-here s at l b
+  -- Nothing is left of the line, which ends there.
+  pub end-step : (s : List ℕ) (at end : ℕ) → at < length s → blank (getD s at 0) ≡ false → leftAt s at ≡ [] → end ≡ endAt s at → End end ≡ scanAt names s at
+  end-step s at end l b n q = ap End q ∙ stands-end s at n ∙ scan-here s at l b
 
   -- ---- past blanks
 
@@ -96,10 +96,8 @@ module _ (names : List Name) where
   pub blank-end : (s : List ℕ) (from at : ℕ) → from ≤ length s → at ≡ from + run blank (drop from s) → length s ≤ at → End at ≡ scanAt names s from
   unfolding scanAt
   blank-end s from at l q m =
-      let n = run-le blank (drop from s) in
-      let k = length-drop from s in
-      let e : at ≡ past s from + run margin (drop (past s from) s) = omega (arith, run-end margin s (past s from) (omega arith)) in
-      ap End e ∙ stands-end s (past s from) (rw q at (nothing-left s at (omega arith) (λ h. absurd (omega arith))))
+      let e : at ≡ endAt s (past s from) = omega (arith, end-run s (past s from), run-end inside s (past s from) (omega arith)) in
+      ap End e ∙ stands-end s (past s from) (rw q at (nothing-left s at (omega (arith, run-le blank (drop from s), length-drop from s)) (λ h. absurd (omega arith))))
 
   -- ---- what is found next, and how the line goes on from there
 
@@ -107,7 +105,7 @@ module _ (names : List Name) where
   data Finds (s : List ℕ) (from : ℕ) : Scan → Type 0 where
     a-token : (t : Sized) → front names (drop (past s from) s) ≡ some t → Finds s from (foundAt s (past s from) (some t))
     no-token : front names (drop (past s from) s) ≡ none → (leftAt s (past s from) ≡ [] → ⊥) → Finds s from Bad
-    the-end : leftAt s (past s from) ≡ [] → Finds s from (End (past s from + run margin (drop (past s from) s)))
+    the-end : leftAt s (past s from) ≡ [] → Finds s from (End (endAt s (past s from)))
 
   -- What is read of the line from a place on, by what is found next.
   abbrev pub after : List ℕ → Scan → Option (List Meant)
@@ -153,7 +151,7 @@ module _ (names : List Name) where
         token (some t) e n = a-token t (sym (front-at names (ok .identifiers) s at) ∙ e)
 
         go : (l : List ℕ) → leftAt s at ≡ l
-            → Finds s from (elim l [ [] ↦ End (at + run margin (drop at s)) | b ∷ m ↦ foundAt s at (front names (leftAt s at)) ])
+            → Finds s from (elim l [ [] ↦ End (endAt s at) | b ∷ m ↦ foundAt s at (front names (leftAt s at)) ])
         go [] e = the-end e
         go (b ∷ l) e = token (front names (leftAt s at)) refl (λ z. let k : _≡_ {A = List ℕ} (b ∷ l) [] = sym e ∙ z in let y : _≡_ {A = ℕ} 0 1 = cc in absurd (omega arith))
 
@@ -176,12 +174,7 @@ module _ (names : List Name) where
         let l = past-in s from (omega arith) .0 in
         (refl, refl, p, omega arith, omega arith, end-on s at (t .size) (omega arith) i ∙ from-blank s from at l refl)
     leads s from _ (no-token e n) = tt
-    leads s from _ (the-end e) = λ l.
-        let at = past s from in
-        let n = run-le blank (drop from s) in
-        let d = length-drop from s in
-        let (f, g, h) = margin-on s at _ (omega arith) refl in
-        (omega arith, g, h ∙ from-blank s from at l refl)
+    leads s from _ (the-end e) = λ l. from-blank s from (past s from) l refl
 
     pub stepped : (s : List ℕ) (from : ℕ) (r : Scan) → r ≡ scanAt names s from → Stepped s from r
     stepped s from r e = rw e (record { means = means s from (scanAt names s from) (finds s from); leads = leads s from (scanAt names s from) (finds s from) })

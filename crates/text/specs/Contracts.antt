@@ -96,6 +96,21 @@ kindFor colon u = Colon
 kindFor opening u = LParen
 kindFor closing u = RParen
 
+-- Whether a kind is the mark of a byte.
+abbrev pub markOfByte : Kind → ℕ → Bool
+markOfByte Comma b = eqb b 44
+markOfByte Colon b = eqb b 58
+markOfByte LParen b = eqb b 40
+markOfByte RParen b = eqb b 41
+markOfByte Identifier b = false
+markOfByte (RegisterKind r) b = false
+markOfByte NoRegister b = false
+markOfByte (Number n) b = false
+markOfByte (Negative n) b = false
+markOfByte (Hex n) b = false
+markOfByte (Binary n) b = false
+markOfByte Directive b = false
+
 -- ---- where reading a line ends
 
 -- What stands at a place up to which nothing is left of a line: a comment, by its `#`, or the line's end, byte 10 or the text's end.
@@ -117,9 +132,9 @@ foundAt s at (some t) = Found (record { kind = kindFor (t .token) (take (t .size
 unfoldable pub tokenAt : List Name → List ℕ → ℕ → Scan
 tokenAt names s at = foundAt s at (front names (leftAt s at))
 
--- What stands at a place: a token, or something that is none; where nothing is left, the end, with the place after the margin.
+-- What stands at a place: a token, or something that is none; where nothing is left, the line's end.
 unfoldable pub standsAt : List Name → List ℕ → ℕ → Scan
-standsAt names s at = elim (leftAt s at) [ [] ↦ End (at + run margin (drop at s)) | b ∷ l ↦ tokenAt names s at ]
+standsAt names s at = elim (leftAt s at) [ [] ↦ End (endAt s at) | b ∷ l ↦ tokenAt names s at ]
 
 -- The place past the blanks from a place on.
 abbrev pub past : List ℕ → ℕ → ℕ

@@ -5,7 +5,7 @@ ghost use Prim.Native.Nat.{_+_, _-_, _≤_, _<_};
 ghost use lib.ListN.{length, getD};
 ghost use Rattle.text_lexical.specs.Bytes.{nameStart, digit, mark, blank};
 ghost use Rattle.text_lexical.specs.Names.{present};
-ghost use Rattle.text.specs.Contracts.{patternKind, endingAt, tokenAt, scanAt, numberStart, IsDecimal, Prefixed, NoWord};
+ghost use Rattle.text.specs.Contracts.{patternKind, markOfByte, endingAt, tokenAt, scanAt, numberStart, IsDecimal, Prefixed, NoWord};
 use text_lexical::bytes::Class;
 use text_lexical::name::RegisterName;
 use text_lexical::number::Radix;
@@ -36,7 +36,7 @@ pub struct Token {
     pub length: usize,
 }
 
-// What stands at a place: a token and the place after it, no token, or the end of what is to be read of the line.
+// What stands at a place: a token and the place after it, no token, or nothing that is left to read, with the place where the line ends.
 pub enum Scan {
     Found { token: Token, next: usize },
     Bad,
@@ -224,7 +224,7 @@ fn end_or_bad(text: &[u8], at: usize) -> Scan
 {
     match ending_at(text, at) {
         Ending::Line(stop) => Scan::End(stop),
-        Ending::Comment(stop) => Scan::End(stop),
+        Ending::Comment(stop) => Scan::End(text_lexical::bytes::line_end(text, stop)),
         Ending::Other => Scan::Bad,
     }
 }
@@ -241,6 +241,19 @@ fn mark_or_ending(text: &[u8], at: usize) -> Scan
         b'(' => found(Kind::LParen, at, end),
         b')' => found(Kind::RParen, at, end),
         _ => end_or_bad(text, at),
+    }
+}
+
+// Whether a kind is the mark of a byte, of which `mark_or_ending` makes the kind.
+pub fn is_mark(kind: Kind, byte: u8) -> bool
+    ensures { λ r. ⌜ r ≡ markOfByte kind byte ⌝ }
+{
+    match kind {
+        Kind::Comma => byte == b',',
+        Kind::Colon => byte == b':',
+        Kind::LParen => byte == b'(',
+        Kind::RParen => byte == b')',
+        _ => false,
     }
 }
 

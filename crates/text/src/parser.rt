@@ -1,14 +1,12 @@
 // Numbers of tokens, and the record of a line's tokens.
 ghost use mathlib.Core.Path.{_≡_};
-ghost use Prim.Native.Nat.{_≤_};
-ghost use lib.ListN.{length};
 ghost use Rattle.text_lexical.specs.Names.{present};
+ghost use Rattle.text.specs.Places.{StartsAt};
 ghost use Rattle.text.specs.Contracts.{extracted, recordAt};
 ghost use Rattle.text.specs.Contracts.{spoiled as spoiledLine};
 use crate::lexer::Kind;
 use crate::lexer::Scan;
 use crate::lexer::Token;
-use text_lexical::bytes::Class;
 use text_lexical::number::Whole;
 
 // A number, or why there is none.
@@ -54,29 +52,28 @@ const FILLER: [Token; KEPT] = [Token {
 }; KEPT];
 
 // The record of a line with a bad token.
-fn spoiled(from: usize) -> Line
-    ensures { λ r. ⌜ r ≡ spoiledLine from ⌝ }
+fn spoiled(start: usize) -> Line
+    ensures { λ r. ⌜ r ≡ spoiledLine start ⌝ }
 {
     Line {
         tokens: FILLER,
         count: 0,
         bad: true,
-        end: from,
+        end: start,
     }
 }
 
-// The record of the line that begins at `from`.
-pub fn tokenize(text: &[u8], from: usize) -> Line
-    requires { ⌜ from ≤ length (now text) ⌝ }
-    ensures { λ r. ⌜ r ≡ recordAt present (now (text .entry)) from ⌝ }
+// The record of the line whose content starts at `start`: whoever reads a line has skipped its margin.
+pub fn tokenize(text: &[u8], start: usize) -> Line
+    requires { ⌜ StartsAt (now text) start ⌝ }
+    ensures { λ r. ⌜ r ≡ recordAt present (now (text .entry)) start ⌝ }
 {
     let mut tokens = FILLER;
     let mut count: usize = 0;
-    let mut at = text_lexical::bytes::run_end(text, from, Class::Margin);
+    let mut at = start;
     loop {
         match crate::reader::token_at(text, at) {
-            Scan::End(stop) => {
-                let end = text_lexical::bytes::line_end(text, stop);
+            Scan::End(end) => {
                 return Line {
                     tokens,
                     count,
@@ -84,7 +81,7 @@ pub fn tokenize(text: &[u8], from: usize) -> Line
                     end,
                 };
             }
-            Scan::Bad => return spoiled(from),
+            Scan::Bad => return spoiled(start),
             Scan::Found { token, next } => {
                 if count < KEPT {
                     tokens[count] = token;

@@ -1,13 +1,11 @@
 -- Keys: a spelling of at most seven bytes is told by its key, and an entry of a list is found by it.
 use mathlib.Core.Path.{_≡_, refl, sym, ap, _∙_}
-use Prim.Native.Nat.{ℕ, zero, suc, _+_, _-_, _*_, _^_, _≤_, _<_}
-use native.Mathlib.Nat.{pow-suc}
+use Prim.Native.Nat.{ℕ, zero, suc, _≤_, _<_}
 use native.Mathlib.Omega.{arith}
 use mathlib.Core.Bool.{Bool, true, false}
 use mathlib.Core.List.{List, [], _∷_, map}
 use mathlib.Core.Option.{Option}
-use lib.ListN.{length, drop, getD, length-drop, List·getD-map}
-use lib.Seq.{drop-cons, drop-length, getD-drop}
+use lib.ListN.{length, getD, List·getD-map}
 use lib.Dec.{leb, ltb, eqb}
 use borrow.Author.Tests.{le-leb, lt-leb, eqb-true, eqb-false, leb-true, ltb-true}
 use Rattle.text_lexical.specs.Bytes.{between, lower, same, find, every, each}
@@ -22,37 +20,6 @@ Below s = (i : ℕ) → getD s i 0 < 256
 below-tail : (b : ℕ) (s : List ℕ) → Below (b ∷ s) → Below s
 below-tail b s h i = h (suc i)
 
-below-drop : (i : ℕ) (s : List ℕ) → Below s → Below (drop i s)
-below-drop i s h j = rw (getD-drop i s j 0) (h (i + j))
-
--- ---- packing, byte by byte from the end
-
-packed-small : (n : ℕ) (s : List ℕ) → length s ≤ n → Below s → packed s < 2 * 256 ^ n
-unfolding packed
-packed-small n [] l h = omega (arith, pos n)
-  where
-    pos : (n : ℕ) → 0 < 256 ^ n
-    pos zero = omega arith
-    pos (suc n) = rw (pow-suc 256 n) (omega (arith, pos n))
-packed-small zero (b ∷ s) l h = absurd (omega arith)
-packed-small (suc n) (b ∷ s) l h = rw (pow-suc 256 n) (omega (arith, h 0, packed-small n s (omega arith) (below-tail b s h)))
-
--- There is room for a byte more.
-pub packed-room : (s : List ℕ) (i : ℕ) → length s ≤ 7 → 0 < i → Below s → packed (drop i s) < 2 * 256 ^ 6
-packed-room s i l p h = packed-small 6 (drop i s) (rw (length-drop i s) (omega arith)) (below-drop i s h)
-
-packed-more : (s : List ℕ) (j : ℕ) → j < length s → packed (drop (suc j) s) * 256 + getD s j 0 ≡ packed (drop j s)
-unfolding packed
-packed-more s j l = rw (drop-cons s j 0 l) (omega arith)
-
-pub packed-step : (s : List ℕ) (i : ℕ) → 0 < i → i ≤ length s → packed (drop i s) * 256 + getD s (i - 1) 0 ≡ packed (drop (i - 1) s)
-packed-step s zero p l = absurd (omega arith)
-packed-step s (suc j) p l = let e : suc j - 1 ≡ j = omega arith in rw e (packed-more s j (omega arith))
-
-pub packed-none : (s : List ℕ) → packed (drop (length s) s) ≡ 1
-unfolding packed
-packed-none s = rw (drop-length s)
-
 pub key-long : (s : List ℕ) → 7 < length s → keyOf s ≡ 0
 unfolding keyOf
 key-long s h = rw (keyOf, lt-leb (length s) 7 h)
@@ -60,8 +27,6 @@ key-long s h = rw (keyOf, lt-leb (length s) 7 h)
 pub key-short : (s : List ℕ) → length s ≤ 7 → keyOf s ≡ packed s
 unfolding keyOf
 key-short s h = rw (keyOf, le-leb (length s) 7 h)
-
--- ---- a spelling and its key
 
 packed-pos : (s : List ℕ) → 0 < packed s
 unfolding packed

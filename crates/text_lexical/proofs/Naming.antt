@@ -1,18 +1,25 @@
 -- Names of registers by their bytes: each is the present set's, computed once for each run of names, and there is no other.
-use Prim.Native.Nat.{ℕ, _+_, _-_, _%_, _≤_, _<_}
-use mathlib.Core.Path.{_≡_, refl, ap, _∙_}
+use Prim.Native.Nat.{ℕ, suc, _+_, _-_, _%_, _≤_, _<_}
+use mathlib.Core.Path.{_≡_, refl, sym, ap, _∙_}
 use native.Mathlib.Omega.{arith}
+use native.Mathlib.Numerals.{add-one}
+use mathlib.Core.Logic.{_⊎_, inl, inr, ⊎-elim}
 use mathlib.Core.Bool.{Bool, true, false, _&&_, _||_, and-eq-true-iff}
 use mathlib.Core.Option.{Option, none, some}
 use mathlib.Core.List.{List, [], _∷_}
-use lib.ListN.{length, getD}
+use lib.ListN.{length, drop, getD, length-take, length-drop}
+use lib.Seq.{drop-cons}
 use lib.Dec.{leb, ltb, eqb}
 use borrow.Author.Tests.{ne-eqb, eqb-true, leb-true, ltb-true}
-use Rattle.text_lexical.specs.Bytes.{bytes, between, same, find, each}
+use Rattle.text_lexical.specs.Bytes.{bytes, between, letter, digit, nameStart, namePart, every, same, run, find, each}
 use Rattle.text_lexical.specs.Names.{Name, name, named, numbered, conventional, present}
-use Rattle.text_lexical.specs.Contracts.{nameNumber, registerNumber}
-use Rattle.text_lexical.proofs.Tests.{not-true, no-both, or-elim, Each, in-run}
-use Rattle.text_lexical.proofs.Strings.{same-eq, found}
+use Rattle.text_lexical.specs.Contracts.{indexOf, nameMeant, nameNumber, registerNumber}
+use Rattle.text_lexical.specs.Words.{part, wordEnd, wordAt, upTo, RegisterWordIs}
+use Rattle.text_lexical.specs.declared.name.RegisterName.{RegisterName}
+use Rattle.text_lexical.specs.declared.name.RegisterName.the-variants.{Is as Named, NoSuch, Other as NoName}
+use Rattle.text_lexical.specs.declared.name.RegisterWord.the-variants.{Other}
+use Rattle.text_lexical.proofs.Tests.{by-test, not-true, no-both, or-elim, Each, in-run}
+use Rattle.text_lexical.proofs.Strings.{same-eq, found, run-le, run-past, run-yes, run-no}
 
 -- The register that a spelling names, by its number.
 abbrev Is : List ℕ → ℕ → Type 0
@@ -176,6 +183,9 @@ no-length (a ∷ b ∷ c ∷ []) f g h = absurd (g refl)
 no-length (a ∷ b ∷ c ∷ d ∷ []) f g h = absurd (h refl)
 no-length (a ∷ b ∷ c ∷ d ∷ e ∷ s) f g h = none-named (a ∷ b ∷ c ∷ d ∷ e ∷ s) refl
 
+pub long-none : (u : List ℕ) → 4 < length u → nameNumber (named present u) ≡ none
+long-none u h = sym (no-length u (λ e. omega arith) (λ e. omega arith) (λ e. omega arith))
+
 pub two-are : (u : List ℕ) → length u ≡ 2 → u ≡ getD u 0 0 ∷ getD u 1 0 ∷ []
 two-are [] h = absurd (omega arith)
 two-are (a ∷ []) h = absurd (omega arith)
@@ -189,3 +199,76 @@ three-are (a ∷ u) h = ap (λ (t : List ℕ). a ∷ t) (two-are u (omega arith)
 pub four-are : (u : List ℕ) → length u ≡ 4 → u ≡ getD u 0 0 ∷ getD u 1 0 ∷ getD u 2 0 ∷ getD u 3 0 ∷ []
 four-are [] h = absurd (omega arith)
 four-are (a ∷ u) h = ap (λ (t : List ℕ). a ∷ t) (three-are u (omega arith))
+
+-- ---- the register that the word at a place names
+
+pub two-at : (s : List ℕ) (at : ℕ) → at + 2 ≤ length s → part s at 2 ≡ getD s at 0 ∷ getD s (at + 1) 0 ∷ []
+two-at s at h = rw (drop-cons s at 0 (omega arith), drop-cons s (suc at) 0 (omega arith), add-one at)
+
+pub three-at : (s : List ℕ) (at : ℕ) → at + 3 ≤ length s → part s at 3 ≡ getD s at 0 ∷ getD s (at + 1) 0 ∷ getD s (at + 2) 0 ∷ []
+three-at s at h =
+    let v : suc at + 1 ≡ at + 2 = omega arith in
+    rw (drop-cons s at 0 (omega arith)) (ap (λ (t : List ℕ). getD s at 0 ∷ t) (rw (add-one at, ← v) (two-at s (suc at) (omega arith))))
+
+pub four-at : (s : List ℕ) (at : ℕ) → at + 4 ≤ length s → part s at 4 ≡ getD s at 0 ∷ getD s (at + 1) 0 ∷ getD s (at + 2) 0 ∷ getD s (at + 3) 0 ∷ []
+four-at s at h =
+    let v : suc at + 1 ≡ at + 2 = omega arith in
+    let w : suc at + 2 ≡ at + 3 = omega arith in
+    rw (drop-cons s at 0 (omega arith)) (ap (λ (t : List ℕ). getD s at 0 ∷ t) (rw (add-one at, ← v, ← w) (three-at s (suc at) (omega arith))))
+
+pub part-next : (s : List ℕ) (at k : ℕ) → at + k < length s → namePart (getD s (at + k) 0) ≡ true → run namePart (drop (at + k) s) ≡ 1 + run namePart (drop (at + suc k) s)
+part-next s at k l h = let v : at + suc k ≡ suc (at + k) = omega arith in rw v (omega (arith, run-yes namePart s (at + k) l h))
+
+-- A name's bytes are parts of a name.
+all-parts : each (λ n. every namePart (n .spelling)) present ≡ true
+unfolding each every namePart nameStart letter digit between present numbered conventional name bytes
+all-parts = refl
+
+named-parts : (u : List ℕ) (o : Option ℕ) → nameNumber (named present u) ≡ some o → every namePart u ≡ true
+unfolding named
+named-parts u o h = go (named present u) refl h
+  where
+    go : (x : Option Name) → named present u ≡ x → nameNumber x ≡ some o → every namePart u ≡ true
+    go none e k = absurd (let z : _≡_ {A = ℕ} 0 1 = cc in omega arith)
+    go (some n) e k =
+        let (p, q) = found (λ x. same (x .spelling) u) (λ x. every namePart (x .spelling)) present n e all-parts in
+        rw (same-eq (n .spelling) u p) at q
+
+module _ (s : List ℕ) (at : ℕ) (l : at + 2 ≤ length s) where
+  -- A word that has two bytes at least goes on after them.
+  two-or-fewer : (run namePart (drop at s) ≡ 2 + run namePart (drop (at + 2) s)) ⊎ (run namePart (drop at s) < 2)
+  two-or-fewer =
+      let v : at + 2 ≡ suc (suc at) = omega arith in
+      by-test (namePart (getD s at 0))
+      (λ a. let y = run-yes namePart s at (omega arith) a in by-test (namePart (getD s (suc at) 0))
+      (λ b. inl (rw v (omega (arith, y, run-yes namePart s (suc at) (omega arith) b))))
+      (λ b. inr (omega (arith, y, run-no namePart s (suc at) (omega arith) b))))
+      (λ a. inr (omega (arith, run-no namePart s at (omega arith) a)))
+
+  no-word : (run namePart (drop at s) ≡ 2 → ⊥) → (run namePart (drop at s) ≡ 3 → ⊥) → (run namePart (drop at s) ≡ 4 → ⊥) → none ≡ nameNumber (named present (wordAt s at))
+  no-word f g h =
+      let n : length (wordAt s at) ≡ run namePart (drop at s) = rw (length-take (wordEnd s at - at) (drop at s)) (omega (arith, run-le namePart (drop at s))) in
+      no-length (wordAt s at) (λ e. f (sym n ∙ e)) (λ e. g (sym n ∙ e)) (λ e. h (sym n ∙ e))
+
+  -- No name has five bytes.
+  pub long-word : 3 ≤ run namePart (drop (at + 2) s) → RegisterWordIs present s at Other
+  long-word m h n e =
+      let z = no-word (λ k. ⊎-elim (λ w. omega arith) (λ w. omega arith) two-or-fewer) (λ k. ⊎-elim (λ w. omega arith) (λ w. omega arith) two-or-fewer) (λ k. ⊎-elim (λ w. omega arith) (λ w. omega arith) two-or-fewer) in
+      let y : _≡_ {A = ℕ} 0 1 = cc in
+      omega arith
+
+  -- Bytes up to the first one, past two, that is no part of a name: the word, where they are a name or the word is.
+  module _ (end : ℕ) (q : end ≡ at + 2 + run namePart (drop (at + 2) s)) where
+    other-word : (n : ℕ) → (nameNumber (named present (part s at (end - at))) ≡ some (some n) → ⊥) → nameNumber (named present (wordAt s at)) ≡ some (some n) → ⊥
+    other-word n f e =
+        ⊎-elim (λ w. let z : wordEnd s at ≡ end = omega arith in f (rw z at e))
+        (λ w. let z = no-word (λ k. omega arith) (λ k. omega arith) (λ k. omega arith) in let y : _≡_ {A = ℕ} 0 1 = cc in omega arith)
+        two-or-fewer
+
+    pub named-word : (n : RegisterName) → nameMeant n ≡ nameNumber (named present (part s at (end - at))) → RegisterWordIs present s at (upTo n end)
+    named-word (Named r) e =
+        let y = run-past namePart (end - at) (drop at s) (omega (arith, length-drop at s, length-drop (at + 2) s, run-le namePart (drop (at + 2) s)))
+        (named-parts (part s at (end - at)) (some (indexOf r)) (sym e)) in
+        (omega arith, ⊎-elim (λ w. omega arith) (λ w. absurd (omega arith)) two-or-fewer, sym e)
+    named-word NoSuch e = λ l n. other-word n (λ k. let y : _≡_ {A = ℕ} 0 1 = cc in omega arith)
+    named-word NoName e = λ l n. other-word n (λ k. let y : _≡_ {A = ℕ} 0 1 = cc in omega arith)

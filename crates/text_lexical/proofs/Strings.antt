@@ -91,11 +91,20 @@ past-run p (b ∷ s) zero h l = absurd (omega arith)
 past-run p (b ∷ s) (suc j) h l =
     by-test (p b) (λ e. rw (every, e) (past-run p s j (le-of-suc-le-suc (rw (before, e) at h)) (omega arith))) (λ e. rw (every, e))
 
--- A run stops at a byte outside the class.
+-- A run stops at a byte outside the class,
 pub run-stop : (p : ℕ → Bool) (s : List ℕ) → run p s < length s → p (getD s (run p s) 0) ≡ false
 unfolding run before
 run-stop p [] h = absurd (omega arith)
 run-stop p (b ∷ s) h = by-test (p b) (λ e. rw (before, e) (run-stop p s (omega (arith, rw (before, e) at h)))) (λ e. rw (before, e) e)
+
+-- and so does not go on there.
+run-ended : (p : ℕ → Bool) (t : List ℕ) → run p (drop (run p t) t) ≡ 0
+unfolding run before
+run-ended p [] = refl
+run-ended p (b ∷ t) = by-test (p b) (λ e. rw (before, e) (run-ended p t)) (λ e. rw (before, e, before, e))
+
+pub run-over : (p : ℕ → Bool) (s : List ℕ) (from : ℕ) → run p (drop (from + run p (drop from s)) s) ≡ 0
+run-over p s from = rw (← drop-drop (run p (drop from s)) from s) (run-ended p (drop from s))
 
 -- A run is what of it has been passed, and the rest.
 pub run-past : (p : ℕ → Bool) (k : ℕ) (s : List ℕ) → k ≤ length s → every p (take k s) ≡ true → run p s ≡ k + run p (drop k s)

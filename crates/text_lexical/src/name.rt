@@ -2,12 +2,12 @@
 ghost use mathlib.Core.Path.{_≡_};
 ghost use mathlib.Core.List.{[], _∷_, map};
 ghost use mathlib.Core.Option.{some};
-ghost use Prim.Native.Nat.{_≤_};
+ghost use Prim.Native.Nat.{_+_, _^_, _≤_, _<_};
 ghost use lib.ListN.{length};
 ghost use Rattle.text_lexical.specs.Bytes.{lower};
 ghost use Rattle.text_lexical.specs.Names.{named, present};
 ghost use Rattle.text_lexical.specs.Contracts.{keyOf, nameMeant, nameNumber, registerNumber};
-ghost use Rattle.text_lexical.specs.Words.{WordIs};
+ghost use Rattle.text_lexical.specs.Words.{Roomy, withByte, WordIs, upTo, RegisterWordIs};
 use crate::bytes::Class;
 use crate::register::Register;
 
@@ -24,6 +24,16 @@ pub enum RegisterName {
     // no name
     Other,
 }
+
+// The register that the word at a place names, and the word's end.
+pub enum RegisterWord {
+    Is { register: Register, end: usize },
+    // The word names no register, or it stands too near the text's end for this look-up.
+    Other,
+}
+
+// How many bytes the longest name has.
+pub const LONGEST: usize = 4;
 
 // The names of two bytes, by the last three bits of the first byte, which tell the letters apart: a branch for each letter would often be
 // guessed wrong. Each table has eight bytes, so that it stays in a register.
@@ -50,7 +60,7 @@ fn numbered(number: u8) -> RegisterName
 }
 
 // The register that two bytes name.
-pub fn two_bytes(first: u8, second: u8) -> RegisterName
+fn two_bytes(first: u8, second: u8) -> RegisterName
     ensures { λ r. ⌜ nameMeant r ≡ nameNumber (named present (first ∷ second ∷ [])) ⌝ }
 {
     let slot = (first % 8) as usize;
@@ -70,7 +80,7 @@ pub fn two_bytes(first: u8, second: u8) -> RegisterName
 }
 
 // The register that three bytes name: r10 to r15.
-pub fn three_bytes(first: u8, second: u8, third: u8) -> RegisterName
+fn three_bytes(first: u8, second: u8, third: u8) -> RegisterName
     ensures { λ r. ⌜ nameMeant r ≡ nameNumber (named present (first ∷ second ∷ third ∷ [])) ⌝ }
 {
     if first != b'r' {
@@ -86,7 +96,7 @@ pub fn three_bytes(first: u8, second: u8, third: u8) -> RegisterName
 }
 
 // The register that four bytes name: zero.
-pub fn four_bytes(first: u8, second: u8, third: u8, fourth: u8) -> RegisterName
+fn four_bytes(first: u8, second: u8, third: u8, fourth: u8) -> RegisterName
     ensures { λ r. ⌜ nameMeant r ≡ nameNumber (named present (first ∷ second ∷ third ∷ fourth ∷ [])) ⌝ }
 {
     if first != b'z' {
@@ -121,20 +131,88 @@ pub fn parse_register(name: &[u8]) -> RegisterName
     RegisterName::Other
 }
 
-// The key of a spelling in lower case: its bytes, the first lowest, with a 1 after them; 0 where there are more than seven.
+// A register that is named up to a place.
+fn up_to(name: RegisterName, end: usize) -> RegisterWord
+    ensures { λ r. ⌜ r ≡ upTo name end ⌝ }
+{
+    match name {
+        RegisterName::Is(register) => RegisterWord::Is { register, end },
+        _ => RegisterWord::Other,
+    }
+}
+
+// The register that the word at `at` names, found while the word's end is: for an operand, whose name is looked up at once. The byte after
+// the longest name is looked at too, so that a word at the text's end is left to `parse_register`.
+pub fn register_word(text: &[u8], at: usize) -> RegisterWord
+    requires { ⌜ at ≤ length (now text) ⌝ }
+    ensures { λ r. ⌜ RegisterWordIs present (now (text .entry)) at r ⌝ }
+{
+    if text.len() - at <= LONGEST {
+        return RegisterWord::Other;
+    }
+    let first = text[at];
+    let second = text[at + 1];
+    let third = text[at + 2];
+    if !crate::bytes::is_name_part(third) {
+        return up_to(two_bytes(first, second), at + 2);
+    }
+    let fourth = text[at + 3];
+    if !crate::bytes::is_name_part(fourth) {
+        return up_to(three_bytes(first, second, third), at + 3);
+    }
+    if !crate::bytes::is_name_part(text[at + 4]) {
+        return up_to(four_bytes(first, second, third, fourth), at + 4);
+    }
+    RegisterWord::Other
+}
+
+// How many bytes a key has at most.
+const KEY_BYTES: usize = 7;
+
+// Bytes packed so far: their number, the first byte lowest, and what the next byte counts. Passed by value, so that it stays in registers.
+struct Packed {
+    sum: u64,
+    scale: u64,
+}
+
+// No byte.
+const UNPACKED: Packed = Packed { sum: 0, scale: 1 };
+
+impl Packed {
+    // A byte more, in lower case.
+    fn with(self, b: u8) -> Packed
+        requires { ⌜ Roomy self ⌝ }
+        ensures { λ r. ⌜ r ≡ withByte self (lower b) ⌝ }
+    {
+        Packed {
+            sum: self.sum + crate::number::wide(crate::bytes::to_lower(b)) * self.scale,
+            scale: self.scale * 256,
+        }
+    }
+
+    // The key: a 1 after the last byte.
+    fn key(self) -> u64
+        requires { ⌜ self .sum + self .scale < 2 ^ 64 ⌝ }
+        ensures { λ r. ⌜ r ≡ self .sum + self .scale ⌝ }
+    {
+        self.sum + self.scale
+    }
+}
+
+// The key of a spelling in lower case; 0 where it has too many bytes.
 pub fn lower_key(spelling: &[u8]) -> u64
     ensures { λ r. ⌜ r ≡ keyOf (map lower (now (spelling .entry))) ⌝ }
 {
-    if 7 < spelling.len() {
+    if KEY_BYTES < spelling.len() {
         return 0;
     }
-    let mut key: u64 = 1;
-    let mut i = spelling.len();
-    while 0 < i {
-        i -= 1;
-        key = key * 256 + crate::number::wide(crate::bytes::to_lower(spelling[i]));
+    let mut packed = UNPACKED;
+    let mut i = 0;
+    while i < spelling.len() {
+        packed = packed.with(spelling[i]);
+        i += 1;
     }
-    key
+    packed.key()
 }
 
 // The word at `at`: its key in lower case, and its end. It has no byte where no part of a name stands.
@@ -142,30 +220,27 @@ pub fn lower_word(text: &[u8], at: usize) -> Word
     requires { ⌜ at ≤ length (now text) ⌝ }
     ensures { λ r. ⌜ WordIs (now (text .entry)) at r ⌝ }
 {
-    let mut sum: u64 = 0;
-    let mut scale: u64 = 1;
+    let mut packed = UNPACKED;
     let mut i = at;
     while i < text.len() {
         let b = text[i];
         if !crate::bytes::is_name_part(b) {
             return Word {
-                key: sum + scale,
+                key: packed.key(),
                 end: i,
             };
         }
-        if 7 <= i - at {
-            // the key of a longer word is 0
+        if KEY_BYTES <= i - at {
             return Word {
                 key: 0,
                 end: crate::bytes::run_end(text, i, Class::NamePart),
             };
         }
-        sum = sum + crate::number::wide(crate::bytes::to_lower(b)) * scale;
-        scale = scale * 256;
+        packed = packed.with(b);
         i += 1;
     }
     Word {
-        key: sum + scale,
+        key: packed.key(),
         end: i,
     }
 }

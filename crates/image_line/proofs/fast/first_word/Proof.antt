@@ -30,12 +30,6 @@ missing k = record { label = k .loop .inv; in-text = label-in (k .before .before
 returns : tie.Need-returns Inv-loop μ-loop
 returns c = missing (c .before)
 
-shared-slice-read-is-name-start : tie.Need-shared-slice-read-is-name-start Inv-loop μ-loop
-shared-slice-read-is-name-start c = search needs
-
-is-name-start-requires : tie.Need-is-name-start-requires Inv-loop μ-loop
-is-name-start-requires c κs = search needs
-
 returns-2 : tie.Need-returns-2 Inv-loop μ-loop
 returns-2 c = missing (c .before .before .before .before)
 
@@ -114,8 +108,7 @@ first-word-spec =
     μ-loop
     loop-holds
     returns
-    shared-slice-read-is-name-start
-    is-name-start-requires
+    (λ c. search needs) (λ c κs. search needs)
     returns-2
     lower-word-requires
     returns-3

@@ -4,17 +4,18 @@ use mathlib.Core.Path.{_≡_, sym}
 use native.Mathlib.Omega.{arith}
 use mathlib.Core.Bool.{false}
 use mathlib.Core.List.{List, [], _∷_}
-use lib.ListN.{getD}
+use lib.ListN.{drop, getD, length-take, length-drop}
 use denote.Enum.Declared.{tagOf}
 use types.Run.{OneOf, miss}
 use Rattle.text_lexical.specs.Names.{named, present}
 use Rattle.text_lexical.specs.Contracts.{nameNumber, nameMeant}
 use Rattle.text_lexical.specs.declared.name.RegisterName.{RegisterName}
 use Rattle.text_lexical.specs.declared.name.RegisterName.the-variants.{Is, NoSuch, Other}
+use Rattle.text_lexical.proofs.Naming.{long-none}
 use Rattle.text_lexical.proofs.name.RegisterName as register-name-type
 use Rattle.text_lexical.specs.Words.{part}
 use Rattle.image_line.specs.Contracts.{isLabel}
-use Rattle.image_line.proofs.Lines.{no-byte, no-colon, no-name, a-name, names-short, long-name}
+use Rattle.image_line.proofs.Lines.{no-byte, no-colon, no-name, a-name}
 use borrow.Author.Needs.{needs}
 use Rattle.image_line.proofs.fast.is_label.Statement.{statement}
 use Rattle.image_line.proofs.fast.is_label.Tie as tie
@@ -22,26 +23,8 @@ use Rattle.image_line.proofs.fast.is_label.Tie as tie
 returns : tie.Need-returns
 returns c = let a = c .before .before .args in no-byte present (a .source .now) (a .at) (a .end) (c .if1 .taken)
 
-shared-slice-read-if2 : tie.Need-shared-slice-read-if2
-shared-slice-read-if2 c = search needs
-
 returns-2 : tie.Need-returns-2
 returns-2 c = let a = c .before .before .before .before .args in no-colon present (a .source .now) (a .at) (a .end) (c .if2 .taken)
-
-sub-if3 : tie.Need-sub-if3
-sub-if3 c = search needs
-
-sub-parse-register : tie.Need-sub-parse-register
-sub-parse-register c = search needs
-
-part-parse-register-start : tie.Need-part-parse-register-start
-part-parse-register-start c = search needs
-
-part-parse-register-end : tie.Need-part-parse-register-end
-part-parse-register-end c = search needs
-
-parse-register-requires : tie.Need-parse-register-requires
-parse-register-requires c κs = search needs
 
 enum-told : tie.Need-enum-told
 enum-told c = search needs
@@ -75,20 +58,18 @@ returns-5 c =
     let e = c .before in
     let b = e .before .before .before .before in
     let a = b .args in
-    no-name present (a .source .now) (a .at) (a .end) (e .if2 .left) (long-name present (a .source .now) (a .at) (a .end) names-short (b .pre .1) (omega (arith, c .if3 .left)))
+    let s = a .source .now in
+    no-name present s (a .at) (a .end) (e .if2 .left)
+    (long-none (part s (a .at) (a .end - a .at)) (omega (arith, c .if3 .left, length-take (a .end - a .at) (drop (a .at) s), length-drop (a .at) s)))
 
 pub is-label-spec : {M : Type 1} → statement M
 is-label-spec =
     tie.close
     (tie.spec
     returns
-    shared-slice-read-if2
+    (λ c. search needs)
     returns-2
-    sub-if3
-    sub-parse-register
-    part-parse-register-start
-    part-parse-register-end
-    parse-register-requires
+    (λ c. search needs) (λ c. search needs) (λ c. search needs) (λ c. search needs) (λ c κs. search needs)
     enum-told
     returns-3
     returns-4

@@ -16,12 +16,6 @@ Inv-loop source from form registers₀ count₀ number₀ at₀ left₀ register
 abbrev μ-loop : tie.MeasureT-loop
 μ-loop source from form registers₀ count₀ number₀ at₀ left₀ registers count number at left = left
 
-no-number-requires : tie.Need-no-number-requires Inv-loop μ-loop
-no-number-requires c κs = search needs
-
-operands-of-requires : tie.Need-operands-of-requires Inv-loop μ-loop
-operands-of-requires c κs = search needs
-
 loop-holds : tie.Need-loop-holds Inv-loop μ-loop
 loop-holds c =
     let b = c .before .before .before in
@@ -30,17 +24,8 @@ loop-holds c =
 operand-at-requires : tie.Need-operand-at-requires Inv-loop μ-loop
 operand-at-requires c κs = c .before .loop .inv .passed .place
 
-enum-told : tie.Need-enum-told Inv-loop μ-loop
-enum-told c = search needs
-
 returns : tie.Need-returns Inv-loop μ-loop
 returns c = tt
-
-enum-known-n : tie.Need-enum-known-n Inv-loop μ-loop
-enum-known-n c = search needs
-
-enum-known-register : tie.Need-enum-known-register Inv-loop μ-loop
-enum-known-register c = search needs
 
 array-set-from-registers : tie.Need-array-set-from-registers Inv-loop μ-loop
 array-set-from-registers c =
@@ -58,17 +43,8 @@ after-mark-requires c κs =
     ⊎-elim (λ w. let (digit, v) = rw (w .1 .given .1) at (o .operand-at .ensures) in rw (w .6) (v .reads .in-text))
     (λ w. let (letter, rd) = rw (w .1 .given .1) at (o .operand-at .ensures) in rw (w .6) (rd .in-text)) (c .match .came)
 
-enum-told-2 : tie.Need-enum-told-2 Inv-loop μ-loop
-enum-told-2 c = search needs
-
 returns-2 : tie.Need-returns-2 Inv-loop μ-loop
 returns-2 c = tt
-
-enum-known-next : tie.Need-enum-known-next Inv-loop μ-loop
-enum-known-next c = search needs
-
-loop-less : tie.Need-loop-less Inv-loop μ-loop
-loop-less c = search needs
 
 loop-again : tie.Need-loop-again Inv-loop μ-loop
 loop-again c =
@@ -97,21 +73,18 @@ read-tail-spec =
     (tie.spec
     Inv-loop
     μ-loop
-    no-number-requires
-    operands-of-requires
+    (λ c κs. search needs) (λ c κs. search needs)
     loop-holds
     operand-at-requires
-    enum-told
+    (λ c. search needs)
     returns
-    enum-known-n
-    enum-known-register
+    (λ c. search needs) (λ c. search needs)
     array-set-from-registers
     add-count
     after-mark-requires
-    enum-told-2
+    (λ c. search needs)
     returns-2
-    enum-known-next
-    loop-less
+    (λ c. search needs) (λ c. search needs)
     loop-again
     tail-at-requires
     returns-3)

@@ -1,14 +1,13 @@
 -- `image_line::line::read_line` meets its contract.
 use borrow.Author.Needs.{needs}
 use Rattle.text_lexical.specs.Names.{present}
-use Rattle.image_line.specs.Contracts.{contextFor, StartsAt, LineIs}
+use Rattle.text.specs.Places.{StartsAt}
+use Rattle.text.proofs.Endings.{past-margin}
+use Rattle.image_line.specs.Contracts.{contextFor, LineIs}
 use Rattle.image_line.specs.declared.line.Read.{Read}
-use Rattle.image_line.proofs.Starts.{past-margin, line-from}
+use Rattle.image_line.proofs.Starts.{line-from}
 use Rattle.image_line.proofs.line.read_line.Statement.{statement}
 use Rattle.image_line.proofs.line.read_line.Tie as tie
-
-run-end-requires : tie.Need-run-end-requires
-run-end-requires c κs = search needs
 
 -- the margin is skipped
 starts : (c : tie.After-run-end) → StartsAt (c .before .before .args .source .now) (c .run-end .result)
@@ -20,15 +19,6 @@ here c r h = let b = c .before .before in line-from (b .args .source .now) (b .a
 
 read-fast-requires : tie.Need-read-fast-requires
 read-fast-requires c κs = (starts c, c .before .before .pre .1)
-
-enum-known-label : tie.Need-enum-known-label
-enum-known-label c = search needs
-
-enum-known-label-2 : tie.Need-enum-known-label-2
-enum-known-label-2 c = search needs
-
-enum-told : tie.Need-enum-told
-enum-told c = search needs
 
 read-record-requires : tie.Need-read-record-requires
 read-record-requires c κs = let e = c .before .before .before in (starts e, e .before .before .pre .1)
@@ -52,11 +42,9 @@ pub read-line-spec : {M : Type 1} → statement M
 read-line-spec =
     tie.close
     (tie.spec
-    run-end-requires
+    (λ c κs. search needs)
     read-fast-requires
-    enum-known-label
-    enum-known-label-2
-    enum-told
+    (λ c. search needs) (λ c. search needs) (λ c. search needs)
     read-record-requires
     returns
     returns-2

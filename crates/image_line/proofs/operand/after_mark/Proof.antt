@@ -8,29 +8,8 @@ use Rattle.image_line.proofs.Places.{mark-reads}
 use Rattle.image_line.proofs.operand.after_mark.Statement.{statement}
 use Rattle.image_line.proofs.operand.after_mark.Tie as tie
 
-mark-of-requires : tie.Need-mark-of-requires
-mark-of-requires c κs = search needs
-
 enum-told : tie.Need-enum-told
 enum-told c = search needs
-
-enum-known-byte : tie.Need-enum-known-byte
-enum-known-byte c = search needs
-
-run-end-requires : tie.Need-run-end-requires
-run-end-requires c κs = search needs
-
-returns : tie.Need-returns
-returns c = search needs
-
-shared-slice-read-if2 : tie.Need-shared-slice-read-if2
-shared-slice-read-if2 c = search needs
-
-returns-2 : tie.Need-returns-2
-returns-2 c = search needs
-
-add-t9 : tie.Need-add-t9
-add-t9 c = search needs
 
 -- no mark follows
 returns-3 : tie.Need-returns-3
@@ -49,13 +28,9 @@ pub after-mark-spec : {M : Type 1} → statement M
 after-mark-spec =
     tie.close
     (tie.spec
-    mark-of-requires
+    (λ c κs. search needs)
     enum-told
-    enum-known-byte
-    run-end-requires
-    returns
-    shared-slice-read-if2
-    returns-2
-    add-t9
+    (λ c. search needs) (λ c κs. search needs) (λ c. search needs) (λ c. search needs) (λ c. search needs)
+    (λ c. search needs)
     returns-3
     returns-4)

@@ -13,30 +13,12 @@ use Rattle.image_line.proofs.Places.{stepped-reads}
 use Rattle.image_line.proofs.operand.number_at.Statement.{statement}
 use Rattle.image_line.proofs.operand.number_at.Tie as tie
 
-run-end-requires : tie.Need-run-end-requires
-run-end-requires c κs = search needs
-
-returns : tie.Need-returns
-returns c = search needs
-
-shared-slice-read-is-number-start : tie.Need-shared-slice-read-is-number-start
-shared-slice-read-is-number-start c = search needs
-
-is-number-start-requires : tie.Need-is-number-start-requires
-is-number-start-requires c κs = search needs
-
-returns-2 : tie.Need-returns-2
-returns-2 c = search needs
-
 -- a number begins here
 begins : (c : tie.Else2) → let r = c .before .before .before .before in numberStart (getD (r .before .before .args .text .now) (r .run-end .result) 0) ≡ true
 begins c = sym (c .before .is-number-start .ensures) ∙ not-false _ (c .if2 .left)
 
 number-requires : tie.Need-number-requires
 number-requires c κs = (omega (arith, c .before .before .before .if1 .left), begins c)
-
-enum-known-token : tie.Need-enum-known-token
-enum-known-token c = search needs
 
 returns-3 : tie.Need-returns-3
 returns-3 c =
@@ -53,19 +35,12 @@ returns-3 c =
           (number-step present s (r .run-end .result) _ (omega (arith, o .if1 .left)) (begins e) (rw (t .token .given .1) at (n .number .ensures)))),
     )
 
-returns-4 : tie.Need-returns-4
-returns-4 c = search needs
-
 pub number-at-spec : {M : Type 1} → statement M
 number-at-spec =
     tie.close
     (tie.spec
-    run-end-requires
-    returns
-    shared-slice-read-is-number-start
-    is-number-start-requires
-    returns-2
+    (λ c κs. search needs) (λ c. search needs) (λ c. search needs) (λ c κs. search needs) (λ c. search needs)
     number-requires
-    enum-known-token
+    (λ c. search needs)
     returns-3
-    returns-4)
+    (λ c. search needs))

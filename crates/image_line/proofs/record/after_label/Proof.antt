@@ -9,9 +9,6 @@ use Rattle.image_line.proofs.record.after_label.Tie as tie
 returns : tie.Need-returns
 returns c = let a = c .before .before .before .args in record { means = after-none (a .source .now) (a .line) (c .if1 .taken); in-table = tt; settled = tt }
 
-read-instruction-requires : tie.Need-read-instruction-requires
-read-instruction-requires c κs = search needs
-
 returns-2 : tie.Need-returns-2
 returns-2 c =
     let e = c .before in
@@ -21,4 +18,4 @@ returns-2 c =
     record { means = r .means ∙ after-instruction (a .source .now) (a .line) (b .pre .0) (omega (arith, b .pre .1 .0, e .if1 .left)); in-table = r .in-table; settled = r .settled }
 
 pub after-label-spec : {M : Type 1} → statement M
-after-label-spec = tie.close (tie.spec returns read-instruction-requires returns-2)
+after-label-spec = tie.close (tie.spec returns (λ c κs. search needs) returns-2)

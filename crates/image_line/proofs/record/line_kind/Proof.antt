@@ -38,9 +38,6 @@ returns c =
     let a = c .before .before .before .args in
     kind-none (a .source .now) (a .line .tokens) (a .line .count) (c .if1 .taken)
 
-array-copy-out-first : tie.Need-array-copy-out-first
-array-copy-out-first c = search needs
-
 enum-told : tie.Need-enum-told
 enum-told c = search needs
 
@@ -58,15 +55,6 @@ returns-2 c =
     let a = b .before .before .before .args in
     let n = b .before .before .before .pre .kept .places in
     kind-alone (a .source .now) (a .line .tokens) (a .line .count) n (omega (arith, b .if1 .left)) _ (named (a .source .now) (a .line .tokens) n (i .enum-told .given .1)) (c .if2 .taken)
-
-array-copy-out-second : tie.Need-array-copy-out-second
-array-copy-out-second c = search needs
-
-enum-told-2 : tie.Need-enum-told-2
-enum-told-2 c = search needs
-
-enum-told-3 : tie.Need-enum-told-3
-enum-told-3 c = search needs
 
 -- the first token is a part of the text
 inside : (c : tie.After-enum-told3) → let a = c .before .before .before .before .before .before .args in
@@ -91,12 +79,6 @@ part-same-start c = let (h, i) = inside (c .before .before) in omega (arith, h, 
 
 part-same-end : tie.Need-part-same-end
 part-same-end c = inside (c .before .before) .1
-
-slice-aggregate-same : tie.Need-slice-aggregate-same
-slice-aggregate-same c = search needs
-
-same-requires : tie.Need-same-requires
-same-requires c κs = search needs
 
 -- the directive, by the answer of the comparison
 spelled : (c : tie.After-same) → let a = c .before .before .before .before .before .before .before .before .before .before .before .args in
@@ -194,19 +176,16 @@ line-kind-spec =
     tie.close
     (tie.spec
     returns
-    array-copy-out-first
+    (λ c. search needs)
     enum-told
     returns-2
-    array-copy-out-second
-    enum-told-2
-    enum-told-3
+    (λ c. search needs) (λ c. search needs) (λ c. search needs)
     add-start
     add-end
     sub-same
     part-same-start
     part-same-end
-    slice-aggregate-same
-    same-requires
+    (λ c. search needs) (λ c κs. search needs)
     returns-3
     returns-4
     returns-5

@@ -8,12 +8,6 @@ use Rattle.image_line.proofs.record.read_config.Tie as tie
 parse-config-requires : tie.Need-parse-config-requires
 parse-config-requires c κs = c .before .pre .kept
 
-enum-known-n : tie.Need-enum-known-n
-enum-known-n c = search needs
-
-enum-known-changed : tie.Need-enum-known-changed
-enum-known-changed c = search needs
-
 returns : tie.Need-returns
 unfolding setting
 returns c = let n = c .before in record { means = ap setting (rw (n .n .given .1) at (n .before .before .parse-config .ensures)); in-table = tt; settled = tt }
@@ -23,4 +17,4 @@ unfolding setting
 returns-2 c = let n = c .before in record { means = ap setting (rw (n .changed .given .1) at (n .before .before .parse-config .ensures)); in-table = tt; settled = tt }
 
 pub read-config-spec : {M : Type 1} → statement M
-read-config-spec = tie.close (tie.spec parse-config-requires enum-known-n enum-known-changed returns returns-2)
+read-config-spec = tie.close (tie.spec parse-config-requires (λ c. search needs) (λ c. search needs) returns returns-2)

@@ -5,15 +5,6 @@ use Rattle.image.specs.Assembling.{coding}
 use Rattle.image_line.proofs.record.read_instruction.Statement.{statement}
 use Rattle.image_line.proofs.record.read_instruction.Tie as tie
 
-parse-instruction-requires : tie.Need-parse-instruction-requires
-parse-instruction-requires c κs = search needs
-
-enum-known-n : tie.Need-enum-known-n
-enum-known-n c = search needs
-
-enum-known-row : tie.Need-enum-known-row
-enum-known-row c = search needs
-
 returns : tie.Need-returns
 unfolding coding
 returns c = let n = c .before in record { means = ap coding (rw (n .n .given .1) at (n .before .before .parse-instruction .ensures .means)); in-table = tt; settled = tt }
@@ -27,4 +18,4 @@ returns-2 c =
 
 pub read-instruction-spec : {M : Type 1} → statement M
 read-instruction-spec =
-    tie.close (tie.spec parse-instruction-requires enum-known-n enum-known-row returns returns-2)
+    tie.close (tie.spec (λ c κs. search needs) (λ c. search needs) (λ c. search needs) returns returns-2)

@@ -17,9 +17,6 @@ use Rattle.image_line.proofs.record.read_label.Tie as tie
 first : (ts : List Token) → length ts ≡ kept → getD ts 0 (record { kind = Identifier; start = 0; length = 0 }) ≡ getD ts 0 filler
 first ts n = getD-any ts 0 (record { kind = Identifier; start = 0; length = 0 }) filler (omega arith)
 
-array-copy-out-label : tie.Need-array-copy-out-label
-array-copy-out-label c = search needs
-
 after-label-requires : tie.Need-after-label-requires
 after-label-requires c κs =
     let b = c .before .before .before in
@@ -35,4 +32,4 @@ returns c x =
     (record-labelled (a .source .now) (a .line) x (b .pre .0 .recorded) (two-tokens (a .source .now) (a .line .tokens) (a .line .count) _ k) k (c .after-label .result) (c .after-label .ensures))
 
 pub read-label-spec : {M : Type 1} → statement M
-read-label-spec = tie.close (tie.spec array-copy-out-label after-label-requires returns)
+read-label-spec = tie.close (tie.spec (λ c. search needs) after-label-requires returns)

@@ -23,10 +23,7 @@ use Rattle.image_line.proofs.record.read_record.Statement.{statement}
 use Rattle.image_line.proofs.record.read_record.Tie as tie
 
 tokenize-requires : tie.Need-tokenize-requires
-tokenize-requires c κs = c .before .pre .0 .in-text
-
-unlabelled-requires : tie.Need-unlabelled-requires
-unlabelled-requires c κs = search needs
+tokenize-requires c κs = c .before .pre .0
 
 returns : tie.Need-returns
 returns c =
@@ -38,20 +35,11 @@ returns c =
 line-kind-requires : tie.Need-line-kind-requires
 line-kind-requires c κs = recorded present present-naming _ _ _ (c .before .tokenize .ensures)
 
-unlabelled-requires-2 : tie.Need-unlabelled-requires-2
-unlabelled-requires-2 c κs = search needs
-
 enum-told : tie.Need-enum-told
 enum-told c = search needs
 
 read-config-requires : tie.Need-read-config-requires
 read-config-requires c κs = recorded present present-naming _ _ _ (c .before .before .before .before .tokenize .ensures)
-
-unlabelled-requires-3 : tie.Need-unlabelled-requires-3
-unlabelled-requires-3 c κs = search needs
-
-enum-told-2 : tie.Need-enum-told-2
-enum-told-2 c = search needs
 
 read-label-requires : tie.Need-read-label-requires
 read-label-requires c κs =
@@ -59,16 +47,10 @@ read-label-requires c κs =
     let t = k .before .before in
     (record { recorded = recorded present present-naming _ _ _ (t .tokenize .ensures); is-label = rw (c .enum-told2 .given .1) at (k .line-kind .ensures) }, t .before .before .pre .1)
 
-enum-told-3 : tie.Need-enum-told-3
-enum-told-3 c = search needs
-
 read-instruction-requires : tie.Need-read-instruction-requires
 read-instruction-requires c κs =
     let t = c .before .before .before .before in
     (recorded present present-naming _ _ _ (t .tokenize .ensures), (omega arith, t .before .before .pre .1))
-
-unlabelled-requires-4 : tie.Need-unlabelled-requires-4
-unlabelled-requires-4 c κs = search needs
 
 -- The places of the kinds of lines that do nothing.
 abbrev quiet : List ℕ
@@ -136,18 +118,17 @@ read-record-spec =
     tie.close
     (tie.spec
     tokenize-requires
-    unlabelled-requires
+    (λ c κs. search needs)
     returns
     line-kind-requires
-    unlabelled-requires-2
+    (λ c κs. search needs)
     enum-told
     read-config-requires
-    unlabelled-requires-3
-    enum-told-2
+    (λ c κs. search needs) (λ c. search needs)
     read-label-requires
-    enum-told-3
+    (λ c. search needs)
     read-instruction-requires
-    unlabelled-requires-4
+    (λ c κs. search needs)
     returns-2
     returns-3
     returns-4

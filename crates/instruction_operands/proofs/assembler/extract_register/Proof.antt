@@ -14,9 +14,6 @@ use Rattle.instruction.specs.Operands.{readRegister}
 use Rattle.instruction_operands.proofs.assembler.extract_register.Statement.{statement}
 use Rattle.instruction_operands.proofs.assembler.extract_register.Tie as tie
 
-enum-known-kind : tie.Need-enum-known-kind
-enum-known-kind c = search needs
-
 enum-told : tie.Need-enum-told
 enum-told c = search needs
 
@@ -51,4 +48,4 @@ returns-3 : tie.Need-returns-3
 returns-3 c u = others-refused (c .before .args .kind) u (c .match .keys3)
 
 pub extract-register-spec : {M : Type 1} → statement M
-extract-register-spec = tie.close (tie.spec enum-known-kind enum-told returns returns-2 returns-3)
+extract-register-spec = tie.close (tie.spec (λ c. search needs) enum-told returns returns-2 returns-3)

@@ -16,29 +16,14 @@ Inv-loop form count₀ left₀ count left = Counting (places (formAt form)) coun
 abbrev μ-loop : tie.MeasureT-loop
 μ-loop form count₀ left₀ count left = left
 
-operands-of-requires : tie.Need-operands-of-requires Inv-loop μ-loop
-operands-of-requires c κs = search needs
-
 loop-holds : tie.Need-loop-holds Inv-loop μ-loop
 loop-holds c = counting-begin (rw (c .operands-of .ensures) (form-ahead (formAt (c .before .args .form))))
 
 add-count : tie.Need-add-count Inv-loop μ-loop
 add-count c = let k = c .before in omega (arith, counting-most (k .loop .inv), six-places (formAt (k .before .before .args .form)))
 
-mark-of-requires : tie.Need-mark-of-requires Inv-loop μ-loop
-mark-of-requires c κs = search needs
-
-enum-told : tie.Need-enum-told Inv-loop μ-loop
-enum-told c = search needs
-
 add-count-2 : tie.Need-add-count-2 Inv-loop μ-loop
 add-count-2 c = let k = c .before .before .before .before in omega (arith, counting-most (k .loop .inv), six-places (formAt (k .before .before .args .form)))
-
-enum-told-2 : tie.Need-enum-told-2 Inv-loop μ-loop
-enum-told-2 c = search needs
-
-loop-less : tie.Need-loop-less Inv-loop μ-loop
-loop-less c = search needs
 
 loop-again : tie.Need-loop-again Inv-loop μ-loop
 loop-again c =
@@ -58,13 +43,11 @@ operand-count-spec =
     (tie.spec
     Inv-loop
     μ-loop
-    operands-of-requires
+    (λ c κs. search needs)
     loop-holds
     add-count
-    mark-of-requires
-    enum-told
+    (λ c κs. search needs) (λ c. search needs)
     add-count-2
-    enum-told-2
-    loop-less
+    (λ c. search needs) (λ c. search needs)
     loop-again
     returns)

@@ -33,12 +33,6 @@ returns c =
 abbrev past : Token
 past = record { kind = Identifier; start = 0; length = 0 }
 
-mul-token : tie.Need-mul-token
-mul-token c = search needs
-
-array-copy-out-token : tie.Need-array-copy-out-token
-array-copy-out-token c = search needs
-
 enum-told : tie.Need-enum-told
 enum-told c = search needs
 
@@ -84,26 +78,8 @@ inside c =
 add-end : tie.Need-add-end
 add-end c = let i = inside c in omega (arith, i)
 
-sub-lower-key : tie.Need-sub-lower-key
-sub-lower-key c = search needs
-
-part-lower-key-start : tie.Need-part-lower-key-start
-part-lower-key-start c = search needs
-
 part-lower-key-end : tie.Need-part-lower-key-end
 part-lower-key-end c = inside c
-
-lower-key-requires : tie.Need-lower-key-requires
-lower-key-requires c κs = search needs
-
-find-mnemonic-requires : tie.Need-find-mnemonic-requires
-find-mnemonic-requires c κs = search needs
-
-enum-told-2 : tie.Need-enum-told-2
-enum-told-2 c = search needs
-
-enum-known-row : tie.Need-enum-known-row
-enum-known-row c = search needs
 
 -- the row with the mnemonic, as it was looked for
 named : (c : tie.After-find-mnemonic) → let a = c .before .before .before .before .before .before .before .before .before .before .args in
@@ -173,18 +149,13 @@ parse-instruction-spec =
     tie.close
     (tie.spec
     returns
-    mul-token
-    array-copy-out-token
+    (λ c. search needs) (λ c. search needs)
     enum-told
     returns-2
     add-end
-    sub-lower-key
-    part-lower-key-start
+    (λ c. search needs) (λ c. search needs)
     part-lower-key-end
-    lower-key-requires
-    find-mnemonic-requires
-    enum-told-2
-    enum-known-row
+    (λ c κs. search needs) (λ c κs. search needs) (λ c. search needs) (λ c. search needs)
     element-copy-out-parse-row
     parse-row-requires
     returns-3

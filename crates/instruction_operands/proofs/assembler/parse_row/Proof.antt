@@ -13,15 +13,6 @@ use Rattle.instruction_operands.proofs.Line.{row-read, row-refused, set
 use Rattle.instruction_operands.proofs.assembler.parse_row.Statement.{statement}
 use Rattle.instruction_operands.proofs.assembler.parse_row.Tie as tie
 
-sub-if1 : tie.Need-sub-if1
-sub-if1 c = search needs
-
-sub-if1-2 : tie.Need-sub-if1-2
-sub-if1-2 c = search needs
-
-operand-count-requires : tie.Need-operand-count-requires
-operand-count-requires c κs = search needs
-
 returns : tie.Need-returns
 returns c =
     let b = c .before .before .before in
@@ -30,15 +21,6 @@ returns c =
       in-table = tt;
       settled = tt;
     }
-
-parse-operands-requires : tie.Need-parse-operands-requires
-parse-operands-requires c κs = search needs
-
-enum-known-n : tie.Need-enum-known-n
-enum-known-n c = search needs
-
-enum-known-operands : tie.Need-enum-known-operands
-enum-known-operands c = search needs
 
 -- the row's operands, as they were read
 read : (c : tie.After-parse-operands) (s : List ℕ) → let b = c .before .before .before .before in
@@ -73,12 +55,8 @@ pub parse-row-spec : {M : Type 1} → statement M
 parse-row-spec =
     tie.close
     (tie.spec
-    sub-if1
-    sub-if1-2
-    operand-count-requires
+    (λ c. search needs) (λ c. search needs) (λ c κs. search needs)
     returns
-    parse-operands-requires
-    enum-known-n
-    enum-known-operands
+    (λ c κs. search needs) (λ c. search needs) (λ c. search needs)
     returns-2
     returns-3)

@@ -16,7 +16,7 @@ bad-2 : (c : tie.Joined2) → let b = c .before .before .before in
 bad-2 c = ⊎-elim (λ w. w .2 ∙ rw (eq-eqb _ _ (w .0 .taken))) (λ w. w .1 ∙ rw (ne-eqb _ _ (w .0 .left))) (c .if2 .came)
 
 bad-3 : (c : tie.Joined3) → let a = c .before .before .before .before .before .before .args in
-    c .if3 .if4 ≡ (c .before .if2 .if3 && eqb (a .line .end) (a .from))
+    c .if3 .if4 ≡ (c .before .if2 .if3 && eqb (a .line .end) (a .start))
 bad-3 c = ⊎-elim (λ w. w .2 ∙ rw (w .0 .taken)) (λ w. w .1 ∙ rw (w .0 .left)) (c .if3 .came)
 
 good-5 : (c : tie.Joined5) → let b = c .before .before .before .before in

@@ -20,9 +20,6 @@ digits-at-requires c κs = omega (arith, c .before .pre .in-text)
 enum-told : tie.Need-enum-told
 enum-told c = search needs
 
-enum-known-value : tie.Need-enum-known-value
-enum-known-value c = search needs
-
 found-requires : tie.Need-found-requires
 found-requires c κs = read (c .before .before .before .before) .on
 
@@ -48,4 +45,5 @@ returns-3 c =
     decimal-over present present-naming (b .args .text .now) (b .args .at) (d .digits-at .result) (b .pre) (read d) (v .value .given .0 .0) (v .value .given .1) (c .if1 .left)
 
 pub decimal-spec : {M : Type 1} → statement M
-decimal-spec = tie.close (tie.spec digits-at-requires enum-told enum-known-value found-requires returns returns-2 returns-3)
+decimal-spec =
+    tie.close (tie.spec digits-at-requires enum-told (λ c. search needs) found-requires returns returns-2 returns-3)

@@ -20,49 +20,25 @@ second c z l =
     (λ w. ⊎-elim (λ v. absurd (omega (arith, ltb-false (c .before .before .before .args .at + 1) (length (c .before .before .before .args .text .now)) (v .1 .left)))) (λ v. absurd (v .left z)) (w .came))
     (c .if1 .came)
 
-add-second : tie.Need-add-second
-add-second c = search needs
-
-shared-slice-read-if1 : tie.Need-shared-slice-read-if1
-shared-slice-read-if1 c = search needs
-
-shared-slice-read-if3 : tie.Need-shared-slice-read-if3
-shared-slice-read-if3 c = search needs
-
 prefixed-requires : tie.Need-prefixed-requires
 prefixed-requires c κs = record { in-text = search needs; is-zero = search needs; is-prefix = c .if3 .taken }
 
-returns : tie.Need-returns
-returns c = search needs
-
-shared-slice-read-if4 : tie.Need-shared-slice-read-if4
-shared-slice-read-if4 c = search needs
-
 prefixed-requires-2 : tie.Need-prefixed-requires-2
 prefixed-requires-2 c κs = record { in-text = search needs; is-zero = search needs; is-prefix = c .if4 .taken }
-
-returns-2 : tie.Need-returns-2
-returns-2 c = search needs
 
 decimal-requires : tie.Need-decimal-requires
 decimal-requires c κs =
     let b = c .before .before .before in
     decimal-here present present-naming (b .args .text .now) (b .args .at) (b .pre .0) (b .pre .1) (second c)
 
-returns-3 : tie.Need-returns-3
-returns-3 c = search needs
-
 pub digits-spec : {M : Type 1} → statement M
 digits-spec =
     tie.close
     (tie.spec
-    add-second
-    shared-slice-read-if1
-    shared-slice-read-if3
+    (λ c. search needs) (λ c. search needs) (λ c. search needs)
     prefixed-requires
-    returns
-    shared-slice-read-if4
+    (λ c. search needs) (λ c. search needs)
     prefixed-requires-2
-    returns-2
+    (λ c. search needs)
     decimal-requires
-    returns-3)
+    (λ c. search needs))

@@ -12,20 +12,11 @@ use borrow.Author.Needs.{needs}
 use Rattle.text.proofs.lexer.directive.Statement.{statement}
 use Rattle.text.proofs.lexer.directive.Tie as tie
 
-add-second : tie.Need-add-second
-add-second c = search needs
-
 returns : tie.Need-returns
 returns c =
     let a = c .before .before .args in
     at-none present present-naming (a .text .now) (a .at)
     (directive-none present present-naming (a .text .now) (a .at) (c .before .before .pre .0) (c .before .before .pre .1) (λ l. absurd (omega (arith, c .if1 .taken))))
-
-shared-slice-read-is-name-start : tie.Need-shared-slice-read-is-name-start
-shared-slice-read-is-name-start c = search needs
-
-is-name-start-requires : tie.Need-is-name-start-requires
-is-name-start-requires c κs = search needs
 
 returns-2 : tie.Need-returns-2
 returns-2 c =
@@ -34,15 +25,6 @@ returns-2 c =
     let a = k .before .before .args in
     at-none present present-naming (a .text .now) (a .at)
     (directive-none present present-naming (a .text .now) (a .at) (k .before .before .pre .0) (k .before .before .pre .1) (λ l. sym (n .is-name-start .ensures) ∙ not-true _ (c .if2 .taken)))
-
-add-run-end : tie.Need-add-run-end
-add-run-end c = search needs
-
-run-end-requires : tie.Need-run-end-requires
-run-end-requires c κs = search needs
-
-found-requires : tie.Need-found-requires
-found-requires c κs = search needs
 
 returns-3 : tie.Need-returns-3
 returns-3 c =
@@ -60,12 +42,9 @@ pub directive-spec : {M : Type 1} → statement M
 directive-spec =
     tie.close
     (tie.spec
-    add-second
+    (λ c. search needs)
     returns
-    shared-slice-read-is-name-start
-    is-name-start-requires
+    (λ c. search needs) (λ c κs. search needs)
     returns-2
-    add-run-end
-    run-end-requires
-    found-requires
+    (λ c. search needs) (λ c κs. search needs) (λ c κs. search needs)
     returns-3)

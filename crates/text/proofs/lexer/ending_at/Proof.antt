@@ -5,17 +5,11 @@ use borrow.Author.Needs.{needs}
 use Rattle.text.proofs.lexer.ending_at.Statement.{statement}
 use Rattle.text.proofs.lexer.ending_at.Tie as tie
 
-run-end-requires : tie.Need-run-end-requires
-run-end-requires c κs = search needs
-
 returns : tie.Need-returns
 returns c =
     let r = c .before in
     let b = r .before .before in
     line-here (b .args .text .now) (b .args .at) (r .run-end .result) (b .pre) (r .run-end .ensures) (λ m. absurd (omega (arith, c .if1 .taken)))
-
-shared-slice-read-match : tie.Need-shared-slice-read-match
-shared-slice-read-match c = search needs
 
 returns-2 : tie.Need-returns-2
 returns-2 c =
@@ -36,4 +30,4 @@ returns-4 c =
     other-here (b .args .text .now) (b .args .at) (r .run-end .result) (b .pre) (r .run-end .ensures) (c .before .before .if1 .left) (c .match .rest .0 .1) (c .match .rest .1)
 
 pub ending-at-spec : {M : Type 1} → statement M
-ending-at-spec = tie.close (tie.spec run-end-requires returns shared-slice-read-match returns-2 returns-3 returns-4)
+ending-at-spec = tie.close (tie.spec (λ c κs. search needs) returns (λ c. search needs) returns-2 returns-3 returns-4)

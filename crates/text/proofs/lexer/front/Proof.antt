@@ -8,12 +8,6 @@ use borrow.Author.Needs.{needs}
 use Rattle.text.proofs.lexer.front.Statement.{statement}
 use Rattle.text.proofs.lexer.front.Tie as tie
 
-shared-slice-read-b : tie.Need-shared-slice-read-b
-shared-slice-read-b c = search needs
-
-is-name-start-requires : tie.Need-is-name-start-requires
-is-name-start-requires c κs = search needs
-
 word-requires : tie.Need-word-requires
 word-requires c κs = (c .before .before .before .before .pre .0, sym (c .before .is-name-start .ensures) ∙ c .if1 .taken)
 
@@ -23,9 +17,6 @@ returns c =
     let r = n .before .before .before in
     solid-step present (r .args .text .now) (r .args .at) (c .word .result) (r .pre .0) (start-solid _ (sym (n .is-name-start .ensures) ∙ c .before .if1 .taken)) (c .word .ensures)
 
-is-number-start-requires : tie.Need-is-number-start-requires
-is-number-start-requires c κs = search needs
-
 number-requires : tie.Need-number-requires
 number-requires c κs = (c .before .before .before .before .before .before .pre .0, sym (c .before .is-number-start .ensures) ∙ c .if2 .taken)
 
@@ -34,9 +25,6 @@ returns-2 c =
     let d = c .before .before in
     let r = d .before .before .before .before .before in
     number-step present (r .args .text .now) (r .args .at) (c .number .result) (r .pre .0) (sym (d .is-number-start .ensures) ∙ c .before .if2 .taken) (c .number .ensures)
-
-directive-requires : tie.Need-directive-requires
-directive-requires c κs = search needs
 
 returns-3 : tie.Need-returns-3
 returns-3 c =
@@ -57,21 +45,17 @@ mark-or-ending-requires c κs =
       },
     )
 
-returns-4 : tie.Need-returns-4
-returns-4 c = search needs
-
 pub front-spec : {M : Type 1} → statement M
 front-spec =
     tie.close
     (tie.spec
-    shared-slice-read-b
-    is-name-start-requires
+    (λ c. search needs) (λ c κs. search needs)
     word-requires
     returns
-    is-number-start-requires
+    (λ c κs. search needs)
     number-requires
     returns-2
-    directive-requires
+    (λ c κs. search needs)
     returns-3
     mark-or-ending-requires
-    returns-4)
+    (λ c. search needs))

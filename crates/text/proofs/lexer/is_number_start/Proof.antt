@@ -4,9 +4,6 @@ use Rattle.text.specs.Contracts.{numberStart}
 use Rattle.text.proofs.lexer.is_number_start.Statement.{statement}
 use Rattle.text.proofs.lexer.is_number_start.Tie as tie
 
-is-digit-requires : tie.Need-is-digit-requires
-is-digit-requires c κs = search needs
-
 returns : tie.Need-returns
 unfolding numberStart
 returns c = rw (← c .before .is-digit .ensures, c .if1 .taken)
@@ -16,4 +13,4 @@ unfolding numberStart
 returns-2 c = rw (← c .before .is-digit .ensures, c .if1 .left)
 
 pub is-number-start-spec : {M : Type 1} → statement M
-is-number-start-spec = tie.close (tie.spec is-digit-requires returns returns-2)
+is-number-start-spec = tie.close (tie.spec (λ c κs. search needs) returns returns-2)

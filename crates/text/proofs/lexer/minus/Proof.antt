@@ -15,12 +15,6 @@ read c =
     let b = c .before .before in
     digits-are Decimal (b .args .text .now) (b .args .at + 1) (c .digits-at .result) (omega (arith, b .pre .0)) (c .digits-at .ensures)
 
-add-begin : tie.Need-add-begin
-add-begin c = search needs
-
-digits-at-requires : tie.Need-digits-at-requires
-digits-at-requires c κs = search needs
-
 returns : tie.Need-returns
 returns c =
     let d = c .before in
@@ -29,9 +23,6 @@ returns c =
 
 enum-told : tie.Need-enum-told
 enum-told c = search needs
-
-enum-known-value : tie.Need-enum-known-value
-enum-known-value c = search needs
 
 found-requires : tie.Need-found-requires
 found-requires c κs = omega (arith, read (c .before .before .before .before .before) .on)
@@ -64,11 +55,10 @@ pub minus-spec : {M : Type 1} → statement M
 minus-spec =
     tie.close
     (tie.spec
-    add-begin
-    digits-at-requires
+    (λ c. search needs) (λ c κs. search needs)
     returns
     enum-told
-    enum-known-value
+    (λ c. search needs)
     found-requires
     returns-2
     returns-3

@@ -5,9 +5,6 @@ use borrow.Author.Needs.{needs}
 use Rattle.text.proofs.lexer.next_token.Statement.{statement}
 use Rattle.text.proofs.lexer.next_token.Tie as tie
 
-run-end-requires : tie.Need-run-end-requires
-run-end-requires c κs = search needs
-
 front-requires : tie.Need-front-requires
 front-requires c κs =
     let r = c .before in
@@ -27,4 +24,4 @@ returns-2 c =
     blank-end present (a .text .now) (a .from) (r .run-end .result) (r .before .before .pre) (r .run-end .ensures) (c .if1 .left)
 
 pub next-token-spec : {M : Type 1} → statement M
-next-token-spec = tie.close (tie.spec run-end-requires front-requires returns returns-2)
+next-token-spec = tie.close (tie.spec (λ c κs. search needs) front-requires returns returns-2)

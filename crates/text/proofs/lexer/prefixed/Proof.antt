@@ -26,17 +26,8 @@ decimal-requires c κs =
     let b = d .before .before in
     prefix-alone present present-naming (b .args .text .now) (b .args .at) (b .args .radix) (d .digits-at .result) (b .pre) (read d) (c .if1 .taken)
 
-returns : tie.Need-returns
-returns c = search needs
-
 enum-told : tie.Need-enum-told
 enum-told c = search needs
-
-enum-known-value : tie.Need-enum-known-value
-enum-known-value c = search needs
-
-pattern-requires : tie.Need-pattern-requires
-pattern-requires c κs = search needs
 
 found-requires : tie.Need-found-requires
 found-requires c κs = omega (arith, read (c .before .before .before .before .before) .on)
@@ -64,10 +55,9 @@ prefixed-spec =
     add-begin
     digits-at-requires
     decimal-requires
-    returns
+    (λ c. search needs)
     enum-told
-    enum-known-value
-    pattern-requires
+    (λ c. search needs) (λ c κs. search needs)
     found-requires
     returns-2
     returns-3)

@@ -24,43 +24,13 @@ word-is c n e =
     let a = r .before .before .args in
     word-at present present-naming (a .text .now) (a .at) (r .run-end .result) n (r .before .before .pre .0) (r .before .before .pre .1) (r .run-end .ensures) (ap nameMeant (sym e) ∙ c .parse-register .ensures)
 
-add-run-end : tie.Need-add-run-end
-add-run-end c = search needs
-
-run-end-requires : tie.Need-run-end-requires
-run-end-requires c κs = search needs
-
-sub-parse-register : tie.Need-sub-parse-register
-sub-parse-register c = search needs
-
-part-parse-register-start : tie.Need-part-parse-register-start
-part-parse-register-start c = search needs
-
 part-parse-register-end : tie.Need-part-parse-register-end
 part-parse-register-end c =
     let a = c .before .before .args in
     omega (arith, c .run-end .ensures, run-in namePart (a .text .now) (a .at + 1) (omega (arith, c .before .before .pre .0)))
 
-parse-register-requires : tie.Need-parse-register-requires
-parse-register-requires c κs = search needs
-
-enum-known-register : tie.Need-enum-known-register
-enum-known-register c = search needs
-
-found-requires : tie.Need-found-requires
-found-requires c κs = search needs
-
 enum-told : tie.Need-enum-told
 enum-told c = search needs
-
-found-requires-2 : tie.Need-found-requires-2
-found-requires-2 c κs = search needs
-
-enum-told-2 : tie.Need-enum-told-2
-enum-told-2 c = search needs
-
-found-requires-3 : tie.Need-found-requires-3
-found-requires-3 c κs = search needs
 
 returns : tie.Need-returns
 returns c = rw (c .found .ensures) (word-is (c .before .before .before .before) _ (c .before .before .register .given .1))
@@ -75,18 +45,11 @@ pub word-spec : {M : Type 1} → statement M
 word-spec =
     tie.close
     (tie.spec
-    add-run-end
-    run-end-requires
-    sub-parse-register
-    part-parse-register-start
+    (λ c. search needs) (λ c κs. search needs) (λ c. search needs) (λ c. search needs)
     part-parse-register-end
-    parse-register-requires
-    enum-known-register
-    found-requires
+    (λ c κs. search needs) (λ c. search needs) (λ c κs. search needs)
     enum-told
-    found-requires-2
-    enum-told-2
-    found-requires-3
+    (λ c κs. search needs) (λ c. search needs) (λ c κs. search needs)
     returns
     returns-2
     returns-3)

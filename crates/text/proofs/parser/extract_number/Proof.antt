@@ -15,18 +15,6 @@ use Rattle.text.proofs.lexer.Kind as kind
 use Rattle.text.proofs.parser.extract_number.Statement.{statement}
 use Rattle.text.proofs.parser.extract_number.Tie as tie
 
-enum-known-kind : tie.Need-enum-known-kind
-enum-known-kind c = search needs
-
-enum-known-kind-2 : tie.Need-enum-known-kind-2
-enum-known-kind-2 c = search needs
-
-enum-known-kind-3 : tie.Need-enum-known-kind-3
-enum-known-kind-3 c = search needs
-
-enum-known-kind-4 : tie.Need-enum-known-kind-4
-enum-known-kind-4 c = search needs
-
 returns : tie.Need-returns
 unfolding readNumber
 returns c = rw (c .before .kind4 .given .1) (sym (ap Extract (whole-minus (c .before .kind4 .given .0 .0))))
@@ -69,10 +57,7 @@ pub extract-number-spec : {M : Type 1} → statement M
 extract-number-spec =
     tie.close
     (tie.spec
-    enum-known-kind
-    enum-known-kind-2
-    enum-known-kind-3
-    enum-known-kind-4
+    (λ c. search needs) (λ c. search needs) (λ c. search needs) (λ c. search needs)
     returns
     returns-2
     returns-3

@@ -32,18 +32,6 @@ loop-holds : tie.Need-loop-holds Inv-loop μ-loop
 unfolding every ascii
 loop-holds c = (omega arith, refl)
 
-add-b : tie.Need-add-b Inv-loop μ-loop
-add-b c = omega arith
-
-shared-slice-read-b : tie.Need-shared-slice-read-b Inv-loop μ-loop
-shared-slice-read-b c = omega arith
-
-add-j : tie.Need-add-j Inv-loop μ-loop
-add-j c = omega arith
-
-loop-less : tie.Need-loop-less Inv-loop μ-loop
-loop-less c = omega arith
-
 loop-again : tie.Need-loop-again Inv-loop μ-loop
 loop-again c =
     let k = c .before .before .before in
@@ -66,9 +54,6 @@ loop-again c =
           (c .if1 .came)),
     )
 
-is-in-requires : tie.Need-is-in-requires Inv-loop μ-loop
-is-in-requires c κs = search needs
-
 returns : tie.Need-returns Inv-loop μ-loop
 returns c =
     let k = c .before .before in
@@ -77,15 +62,7 @@ returns c =
 
 pub ascii-block-spec : {M : Type 1} → statement M
 ascii-block-spec =
-    tie.close
-    (tie.spec
-    Inv-loop
-    μ-loop
-    loop-holds
-    add-b
-    shared-slice-read-b
-    add-j
-    loop-less
+    tie.close (tie.spec Inv-loop μ-loop loop-holds (λ c. omega arith) (λ c. omega arith) (λ c. omega arith) (λ c. omega arith)
     loop-again
-    is-in-requires
+    (λ c κs. search needs)
     returns)

@@ -4,12 +4,9 @@ use Rattle.text_lexical.specs.Bytes.{digit}
 use Rattle.text_lexical.proofs.bytes.is_digit.Statement.{statement}
 use Rattle.text_lexical.proofs.bytes.is_digit.Tie as tie
 
-within-requires : tie.Need-within-requires
-within-requires c κs = search needs
-
 returns : tie.Need-returns
 unfolding digit
 returns c = c .within .ensures
 
 pub is-digit-spec : {M : Type 1} → statement M
-is-digit-spec = tie.close (tie.spec within-requires returns)
+is-digit-spec = tie.close (tie.spec (λ c κs. search needs) returns)

@@ -4,15 +4,6 @@ use Rattle.text_lexical.specs.Bytes.{hexDigit}
 use Rattle.text_lexical.proofs.bytes.is_hex_digit.Statement.{statement}
 use Rattle.text_lexical.proofs.bytes.is_hex_digit.Tie as tie
 
-is-digit-requires : tie.Need-is-digit-requires
-is-digit-requires c κs = search needs
-
-within-requires : tie.Need-within-requires
-within-requires c κs = search needs
-
-within-requires-2 : tie.Need-within-requires-2
-within-requires-2 c κs = search needs
-
 returns : tie.Need-returns
 unfolding hexDigit
 returns c = rw (← c .before .is-digit .ensures, c .if1 .taken)
@@ -26,6 +17,7 @@ unfolding hexDigit
 returns-3 c = rw (← c .before .before .before .before .is-digit .ensures, c .before .before .before .if1 .left, ← c .before .before .within .ensures, c .before .if2 .left) (c .within2 .ensures)
 
 pub is-hex-digit-spec : {M : Type 1} → statement M
-is-hex-digit-spec =
-    tie.close
-    (tie.spec is-digit-requires within-requires within-requires-2 returns returns-2 returns-3)
+is-hex-digit-spec = tie.close (tie.spec (λ c κs. search needs) (λ c κs. search needs) (λ c κs. search needs)
+    returns
+    returns-2
+    returns-3)

@@ -7,27 +7,6 @@ use Rattle.text_lexical.proofs.bytes.is_in.Tie as tie
 enum-told : tie.Need-enum-told
 enum-told c = search needs
 
-is-name-part-requires : tie.Need-is-name-part-requires
-is-name-part-requires c κs = search needs
-
-enum-told-2 : tie.Need-enum-told-2
-enum-told-2 c = search needs
-
-is-blank-requires : tie.Need-is-blank-requires
-is-blank-requires c κs = search needs
-
-enum-told-3 : tie.Need-enum-told-3
-enum-told-3 c = search needs
-
-is-margin-requires : tie.Need-is-margin-requires
-is-margin-requires c κs = search needs
-
-enum-told-4 : tie.Need-enum-told-4
-enum-told-4 c = search needs
-
-enum-told-5 : tie.Need-enum-told-5
-enum-told-5 c = search needs
-
 returns : tie.Need-returns
 returns c = rw (c .before .enum-told .given .1) (c .is-name-part .ensures)
 
@@ -47,16 +26,8 @@ returns-5 c = rw (c .enum-told5 .given .1)
 
 pub is-in-spec : {M : Type 1} → statement M
 is-in-spec =
-    tie.close
-    (tie.spec
-    enum-told
-    is-name-part-requires
-    enum-told-2
-    is-blank-requires
-    enum-told-3
-    is-margin-requires
-    enum-told-4
-    enum-told-5
+    tie.close (tie.spec enum-told (λ c κs. search needs) (λ c. search needs) (λ c κs. search needs) (λ c. search needs) (λ c κs. search needs)
+    (λ c. search needs) (λ c. search needs)
     returns
     returns-2
     returns-3

@@ -9,9 +9,6 @@ returns : tie.Need-returns
 unfolding margin inside
 returns c = rw (eq-eqb (c .before .args .b) 10 (c .if1 .taken))
 
-within-requires : tie.Need-within-requires
-within-requires c κs = search needs
-
 returns-2 : tie.Need-returns-2
 unfolding margin inside edge
 returns-2 c =
@@ -25,4 +22,4 @@ returns-3 c =
     rw (ne-eqb (k .before .args .b) 10 (k .if1 .left), ← c .before .within .ensures, c .if2 .left)
 
 pub is-margin-spec : {M : Type 1} → statement M
-is-margin-spec = tie.close (tie.spec returns within-requires returns-2 returns-3)
+is-margin-spec = tie.close (tie.spec returns (λ c κs. search needs) returns-2 returns-3)

@@ -4,12 +4,6 @@ use Rattle.text_lexical.specs.Bytes.{namePart}
 use Rattle.text_lexical.proofs.bytes.is_name_part.Statement.{statement}
 use Rattle.text_lexical.proofs.bytes.is_name_part.Tie as tie
 
-is-name-start-requires : tie.Need-is-name-start-requires
-is-name-start-requires c κs = search needs
-
-is-digit-requires : tie.Need-is-digit-requires
-is-digit-requires c κs = search needs
-
 returns : tie.Need-returns
 unfolding namePart
 returns c = rw (← c .before .is-name-start .ensures, c .if1 .taken)
@@ -19,4 +13,4 @@ unfolding namePart
 returns-2 c = rw (← c .before .before .is-name-start .ensures, c .before .if1 .left) (c .is-digit .ensures)
 
 pub is-name-part-spec : {M : Type 1} → statement M
-is-name-part-spec = tie.close (tie.spec is-name-start-requires is-digit-requires returns returns-2)
+is-name-part-spec = tie.close (tie.spec (λ c κs. search needs) (λ c κs. search needs) returns returns-2)

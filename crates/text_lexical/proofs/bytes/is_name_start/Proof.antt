@@ -4,9 +4,6 @@ use Rattle.text_lexical.specs.Bytes.{nameStart}
 use Rattle.text_lexical.proofs.bytes.is_name_start.Statement.{statement}
 use Rattle.text_lexical.proofs.bytes.is_name_start.Tie as tie
 
-is-letter-requires : tie.Need-is-letter-requires
-is-letter-requires c κs = search needs
-
 returns : tie.Need-returns
 unfolding nameStart
 returns c = rw (← c .before .is-letter .ensures, c .if1 .taken)
@@ -16,4 +13,4 @@ unfolding nameStart
 returns-2 c = rw (← c .before .is-letter .ensures, c .if1 .left)
 
 pub is-name-start-spec : {M : Type 1} → statement M
-is-name-start-spec = tie.close (tie.spec is-letter-requires returns returns-2)
+is-name-start-spec = tie.close (tie.spec (λ c κs. search needs) returns returns-2)

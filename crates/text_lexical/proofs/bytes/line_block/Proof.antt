@@ -22,21 +22,6 @@ loop-holds : tie.Need-loop-holds Inv-loop μ-loop
 unfolding every
 loop-holds c = (omega arith, refl)
 
-add-is-in : tie.Need-add-is-in Inv-loop μ-loop
-add-is-in c = omega arith
-
-shared-slice-read-is-in : tie.Need-shared-slice-read-is-in Inv-loop μ-loop
-shared-slice-read-is-in c = omega arith
-
-is-in-requires : tie.Need-is-in-requires Inv-loop μ-loop
-is-in-requires c κs = search needs
-
-add-j : tie.Need-add-j Inv-loop μ-loop
-add-j c = omega arith
-
-loop-less : tie.Need-loop-less Inv-loop μ-loop
-loop-less c = omega arith
-
 loop-again : tie.Need-loop-again Inv-loop μ-loop
 loop-again c =
     let b = c .before .before .before .before in
@@ -65,10 +50,6 @@ line-block-spec =
     Inv-loop
     μ-loop
     loop-holds
-    add-is-in
-    shared-slice-read-is-in
-    is-in-requires
-    add-j
-    loop-less
+    (λ c. omega arith) (λ c. omega arith) (λ c κs. search needs) (λ c. omega arith) (λ c. omega arith)
     loop-again
     returns)

@@ -23,20 +23,8 @@ returns c = sym (not-true _ (λ e. c .if1 .taken (ap length (same-eq _ _ e))))
 loop-holds : tie.Need-loop-holds Inv-loop μ-loop
 loop-holds c = (omega arith, c .if1 .left, refl)
 
-shared-slice-read-if2 : tie.Need-shared-slice-read-if2 Inv-loop μ-loop
-shared-slice-read-if2 c = omega arith
-
-shared-slice-read-if2-2 : tie.Need-shared-slice-read-if2-2 Inv-loop μ-loop
-shared-slice-read-if2-2 c = omega arith
-
 returns-2 : tie.Need-returns-2 Inv-loop μ-loop
 returns-2 c = sym (not-true _ (λ e. c .if2 .taken (ap (λ (s : List ℕ). getD s (c .before .before .before .before .loop .i) 0) (same-eq _ _ e))))
-
-add-i : tie.Need-add-i Inv-loop μ-loop
-add-i c = omega arith
-
-loop-less : tie.Need-loop-less Inv-loop μ-loop
-loop-less c = omega arith
 
 loop-again : tie.Need-loop-again Inv-loop μ-loop
 loop-again c =
@@ -51,17 +39,8 @@ returns-3 c =
     sym (eq-same _ _ (sym (take-all (k .i) _ (omega arith)) ∙ k .inv .2 ∙ take-all (k .i) _ (omega arith)))
 
 pub same-spec : {M : Type 1} → statement M
-same-spec =
-    tie.close
-    (tie.spec
-    Inv-loop
-    μ-loop
-    returns
-    loop-holds
-    shared-slice-read-if2
-    shared-slice-read-if2-2
+same-spec = tie.close (tie.spec Inv-loop μ-loop returns loop-holds (λ c. omega arith) (λ c. omega arith)
     returns-2
-    add-i
-    loop-less
+    (λ c. omega arith) (λ c. omega arith)
     loop-again
     returns-3)

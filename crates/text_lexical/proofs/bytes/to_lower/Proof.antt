@@ -7,9 +7,6 @@ use Rattle.text_lexical.proofs.Tests.{between-true}
 use Rattle.text_lexical.proofs.bytes.to_lower.Statement.{statement}
 use Rattle.text_lexical.proofs.bytes.to_lower.Tie as tie
 
-within-requires : tie.Need-within-requires
-within-requires c κs = search needs
-
 add-result : tie.Need-add-result
 add-result c =
     let r = between-true 65 90 (c .before .before .args .b) (sym (c .before .within .ensures) ∙ c .if1 .taken) in
@@ -24,4 +21,4 @@ unfolding lower
 returns-2 c = rw (lower, ← c .before .within .ensures, c .if1 .left)
 
 pub to-lower-spec : {M : Type 1} → statement M
-to-lower-spec = tie.close (tie.spec within-requires add-result returns returns-2)
+to-lower-spec = tie.close (tie.spec (λ c κs. search needs) add-result returns returns-2)

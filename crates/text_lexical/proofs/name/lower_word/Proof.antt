@@ -1,138 +1,74 @@
--- `text_lexical::name::lower_word` meets its contract. The loop's invariant: the bytes so far are parts of a name, and their key.
-use Prim.Native.Nat.{_+_, _-_, _*_, _^_, _≤_, _<_}
-use mathlib.Core.Path.{sym, _∙_}
+-- `text_lexical::name::lower_word` meets its contract. The loop's invariant: the bytes so far are packed, and parts of a name.
+use Prim.Native.Nat.{_-_}
+use mathlib.Core.Path.{_≡_, sym, _∙_}
 use native.Mathlib.Omega.{arith}
+use mathlib.Core.Bool.{true}
 use lib.ListN.{length, getD}
 use borrow.Author.Needs.{needs}
 use borrow.Author.Tests.{not-true, not-false}
-use Rattle.text_lexical.proofs.Words.{Spelling, spelling-begin, spelling-more, spelling-long, spelling-ends, scale-small, scale-fits, product-small, lower-small}
+use Rattle.text_lexical.specs.Bytes.{namePart, every}
+use Rattle.text_lexical.specs.Words.{part}
+use Rattle.text_lexical.proofs.Words.{Spelling, spelling-begin, spelling-room, spelling-more, spelling-fits, parts-more, word-ends, word-long}
 use Rattle.text_lexical.proofs.name.lower_word.Statement.{statement}
 use Rattle.text_lexical.proofs.name.lower_word.Tie as tie
 
 abbrev Inv-loop : tie.InvT-loop
-Inv-loop text at sum₀ scale₀ i₀ sum scale i = Spelling text at sum scale i
+Inv-loop text at packed₀ i₀ packed i = Spelling text at packed i × (every namePart (part text at (i - at)) ≡ true)
 
 abbrev μ-loop : tie.MeasureT-loop
-μ-loop text at sum₀ scale₀ i₀ sum scale i = length text - i
+μ-loop text at packed₀ i₀ packed i = length text - i
 
 loop-holds : tie.Need-loop-holds Inv-loop μ-loop
-loop-holds c = let b = c .before in spelling-begin (b .args .text .now) (b .args .at) (b .pre)
-
-shared-slice-read-b : tie.Need-shared-slice-read-b Inv-loop μ-loop
-shared-slice-read-b c = search needs
-
-is-name-part-requires : tie.Need-is-name-part-requires Inv-loop μ-loop
-is-name-part-requires c κs = search needs
-
-fits : (k : tie.At-loop Inv-loop μ-loop) → k .loop .sum + k .loop .scale < 2 ^ 58
-fits k = let b = k .before .before in omega (arith, scale-fits (b .args .text .now) (b .args .at) (k .loop .sum) (k .loop .scale) (k .loop .i) (k .loop .inv), k .loop .inv .small)
-
-add-t12 : tie.Need-add-t12 Inv-loop μ-loop
-add-t12 c = omega (arith, fits (c .before .before .before .before))
+unfolding every
+loop-holds c =
+    let a = c .before .args in
+    let z : a .at - a .at ≡ 0 = omega arith in
+    (spelling-begin (a .text .now) (a .at) (c .before .pre), rw z)
 
 returns : tie.Need-returns Inv-loop μ-loop
 returns c =
-    let p = c .before in
-    let k = p .before .before .before in
-    let b = k .before .before in
-    spelling-ends (b .args .text .now) (b .args .at) (k .loop .sum) (k .loop .scale) (k .loop .i) (k .loop .inv) (λ _. sym (p .is-name-part .ensures) ∙ not-true _ (c .if1 .taken))
+    let p = c .before .before in
+    let k = p .before .before .before .loop in
+    rw (c .key .ensures) (word-ends (k .inv .0) (k .inv .1) (λ _. sym (p .is-name-part .ensures) ∙ not-true _ (c .before .if1 .taken)))
 
-sub-if2 : tie.Need-sub-if2 Inv-loop μ-loop
-sub-if2 c = c .before .before .before .before .loop .inv .on
-
-run-end-requires : tie.Need-run-end-requires Inv-loop μ-loop
-run-end-requires c κs = search needs
+-- a part of a name
+named : (c : tie.Else1 Inv-loop μ-loop) → let k = c .before .before .before .before in
+    namePart (getD (k .before .before .args .text .now) (k .loop .i) 0) ≡ true
+named c = sym (c .before .is-name-part .ensures) ∙ not-false _ (c .if1 .left)
 
 returns-2 : tie.Need-returns-2 Inv-loop μ-loop
 returns-2 c =
-    let t = c .before in
-    let e = t .before in
-    let p = e .before in
-    let l = p .before .before in
-    let k = l .before in
-    let b = k .before .before in
-    spelling-long (b .args .text .now) (b .args .at) (k .loop .sum) (k .loop .scale) (k .loop .i) (c .run-end .result) (k .loop .inv) (l .loop-test .taken) (t .if2 .taken)
-    (sym (p .is-name-part .ensures) ∙ not-false _ (e .if1 .left)) (c .run-end .ensures)
-
-to-lower-requires : tie.Need-to-lower-requires Inv-loop μ-loop
-to-lower-requires c κs = search needs
-
-wide-requires : tie.Need-wide-requires Inv-loop μ-loop
-wide-requires c κs = search needs
-
--- the scale, and a byte in lower case times it
-bounds : (c : tie.After-wide Inv-loop μ-loop) → let k = c .before .before .before .before .before .before .before in
-    (k .loop .scale ≤ 2 ^ 48) × ((k .loop .sum < k .loop .scale) × (c .wide .result * k .loop .scale ≤ 255 * k .loop .scale))
-bounds c =
     let e = c .before .before in
-    let p = e .before .before in
-    let k = p .before .before .before in
-    let b = k .before .before in
-    let i = k .loop .i in (
-      scale-small (b .args .text .now) (b .args .at) (k .loop .sum) (k .loop .scale) i (k .loop .inv) (omega (arith, e .if2 .left)),
-      (
-        k .loop .inv .small,
-        product-small (c .wide .result) (k .loop .scale) (omega (arith, c .wide .ensures, c .before .to-lower .ensures, lower-small (getD (b .args .text .now) i 0) (omega (arith, p .before .shared-slice-known2 .given i)))),
-      ),
-    )
-
-mul-sum : tie.Need-mul-sum Inv-loop μ-loop
-mul-sum c = omega (arith, bounds c)
-
-add-sum : tie.Need-add-sum Inv-loop μ-loop
-add-sum c = omega (arith, bounds c)
-
-mul-scale : tie.Need-mul-scale Inv-loop μ-loop
-mul-scale c = omega (arith, bounds c)
-
-add-i : tie.Need-add-i Inv-loop μ-loop
-add-i c = search needs
-
-loop-less : tie.Need-loop-less Inv-loop μ-loop
-loop-less c = search needs
+    let l = e .before .before .before in
+    let k = l .before .loop in
+    word-long (k .inv .0) (k .inv .1) (c .run-end .result) (l .loop-test .taken) (c .before .if2 .taken) (named e) (c .run-end .ensures)
 
 loop-again : tie.Need-loop-again Inv-loop μ-loop
 loop-again c =
     let e = c .before .before in
-    let p = e .before .before in
-    let l = p .before .before in
-    let k = l .before in
-    let b = k .before .before in
-    let i = k .loop .i in
-    rw (c .wide .ensures ∙ c .before .to-lower .ensures)
-    (spelling-more (b .args .text .now) (b .args .at) (k .loop .sum) (k .loop .scale) i (k .loop .inv) (l .loop-test .taken) (omega (arith, e .if2 .left))
-    (sym (p .is-name-part .ensures) ∙ not-false _ (e .before .if1 .left)) (omega (arith, p .before .shared-slice-known2 .given i)))
-
-add-t17 : tie.Need-add-t17 Inv-loop μ-loop
-add-t17 c = omega (arith, fits (c .before))
+    let b = e .before .before in
+    let l = b .before in
+    let k = l .before .loop in (
+      rw (c .with .ensures) (spelling-more (k .inv .0) (l .loop-test .taken) (omega (arith, c .before .if2 .left)) (omega (arith, b .shared-slice-known2 .given (k .i)))),
+      parts-more (k .inv .0) (l .loop-test .taken) (k .inv .1) (named e),
+    )
 
 returns-3 : tie.Need-returns-3 Inv-loop μ-loop
 returns-3 c =
-    let k = c .before in
-    let b = k .before .before in
-    spelling-ends (b .args .text .now) (b .args .at) (k .loop .sum) (k .loop .scale) (k .loop .i) (k .loop .inv) (λ h. absurd (omega (arith, c .loop-test .left)))
+    let k = c .before .before .loop in
+    rw (c .key2 .ensures) (word-ends (k .inv .0) (k .inv .1) (λ h. absurd (omega (arith, c .before .loop-test .left))))
 
 pub lower-word-spec : {M : Type 1} → statement M
-lower-word-spec =
-    tie.close
-    (tie.spec
-    Inv-loop
-    μ-loop
-    loop-holds
-    shared-slice-read-b
-    is-name-part-requires
-    add-t12
+lower-word-spec = tie.close (tie.spec Inv-loop μ-loop loop-holds (λ c. search needs)
+    (λ c κs. search needs)
+    (λ c κs. spelling-fits (c .before .before .before .before .loop .inv .0))
     returns
-    sub-if2
-    run-end-requires
+    (λ c. c .before .before .before .before .loop .inv .0 .on)
+    (λ c κs. search needs)
     returns-2
-    to-lower-requires
-    wide-requires
-    mul-sum
-    add-sum
-    mul-scale
-    add-i
-    loop-less
+    (λ c κs. spelling-room (c .before .before .before .before .before .loop .inv .0) (omega (arith, c .if2 .left)))
+    (λ c. search needs)
+    (λ c. search needs)
     loop-again
-    add-t17
+    (λ c κs. spelling-fits (c .before .loop .inv .0))
     returns-3)

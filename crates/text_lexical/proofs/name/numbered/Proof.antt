@@ -9,9 +9,6 @@ use borrow.Author.Needs.{needs}
 use Rattle.text_lexical.proofs.name.numbered.Statement.{statement}
 use Rattle.text_lexical.proofs.name.numbered.Tie as tie
 
-from-index-requires : tie.Need-from-index-requires
-from-index-requires c κs = search needs
-
 returns : tie.Need-returns
 unfolding registerNumber
 returns c =
@@ -24,4 +21,4 @@ unfolding registerNumber
 returns-2 c = rw (registerNumber, le-ltb (c .before .args .number) 16 (c .if1 .left))
 
 pub numbered-spec : {M : Type 1} → statement M
-numbered-spec = tie.close (tie.spec from-index-requires returns returns-2)
+numbered-spec = tie.close (tie.spec (λ c κs. search needs) returns returns-2)

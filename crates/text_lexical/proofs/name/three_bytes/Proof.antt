@@ -15,9 +15,6 @@ returns c = let a = c .before .args in no-three (a .first) (a .second) (a .third
 returns-2 : tie.Need-returns-2
 returns-2 c = let a = c .before .before .args in no-three (a .first) (a .second) (a .third) (λ x y z. c .if2 .taken y)
 
-within-requires : tie.Need-within-requires
-within-requires c κs = search needs
-
 returns-3 : tie.Need-returns-3
 returns-3 c =
     let a = c .before .before .before .before .args in
@@ -29,9 +26,6 @@ third-digit c = between-true 48 53 _ (sym (c .before .within .ensures) ∙ not-f
 sub-numbered : tie.Need-sub-numbered
 sub-numbered c = omega (arith, third-digit c)
 
-numbered-requires : tie.Need-numbered-requires
-numbered-requires c κs = search needs
-
 returns-4 : tie.Need-returns-4
 returns-4 c =
     let b = c .before in
@@ -40,6 +34,8 @@ returns-4 c =
     c .numbered .ensures ∙ rw (e .if1 .left, b .before .before .if2 .left) (three-named (e .before .args .third) l h)
 
 pub three-bytes-spec : {M : Type 1} → statement M
-three-bytes-spec =
-    tie.close
-    (tie.spec returns returns-2 within-requires returns-3 sub-numbered numbered-requires returns-4)
+three-bytes-spec = tie.close (tie.spec returns returns-2 (λ c κs. search needs)
+    returns-3
+    sub-numbered
+    (λ c κs. search needs)
+    returns-4)

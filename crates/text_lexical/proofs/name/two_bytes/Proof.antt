@@ -7,38 +7,14 @@ use borrow.Author.Needs.{needs}
 use Rattle.text_lexical.proofs.name.two_bytes.Statement.{statement}
 use Rattle.text_lexical.proofs.name.two_bytes.Tie as tie
 
-cast-slot : tie.Need-cast-slot
-cast-slot c = search needs
-
-array-read-if1 : tie.Need-array-read-if1
-array-read-if1 c = search needs
-
 returns : tie.Need-returns
 returns c = let a = c .before .args in no-letter (a .first) (a .second) (c .if1 .taken)
-
-array-read-if3 : tie.Need-array-read-if3
-array-read-if3 c = search needs
-
-array-read-numbered : tie.Need-array-read-numbered
-array-read-numbered c = search needs
 
 add-numbered : tie.Need-add-numbered
 add-numbered c = let a = c .before .before .before .args in omega (arith, digit-small (a .first) (a .second) (c .before .before .if1 .left) (c .if3 .taken))
 
-numbered-requires : tie.Need-numbered-requires
-numbered-requires c κs = search needs
-
 returns-2 : tie.Need-returns-2
 returns-2 c = let a = c .before .before .before .before .args in c .numbered .ensures ∙ digit-named (a .first) (a .second) (c .before .before .before .if1 .left) (c .before .before .if2 .taken) (c .before .if3 .taken)
-
-array-read-if4 : tie.Need-array-read-if4
-array-read-if4 c = search needs
-
-array-read-numbered-2 : tie.Need-array-read-numbered-2
-array-read-numbered-2 c = search needs
-
-numbered-requires-2 : tie.Need-numbered-requires-2
-numbered-requires-2 c κs = search needs
 
 returns-3 : tie.Need-returns-3
 returns-3 c = let a = c .before .before .before .before .args in c .numbered2 .ensures ∙ other-named (a .first) (a .second) (c .before .before .before .if1 .left) (c .before .if4 .taken)
@@ -50,19 +26,12 @@ returns-4 c =
     (⊎-elim (λ w l k. omega (arith, w .1 .left)) (λ w l k. omega (arith, w .left)) (c .before .if2 .came)) (c .if4 .left)
 
 pub two-bytes-spec : {M : Type 1} → statement M
-two-bytes-spec =
-    tie.close
-    (tie.spec
-    cast-slot
-    array-read-if1
+two-bytes-spec = tie.close (tie.spec (λ c. search needs) (λ c. search needs)
     returns
-    array-read-if3
-    array-read-numbered
+    (λ c. search needs) (λ c. search needs)
     add-numbered
-    numbered-requires
+    (λ c κs. search needs)
     returns-2
-    array-read-if4
-    array-read-numbered-2
-    numbered-requires-2
+    (λ c. search needs) (λ c. search needs) (λ c κs. search needs)
     returns-3
     returns-4)

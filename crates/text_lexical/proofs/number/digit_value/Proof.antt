@@ -14,9 +14,6 @@ returns-2 : tie.Need-returns-2
 unfolding digitValue
 returns-2 c = rw (digitValue, le-leb _ 57 (c .before .if1 .taken))
 
-sub-result : tie.Need-sub-result
-sub-result c = search needs
-
 returns-3 : tie.Need-returns-3
 unfolding digitValue
 returns-3 c = rw (digitValue, lt-leb _ 57 (c .before .if1 .left), le-leb _ 70 (c .if3 .taken))
@@ -30,4 +27,4 @@ unfolding digitValue
 returns-5 c = rw (digitValue, lt-leb _ 57 (c .before .before .if1 .left), lt-leb _ 70 (c .before .if3 .left))
 
 pub digit-value-spec : {M : Type 1} → statement M
-digit-value-spec = tie.close (tie.spec returns returns-2 sub-result returns-3 returns-4 returns-5)
+digit-value-spec = tie.close (tie.spec returns returns-2 (λ c. search needs) returns-3 returns-4 returns-5)

@@ -15,23 +15,8 @@ Inv-loop text begin radix base cap value₀ end₀ value end = Passed radix text
 abbrev μ-loop : tie.MeasureT-loop
 μ-loop text begin radix base cap value₀ end₀ value end = length text - end
 
-base-requires : tie.Need-base-requires Inv-loop μ-loop
-base-requires c κs = search needs
-
-cap-requires : tie.Need-cap-requires Inv-loop μ-loop
-cap-requires c κs = search needs
-
 loop-holds : tie.Need-loop-holds Inv-loop μ-loop
 loop-holds c = let a = c .before .before .before .args in passed-none (a .radix) (a .text .now) (a .begin) (c .before .before .before .pre)
-
-shared-slice-read-digit-rank : tie.Need-shared-slice-read-digit-rank Inv-loop μ-loop
-shared-slice-read-digit-rank c = omega arith
-
-digit-rank-requires : tie.Need-digit-rank-requires Inv-loop μ-loop
-digit-rank-requires c κs = search needs
-
-wide-requires : tie.Need-wide-requires Inv-loop μ-loop
-wide-requires c κs = search needs
 
 -- the byte's rank
 rank : (c : tie.After-wide Inv-loop μ-loop) → let k = c .before .before .before .before in
@@ -55,9 +40,6 @@ returns c =
     let a = k .before .before .before .before .args in
     passed-end (a .radix) (a .text .now) (a .begin) (k .loop .value) (k .loop .end) (k .loop .inv) (λ l. omega (arith, rank (c .before), k .before .before .base .ensures, c .if1 .taken))
 
-too-large-requires : tie.Need-too-large-requires Inv-loop μ-loop
-too-large-requires c κs = search needs
-
 returns-2 : tie.Need-returns-2 Inv-loop μ-loop
 returns-2 c =
     let e = c .before .before in
@@ -73,9 +55,6 @@ mul-shifted c = record { fits = room c }
 
 sub-if3 : tie.Need-sub-if3 Inv-loop μ-loop
 sub-if3 c = omega (arith, room c)
-
-too-large-requires-2 : tie.Need-too-large-requires-2 Inv-loop μ-loop
-too-large-requires-2 c κs = search needs
 
 -- the value with a digit more, by the radix
 shifted : (c : tie.Else2 Inv-loop μ-loop) → let k = c .before .before .before .before .before .before in
@@ -98,12 +77,6 @@ returns-3 c =
 add-value : tie.Need-add-value Inv-loop μ-loop
 add-value c = omega (arith, c .if3 .left, room (c .before))
 
-add-end : tie.Need-add-end Inv-loop μ-loop
-add-end c = omega arith
-
-loop-less : tie.Need-loop-less Inv-loop μ-loop
-loop-less c = omega arith
-
 loop-again : tie.Need-loop-again Inv-loop μ-loop
 loop-again c =
     let m = c .before in
@@ -122,26 +95,17 @@ returns-4 c =
     passed-end (a .radix) (a .text .now) (a .begin) (k .loop .value) (k .loop .end) (k .loop .inv) (λ l. absurd (omega (arith, c .loop-test .left)))
 
 pub digits-at-spec : {M : Type 1} → statement M
-digits-at-spec =
-    tie.close
-    (tie.spec
-    Inv-loop
-    μ-loop
-    base-requires
-    cap-requires
+digits-at-spec = tie.close (tie.spec Inv-loop μ-loop (λ c κs. search needs) (λ c κs. search needs)
     loop-holds
-    shared-slice-read-digit-rank
-    digit-rank-requires
-    wide-requires
+    (λ c. omega arith) (λ c κs. search needs) (λ c κs. search needs)
     returns
-    too-large-requires
+    (λ c κs. search needs)
     returns-2
     mul-shifted
     sub-if3
-    too-large-requires-2
+    (λ c κs. search needs)
     returns-3
     add-value
-    add-end
-    loop-less
+    (λ c. omega arith) (λ c. omega arith)
     loop-again
     returns-4)

@@ -21,18 +21,6 @@ abbrev μ-loop : tie.MeasureT-loop
 loop-holds : tie.Need-loop-holds Inv-loop μ-loop
 loop-holds c = (omega arith, refl)
 
-base-requires : tie.Need-base-requires Inv-loop μ-loop
-base-requires c κs = search needs
-
-shared-slice-read-digit-rank : tie.Need-shared-slice-read-digit-rank Inv-loop μ-loop
-shared-slice-read-digit-rank c = omega arith
-
-digit-rank-requires : tie.Need-digit-rank-requires Inv-loop μ-loop
-digit-rank-requires c κs = search needs
-
-wide-requires : tie.Need-wide-requires Inv-loop μ-loop
-wide-requires c κs = search needs
-
 -- the byte's rank
 rank : (c : tie.After-wide Inv-loop μ-loop) → let k = c .before .before .before .before .before in
     c .wide .result ≡ digitRank (getD (k .before .before .args .text .now) (k .loop .i) 0)
@@ -45,12 +33,6 @@ returns c =
     let k = b .before .before in
     let a = k .before .before .args in
     omega (arith, k .loop .inv .1, run-no (isDigitOf (a .radix)) (a .text .now) (k .loop .i) (b .before .loop-test .taken) (rank-none (a .radix) _ (omega (arith, rank w, b .base .ensures, c .if1 .taken))))
-
-add-i : tie.Need-add-i Inv-loop μ-loop
-add-i c = omega arith
-
-loop-less : tie.Need-loop-less Inv-loop μ-loop
-loop-less c = omega arith
 
 loop-again : tie.Need-loop-again Inv-loop μ-loop
 loop-again c =
@@ -69,17 +51,8 @@ returns-2 c =
 
 pub digits-end-spec : {M : Type 1} → statement M
 digits-end-spec =
-    tie.close
-    (tie.spec
-    Inv-loop
-    μ-loop
-    loop-holds
-    base-requires
-    shared-slice-read-digit-rank
-    digit-rank-requires
-    wide-requires
+    tie.close (tie.spec Inv-loop μ-loop loop-holds (λ c κs. search needs) (λ c. omega arith) (λ c κs. search needs) (λ c κs. search needs)
     returns
-    add-i
-    loop-less
+    (λ c. omega arith) (λ c. omega arith)
     loop-again
     returns-2)

@@ -3,11 +3,8 @@ use borrow.Author.Needs.{needs}
 use Rattle.text_lexical.proofs.number.too_large.Statement.{statement}
 use Rattle.text_lexical.proofs.number.too_large.Tie as tie
 
-digits-end-requires : tie.Need-digits-end-requires
-digits-end-requires c κs = search needs
-
 returns : tie.Need-returns
 returns c = rw (c .digits-end .ensures)
 
 pub too-large-spec : {M : Type 1} → statement M
-too-large-spec = tie.close (tie.spec digits-end-requires returns)
+too-large-spec = tie.close (tie.spec (λ c κs. search needs) returns)

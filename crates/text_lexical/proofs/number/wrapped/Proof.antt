@@ -10,14 +10,8 @@ use Rattle.text_lexical.proofs.number.wrapped.Tie as tie
 returns : tie.Need-returns
 returns c = sym (mod-eq-of-lt (omega (arith, c .if1 .taken)))
 
-add-result : tie.Need-add-result
-add-result c = search needs
-
-rem-result : tie.Need-rem-result
-rem-result c = search needs
-
 returns-2 : tie.Need-returns-2
 returns-2 c = rw (add-one (c .before .args .most))
 
 pub wrapped-spec : {M : Type 1} → statement M
-wrapped-spec = tie.close (tie.spec returns add-result rem-result returns-2)
+wrapped-spec = tie.close (tie.spec returns (λ c. search needs) (λ c. search needs) returns-2)

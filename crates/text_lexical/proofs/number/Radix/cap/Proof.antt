@@ -7,12 +7,6 @@ use Rattle.text_lexical.proofs.number.Radix.cap.Tie as tie
 enum-told : tie.Need-enum-told
 enum-told c = search needs
 
-enum-told-2 : tie.Need-enum-told-2
-enum-told-2 c = search needs
-
-enum-told-3 : tie.Need-enum-told-3
-enum-told-3 c = search needs
-
 returns : tie.Need-returns
 returns c = rw (c .enum-told .given .1) (record { fits = omega arith; most = omega arith })
 
@@ -23,4 +17,4 @@ returns-3 : tie.Need-returns-3
 returns-3 c = rw (c .enum-told3 .given .1) (record { fits = omega arith; most = omega arith })
 
 pub cap-spec : {M : Type 1} → statement M
-cap-spec = tie.close (tie.spec enum-told enum-told-2 enum-told-3 returns returns-2 returns-3)
+cap-spec = tie.close (tie.spec enum-told (λ c. search needs) (λ c. search needs) returns returns-2 returns-3)

@@ -10,12 +10,6 @@ use Rattle.text_lexical.proofs.Numbers.{remainder-minus, reduced}
 use Rattle.text_lexical.proofs.number.Whole.residue.Statement.{statement}
 use Rattle.text_lexical.proofs.number.Whole.residue.Tie as tie
 
-sub-wrapped : tie.Need-sub-wrapped
-sub-wrapped c = search needs
-
-wrapped-requires : tie.Need-wrapped-requires
-wrapped-requires c κs = search needs
-
 sub-result : tie.Need-sub-result
 sub-result c =
     let a = c .before .before .before .args in
@@ -27,9 +21,6 @@ returns c =
     reduced (suc (a .most)) _ _
     (rw (c .before .before .if1 .taken, c .wrapped .ensures) (sym (remainder-minus (a .most) (a .self .magnitude) (c .before .if2 .taken))))
 
-wrapped-requires-2 : tie.Need-wrapped-requires-2
-wrapped-requires-2 c κs = search needs
-
 returns-2 : tie.Need-returns-2
 unfolding minus
 returns-2 c =
@@ -38,6 +29,8 @@ returns-2 c =
     (c .wrapped2 .ensures ∙ ⊎-elim (λ w. let z : a .self .magnitude ≡ 0 = omega (arith, w .1 .left) in rw (w .0 .taken, z)) (λ w. rw (w .left)) (c .before .if1 .came))
 
 pub residue-spec : {M : Type 1} → statement M
-residue-spec =
-    tie.close
-    (tie.spec sub-wrapped wrapped-requires sub-result returns wrapped-requires-2 returns-2)
+residue-spec = tie.close (tie.spec (λ c. search needs) (λ c κs. search needs)
+    sub-result
+    returns
+    (λ c κs. search needs)
+    returns-2)
