@@ -14,7 +14,7 @@ use Rattle.text_lexical.specs.Names.{Name}
 use Rattle.text.specs.Tokens.{Token, identifier, register, number, hex, binary, directive, comma, colon, opening, closing}
 use Rattle.text.specs.Values.{readNumber}
 use Rattle.text.specs.Lines.{Line, lines, indent, readLine}
-use Rattle.instruction.specs.Table.{Place, reg, num, comma-place, opening-place, closing-place, Row, places, rowNamed, rowCoded}
+use Rattle.instruction.specs.Table.{Place, reg, num, mark, a-comma, an-opening, a-closing, Row, places, rowNamed, rowCoded}
 use Rattle.instruction.specs.Operands.{Instruction, readIdentifier, readRegister, markByte, Operands, withRegister, withNumber, readPlace, readOperands, made, readRow, readMnemonic, readInstruction, behind}
 use Rattle.instruction.specs.Words.{unusedFrom, taken, instructionOf}
 use Rattle.image.specs.Settings.{Settings, settings, settingsFault, limb-bits-key, data-limbs-key, addr-limbs-key, setField, checked, configuredBy, configuredWith, configured}
@@ -98,9 +98,9 @@ of-place (num bit width signed) t rest h = go (readNumber t) (of-number t)
     go : (x : Result ℤ) → OfResult x → OfResult {A = Operands} (elim x [ value z ↦ withNumber z rest | refused k ↦ refused k ])
     go (value z) k = with-number z rest h
     go (refused n) k = k
-of-place comma-place t rest h = of-mark (eqb (markByte t) 44) 19 rest refl h
-of-place opening-place t rest h = of-mark (eqb (markByte t) 40) 20 rest refl h
-of-place closing-place t rest h = of-mark (eqb (markByte t) 41) 21 rest refl h
+of-place (mark a-comma) t rest h = of-mark (eqb (markByte t) 44) 19 rest refl h
+of-place (mark an-opening) t rest h = of-mark (eqb (markByte t) 40) 20 rest refl h
+of-place (mark a-closing) t rest h = of-mark (eqb (markByte t) 41) 21 rest refl h
 
 of-operands : (ps : List Place) (ts : List Token) → OfResult (readOperands ps ts)
 unfolding readOperands
