@@ -13,7 +13,7 @@ use Rattle.text_lexical.specs.Names.{Name}
 use Rattle.text.specs.Tokens.{Token, identifier, register, number, hex, binary, directive, comma, colon, opening, closing}
 use Rattle.text.specs.Values.{readNumber}
 use Rattle.text.specs.Lines.{Line, lines, indent, readLine}
-use Rattle.instruction.specs.Table.{Place, reg, num, comma-place, opening-place, closing-place, Row, places, rowNamed, rowCoded}
+use Rattle.instruction.specs.Table.{Place, reg, num, mark, a-comma, an-opening, a-closing, Row, places, rowNamed, rowCoded}
 use Rattle.instruction.specs.Operands.{Instruction, readIdentifier, readRegister, markByte, Operands, withRegister, withNumber, readPlace, readOperands, made, readRow, readMnemonic, readInstruction, behind}
 use Rattle.instruction.specs.Words.{unusedFrom, instructionOf}
 use Rattle.image.specs.Settings.{Settings, settingsFault, limb-bits-key, data-limbs-key, addr-limbs-key, setField, checked, configuredBy, configuredWith, configured}
@@ -116,9 +116,9 @@ of-place : (p : Place) (t : Token) (rest : Result Operands) → OfRead rest → 
 unfolding readPlace
 of-place (reg bit) t rest h = by-result readingNumbers OfRead (readRegister t) (of-register t) (λ n. with-register n rest h) (λ n k. k)
 of-place (num bit width signed) t rest h = by-result readingNumbers OfRead (readNumber t) (of-number t) (λ z. with-number z rest h) (λ n k. k)
-of-place comma-place t rest h = by-test OfRead (eqb (markByte t) 44) h refl
-of-place opening-place t rest h = by-test OfRead (eqb (markByte t) 40) h refl
-of-place closing-place t rest h = by-test OfRead (eqb (markByte t) 41) h refl
+of-place (mark a-comma) t rest h = by-test OfRead (eqb (markByte t) 44) h refl
+of-place (mark an-opening) t rest h = by-test OfRead (eqb (markByte t) 40) h refl
+of-place (mark a-closing) t rest h = by-test OfRead (eqb (markByte t) 41) h refl
 
 of-operands : (ps : List Place) (ts : List Token) → OfRead (readOperands ps ts)
 unfolding readOperands

@@ -8,6 +8,7 @@ ghost use Rattle.image.specs.Opening.{headerFault, opening};
 ghost use Rattle.image.specs.Contracts.{settingsMeant, faultMeant, settingBytes, headerMeant, openedMeant};
 use crate::config::Checked;
 use crate::config::Config;
+use crate::limits::HEADER_SIZE;
 
 pub struct ProgramHeader {
     pub magic: u32,
@@ -21,7 +22,7 @@ pub struct ProgramHeader {
     pub stack_size: u32,
 }
 
-// An image's header, and where its code ends, which begins at 32; its data fill the rest.
+// An image's header, and where its code ends, which begins after the header; its data fill the rest.
 pub enum Opened {
     Is {
         header: ProgramHeader,
@@ -42,7 +43,8 @@ fn write_config(out: &mut [u8], at: usize, config: Config) -> usize
     at + 4
 }
 
-// The header of a program with settings and a size of code.
+// The header of a program with settings and a size of code. Entry and stack size are fixed byte strings, as document 01 names that form,
+// and so do not come out of the constants; the contract's `headerFor` has the same numbers as those.
 pub fn write_header(image: &mut [u8], config: Config, code_size: u32) -> usize
     requires { ⌜ 32 ≤ length (now image) ⌝ }
     ensures { λ r. ⌜ Written (now (image .entry)) 0 (headerBytes (headerFor (settingsMeant config) «code_size» 0)) r (now (image .exit)) ⌝ }
@@ -117,7 +119,7 @@ impl ProgramHeader {
 pub fn open(image: &[u8]) -> Opened
     ensures { λ r. ⌜ openedMeant (now (image .entry)) r ≡ opening (now (image .entry)) ⌝ }
 {
-    if image.len() < 32 {
+    if image.len() < HEADER_SIZE {
         return Opened::Refused(24);
     }
     let header = read_header(image);
@@ -127,7 +129,7 @@ pub fn open(image: &[u8]) -> Opened
             if header.code_size % 4 != 0 {
                 return Opened::Refused(27);
             }
-            let code_end = 32 + header.code_size as usize;
+            let code_end = HEADER_SIZE + header.code_size as usize;
             if image.len() != code_end + header.data_size as usize {
                 return Opened::Refused(28);
             }

@@ -27,9 +27,9 @@ use Rattle.text.proofs.Scanning.{register-identifier}
 use Rattle.text.proofs.Left.{start-solid, blank-inside, blanks-at, end-on}
 use Rattle.text.proofs.Fronts.{part-cons, word-at}
 use Rattle.text.proofs.Stepping.{solid-step, mark-step, blank-step, stepped}
-use Rattle.instruction.specs.Table.{Place}
+use Rattle.instruction.specs.Table.{a-comma, an-opening, a-closing, Place}
 use Rattle.instruction.specs.Operands.{markByte}
-use Rattle.instruction.specs.Forms.{markOf, MarkPlace, a-comma, an-opening, a-closing, MarkPlaces, no-mark, one-mark}
+use Rattle.instruction.specs.Forms.{markOf, MarkPlace, a-mark, MarkPlaces, no-mark, one-mark}
 use Rattle.instruction.specs.declared.form.Mark.the-variants.{Is}
 use Rattle.image_line.specs.Contracts.{Reads, RegisterIs, MarkRead}
 
@@ -87,9 +87,9 @@ register-reads names ok s from at (IsRegister r e) fl q (g, m, n) =
 
 mark-plain : {p : Place} {byte n : ℕ} → MarkPlace p byte n → NoWord byte
 unfolding blank nameStart letter digit between numberStart
-mark-plain a-comma = record { no-blank = refl; no-start = refl; no-number = refl; no-dot = λ h. absurd (omega arith) }
-mark-plain an-opening = record { no-blank = refl; no-start = refl; no-number = refl; no-dot = λ h. absurd (omega arith) }
-mark-plain a-closing = record { no-blank = refl; no-start = refl; no-number = refl; no-dot = λ h. absurd (omega arith) }
+mark-plain (a-mark a-comma) = record { no-blank = refl; no-start = refl; no-number = refl; no-dot = λ h. absurd (omega arith) }
+mark-plain (a-mark an-opening) = record { no-blank = refl; no-start = refl; no-number = refl; no-dot = λ h. absurd (omega arith) }
+mark-plain (a-mark a-closing) = record { no-blank = refl; no-start = refl; no-number = refl; no-dot = λ h. absurd (omega arith) }
 
 -- A colon.
 colon-plain : NoWord 58
@@ -104,9 +104,9 @@ colon-reads names ok s at l b = stepped-reads names ok s at _ (at + 1) (mark-ste
 marked : (d : ℕ) → (ms : List Place) × MarkPlaces (markOf d) ms
 unfolding markOf
 marked zero = ([], no-mark)
-marked (suc zero) = (_, one-mark a-comma)
-marked (suc (suc zero)) = (_, one-mark an-opening)
-marked (suc (suc (suc zero))) = (_, one-mark a-closing)
+marked (suc zero) = (_, one-mark (a-mark a-comma))
+marked (suc (suc zero)) = (_, one-mark (a-mark an-opening))
+marked (suc (suc (suc zero))) = (_, one-mark (a-mark a-closing))
 marked (suc (suc (suc (suc d)))) = ([], no-mark)
 
 one-marked : {byte n : ℕ} {ms : List Place} → MarkPlaces (Is byte n) ms → (p : Place) × MarkPlace p byte n
@@ -115,12 +115,12 @@ one-marked (one-mark {p = p} m) = (p, m)
 module _ (names : List Name) (ok : Naming names) (s : List ℕ) (from at : ℕ) (fl : from ≤ length s) (q : at ≡ from + run blank (drop from s)) (l : at < length s) where
   place-reads : {p : Place} {byte n : ℕ} → MarkPlace p byte n → getD s at 0 ≡ byte → MarkRead names s from byte (at + 1)
   unfolding mark markToken markByte
-  place-reads a-comma b =
-      record { token = comma; mark-is = refl; reads = stepped-reads names ok s from _ (at + 1) (blank-step names s from at _ fl q l (mark-step names ok s at Comma comma l (rw b (mark-plain a-comma)) (rw b) (rw b) (λ u. refl) (λ u. refl))) }
-  place-reads an-opening b =
-      record { token = opening; mark-is = refl; reads = stepped-reads names ok s from _ (at + 1) (blank-step names s from at _ fl q l (mark-step names ok s at LParen opening l (rw b (mark-plain an-opening)) (rw b) (rw b) (λ u. refl) (λ u. refl))) }
-  place-reads a-closing b =
-      record { token = closing; mark-is = refl; reads = stepped-reads names ok s from _ (at + 1) (blank-step names s from at _ fl q l (mark-step names ok s at RParen closing l (rw b (mark-plain a-closing)) (rw b) (rw b) (λ u. refl) (λ u. refl))) }
+  place-reads (a-mark a-comma) b =
+      record { token = comma; mark-is = refl; reads = stepped-reads names ok s from _ (at + 1) (blank-step names s from at _ fl q l (mark-step names ok s at Comma comma l (rw b (mark-plain (a-mark a-comma))) (rw b) (rw b) (λ u. refl) (λ u. refl))) }
+  place-reads (a-mark an-opening) b =
+      record { token = opening; mark-is = refl; reads = stepped-reads names ok s from _ (at + 1) (blank-step names s from at _ fl q l (mark-step names ok s at LParen opening l (rw b (mark-plain (a-mark an-opening))) (rw b) (rw b) (λ u. refl) (λ u. refl))) }
+  place-reads (a-mark a-closing) b =
+      record { token = closing; mark-is = refl; reads = stepped-reads names ok s from _ (at + 1) (blank-step names s from at _ fl q l (mark-step names ok s at RParen closing l (rw b (mark-plain (a-mark a-closing))) (rw b) (rw b) (λ u. refl) (λ u. refl))) }
 
   pub mark-reads : (d byte n : ℕ) → markOf d ≡ Is byte n → getD s at 0 ≡ byte → MarkRead names s from byte (at + 1)
   mark-reads d byte n e b = let (ms, h) = marked d in let (p, m) = one-marked (rw e at h) in place-reads m b

@@ -101,12 +101,7 @@ fn tail_at(source: &[u8], at: usize, registers: [Register; 3], number: Whole) ->
     match crate::operand::end_at(source, at) {
         EndAt::Other => Tail::Other,
         EndAt::Is(end) => Tail::Are {
-            operands: Operands {
-                first: registers[0],
-                second: registers[1],
-                third: registers[2],
-                number,
-            },
+            operands: Operands::new(registers, number),
             end,
         },
     }

@@ -11,6 +11,10 @@ ghost use Rattle.image.specs.Listing.{wordsOf, lineText, settingsText, wordText
 ghost use Rattle.image.specs.Contracts.{settingsMeant, headerMeant};
 ghost use Rattle.image_listing.specs.Contracts.{lengthMeant, lineLength, WholeWords, Measures, Usual, Lists};
 use image::config::Config;
+use image::limits::ENTRY;
+use image::limits::HEADER_SIZE;
+use image::limits::MOST_CODE;
+use image::limits::STACK_SIZE;
 use image::program::Opened;
 use image::program::ProgramHeader;
 use instruction_codec::encoder::Decoded;
@@ -43,7 +47,7 @@ fn is_usual(header: ProgramHeader) -> bool
     if header.flags != 0 {
         return false;
     }
-    if header.entry_point != 0x1000 {
+    if header.entry_point != ENTRY {
         return false;
     }
     if header.data_size != 0 {
@@ -52,10 +56,10 @@ fn is_usual(header: ProgramHeader) -> bool
     if header.bss_size != 0 {
         return false;
     }
-    if header.stack_size != 0x100000 {
+    if header.stack_size != STACK_SIZE {
         return false;
     }
-    header.code_size <= 0x20000
+    header.code_size <= MOST_CODE
 }
 
 // The length of a word's line: 30, 31.
@@ -82,7 +86,7 @@ fn words_length(
     ensures { λ r. ⌜ Measures (wordsOf (drop 32 (now (coded .entry)))) r ⌝ }
 {
     let mut length = 0;
-    let mut at = 32;
+    let mut at = HEADER_SIZE;
     while at < coded.len() {
         match word_length(
             image::program::read_u32(coded, at),
@@ -93,7 +97,7 @@ fn words_length(
             WordLength::Refused(number) => {
                 return Measured::Faulty {
                     number,
-                    index: (at - 32) / 4,
+                    index: (at - HEADER_SIZE) / 4,
                 };
             }
             WordLength::Is(n) => length += n,
@@ -183,7 +187,7 @@ fn write_words(
     ensures { λ r. ⌜ Written (now (text .entry)) from (flatMap wordText (wordsOf (drop 32 (now (coded .entry))))) r (now (text .exit)) ⌝ }
 {
     let mut place = from;
-    let mut at = 32;
+    let mut at = HEADER_SIZE;
     while at < coded.len() {
         let word = image::program::read_u32(coded, at);
         place = write_word(text, place, word, mnemonics, opcodes, forms);

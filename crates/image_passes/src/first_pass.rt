@@ -11,6 +11,9 @@ ghost use Rattle.image_line.specs.Contracts.{Tables, effectMeant};
 ghost use Rattle.image_passes.specs.Contracts.{refusedAt, lineRefused, finishedWith, oneMore, restFor, labelPass, lineAfter, Sound, Scannable, ScannableNext, ReadsOn, Begins, GoesOn};
 ghost use Rattle.image_passes.specs.declared.first_pass.Next.the-variants.{From};
 use image::config::Config;
+use image::limits::ENTRY;
+use image::limits::MOST_BYTES;
+use image::limits::MOST_WORDS;
 use image_labels::label::Entered;
 use image_labels::label::Label;
 use image_line::line::Effect;
@@ -137,7 +140,7 @@ fn finished(labels: usize, words: usize, config: Config) -> Outcome
 fn counted(words: usize, config: Config, end: usize) -> Rest
     ensures { λ r. ⌜ r ≡ oneMore words config end ⌝ }
 {
-    if words < 32768 {
+    if words < MOST_WORDS {
         return Rest::Done {
             words: words + 1,
             config,
@@ -181,7 +184,7 @@ fn at_label(
     let label = Label {
         start,
         length,
-        address: 0x1000 + 4 * (words as u64),
+        address: ENTRY as u64 + 4 * (words as u64),
     };
     Pass::AtLabel(LabelLine {
         label,
@@ -269,7 +272,7 @@ pub fn read_on(
 pub fn too_long(source: &[u8]) -> bool
     ensures { λ r. ⌜ r ≡ ltb most-bytes (length (now (source .entry))) ⌝ }
 {
-    1048576 < source.len()
+    MOST_BYTES < source.len()
 }
 
 // The first line of a source, unless it is refused before any line (2).

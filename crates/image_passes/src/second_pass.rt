@@ -12,6 +12,7 @@ ghost use Rattle.text_lexical.specs.Names.{present};
 ghost use Rattle.image_line.specs.Contracts.{Tables};
 ghost use Rattle.image_passes.specs.Contracts.{codedMeant, CodesLine, Readable, codeBytes, Ready, Fills};
 use image::config::Config;
+use image::limits::HEADER_SIZE;
 use image_line::line::Effect;
 use instruction::instruction::Instruction;
 use instruction::instruction::Operands;
@@ -102,7 +103,7 @@ fn second_pass(
     requires { ⌜ Readable present (now source) ⌝ ∗ ⌜ 32 + length (codeBytes present (now source)) ≤ length (now image) ⌝ ∗ ⌜ Tables (now mnemonics) (now forms) (now slots) ⌝ ∗ ⌜ now opcodes ≡ opcodeNumbers ⌝ }
     ensures { λ r. ⌜ Written (now (image .entry)) 32 (codeBytes present (now (source .entry))) r (now (image .exit)) ⌝ }
 {
-    let mut place: usize = 32;
+    let mut place = HEADER_SIZE;
     let mut at: usize = 0;
     let mut config = Config::begin();
     loop {
@@ -131,7 +132,7 @@ pub fn write_image(
     requires { ⌜ Ready present (now source) words (settingsMeant config) ⌝ ∗ ⌜ Tables (now mnemonics) (now forms) (now slots) ⌝ }
     ensures { λ r. ⌜ Fills present (now (source .entry)) words (now (image .entry)) (now (image .exit)) r ⌝ }
 {
-    let needed = 32 + 4 * words;
+    let needed = HEADER_SIZE + 4 * words;
     if image.len() < needed {
         return Fill::TooShort(needed);
     }

@@ -38,7 +38,7 @@ pub record Short (s : List ℕ) : Type 0 where
   pub few : length s ≤ 7
   pub bytes-below : (i : ℕ) → i < length s → getD s i 0 < 256
 
-table-keyed : each (λ r. isKeyed (r .mnemonic)) table ≡ true
+pub table-keyed : each (λ r. isKeyed (r .mnemonic)) table ≡ true
 unfolding each isKeyed every table row bytes
 table-keyed = refl
 

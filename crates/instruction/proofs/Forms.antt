@@ -21,36 +21,36 @@ use Rattle.text_lexical.proofs.Numbers.{whole-meant}
 use Rattle.text_lexical.proofs.Registers.{register-index}
 use Rattle.text.specs.Tokens.{Token}
 use Rattle.text.specs.Values.{readNumber}
-use Rattle.instruction.specs.Table.{Place, reg, num, comma-place, opening-place, closing-place, Form, R, I, Shift, Load, Store, Branch, Jump, System, places}
+use Rattle.instruction.specs.Table.{Place, reg, num, mark, a-comma, an-opening, a-closing, Form, R, I, Shift, Load, Store, Branch, Jump, System, places}
 use Rattle.instruction.specs.Operands.{Operands, noOperands, withRegister, withNumber, readRegister, markByte, readPlace, readOperands}
 use Rattle.instruction.specs.Contracts.{noNumber, operands, wholeOr, registersOf, operandsMeant, registersFor, numberFor, SettledFor}
-use Rattle.instruction.specs.Forms.{digitsFor, isNumber, markOf, OperandPlace, number-place, register-place, MarkPlace, a-comma, an-opening, a-closing, MarkPlaces, no-mark, one-mark, Ahead, no-more, operand}
+use Rattle.instruction.specs.Forms.{digitsFor, isNumber, markOf, OperandPlace, number-place, register-place, MarkPlace, a-mark, MarkPlaces, no-mark, one-mark, Ahead, no-more, operand}
 use Rattle.instruction.specs.declared.instruction.Operands.{Operands as KeptOperands}
 use Rattle.instruction.specs.declared.form.Mark.the-variants.{Nothing, Is}
 
 -- ---- the digits of each form
 
 -- Forms that have their operands in common, wherever these go to in a word.
-jumping : {x z width : ℕ} {signed : Bool} → Ahead (reg x ∷ comma-place ∷ num z width signed ∷ []) 0o51
+jumping : {x z width : ℕ} {signed : Bool} → Ahead (reg x ∷ mark a-comma ∷ num z width signed ∷ []) 0o51
 unfolding isNumber markOf
-jumping = operand {left = 0o51} (omega arith) register-place (one-mark a-comma) (operand {left = 0o5} (omega arith) number-place no-mark (no-more refl) refl) refl
+jumping = operand {left = 0o51} (omega arith) register-place (one-mark (a-mark a-comma)) (operand {left = 0o5} (omega arith) number-place no-mark (no-more refl) refl) refl
 
-immediate : {x y z width : ℕ} {signed : Bool} → Ahead (reg x ∷ comma-place ∷ reg y ∷ comma-place ∷ num z width signed ∷ []) 0o511
+immediate : {x y z width : ℕ} {signed : Bool} → Ahead (reg x ∷ mark a-comma ∷ reg y ∷ mark a-comma ∷ num z width signed ∷ []) 0o511
 unfolding isNumber markOf
-immediate = operand {left = 0o511} (omega arith) register-place (one-mark a-comma) jumping refl
+immediate = operand {left = 0o511} (omega arith) register-place (one-mark (a-mark a-comma)) jumping refl
 
-memory : {x y z width : ℕ} {signed : Bool} → Ahead (reg x ∷ comma-place ∷ num z width signed ∷ opening-place ∷ reg y ∷ closing-place ∷ []) 0o321
+memory : {x y z width : ℕ} {signed : Bool} → Ahead (reg x ∷ mark a-comma ∷ num z width signed ∷ mark an-opening ∷ reg y ∷ mark a-closing ∷ []) 0o321
 unfolding isNumber markOf
 memory =
-    operand {left = 0o321} (omega arith) register-place (one-mark a-comma)
-    (operand {left = 0o32} (omega arith) number-place (one-mark an-opening) (operand {left = 0o3} (omega arith) register-place (one-mark a-closing) (no-more refl) refl) refl) refl
+    operand {left = 0o321} (omega arith) register-place (one-mark (a-mark a-comma))
+    (operand {left = 0o32} (omega arith) number-place (one-mark (a-mark an-opening)) (operand {left = 0o3} (omega arith) register-place (one-mark (a-mark a-closing)) (no-more refl) refl) refl) refl
 
 -- The digits of a form describe its places.
 pub form-ahead : (f : Form) → Ahead (places f) (digitsFor f)
 unfolding places digitsFor isNumber markOf
 form-ahead R =
-    operand {left = 0o411} (omega arith) register-place (one-mark a-comma)
-    (operand {left = 0o41} (omega arith) register-place (one-mark a-comma) (operand {left = 0o4} (omega arith) register-place no-mark (no-more refl) refl) refl) refl
+    operand {left = 0o411} (omega arith) register-place (one-mark (a-mark a-comma))
+    (operand {left = 0o41} (omega arith) register-place (one-mark (a-mark a-comma)) (operand {left = 0o4} (omega arith) register-place no-mark (no-more refl) refl) refl) refl
 form-ahead I = immediate
 form-ahead Shift = immediate
 form-ahead Load = memory
@@ -65,17 +65,13 @@ regsIn : List Place → ℕ
 regsIn [] = 0
 regsIn (reg bit ∷ ps) = suc (regsIn ps)
 regsIn (num bit width signed ∷ ps) = regsIn ps
-regsIn (comma-place ∷ ps) = regsIn ps
-regsIn (opening-place ∷ ps) = regsIn ps
-regsIn (closing-place ∷ ps) = regsIn ps
+regsIn (mark m ∷ ps) = regsIn ps
 
 numsIn : List Place → ℕ
 numsIn [] = 0
 numsIn (reg bit ∷ ps) = numsIn ps
 numsIn (num bit width signed ∷ ps) = suc (numsIn ps)
-numsIn (comma-place ∷ ps) = numsIn ps
-numsIn (opening-place ∷ ps) = numsIn ps
-numsIn (closing-place ∷ ps) = numsIn ps
+numsIn (mark m ∷ ps) = numsIn ps
 
 -- Operands have room for the registers and the number of places.
 pub record Room (ps : List Place) : Type 0 where
@@ -101,27 +97,21 @@ registers-first [] (x ∷ xs) ys h = absurd (omega arith)
 registers-first (reg bit ∷ ps) [] ys h = absurd (omega arith)
 registers-first (reg bit ∷ ps) (x ∷ xs) ys h = ap (λ l. x ∷ l) (registers-first ps xs ys (omega arith))
 registers-first (num bit width signed ∷ ps) xs ys h = registers-first ps xs ys h
-registers-first (comma-place ∷ ps) xs ys h = registers-first ps xs ys h
-registers-first (opening-place ∷ ps) xs ys h = registers-first ps xs ys h
-registers-first (closing-place ∷ ps) xs ys h = registers-first ps xs ys h
+registers-first (mark m ∷ ps) xs ys h = registers-first ps xs ys h
 
 no-number : (ps : List Place) (z : ℤ) → numsIn ps ≡ 0 → numberFor ps z ≡ none
 unfolding numsIn numberFor
 no-number [] z h = refl
 no-number (reg bit ∷ ps) z h = no-number ps z h
 no-number (num bit width signed ∷ ps) z h = absurd (omega arith)
-no-number (comma-place ∷ ps) z h = no-number ps z h
-no-number (opening-place ∷ ps) z h = no-number ps z h
-no-number (closing-place ∷ ps) z h = no-number ps z h
+no-number (mark m ∷ ps) z h = no-number ps z h
 
 a-number : (ps : List Place) (z : ℤ) → 0 < numsIn ps → numberFor ps z ≡ some z
 unfolding numsIn numberFor
 a-number [] z h = absurd (omega arith)
 a-number (reg bit ∷ ps) z h = a-number ps z h
 a-number (num bit width signed ∷ ps) z h = refl
-a-number (comma-place ∷ ps) z h = a-number ps z h
-a-number (opening-place ∷ ps) z h = a-number ps z h
-a-number (closing-place ∷ ps) z h = a-number ps z h
+a-number (mark m ∷ ps) z h = a-number ps z h
 
 -- ---- what has been read, before what is read after it
 
@@ -217,21 +207,15 @@ register-counts ps register-place = refl
 mark-asked : {p : Place} {byte n : ℕ} → MarkPlace p byte n → (t : Token) (x : Result Operands)
     → readPlace p t x ≡ elim (eqb (markByte t) byte) [ true ↦ x | false ↦ refused n ]
 unfolding readPlace
-mark-asked a-comma t x = refl
-mark-asked an-opening t x = refl
-mark-asked a-closing t x = refl
+mark-asked (a-mark m) t x = refl
 
 mark-regs : {p : Place} {byte n : ℕ} (ps : List Place) → MarkPlace p byte n → regsIn (p ∷ ps) ≡ regsIn ps
 unfolding regsIn
-mark-regs ps a-comma = refl
-mark-regs ps an-opening = refl
-mark-regs ps a-closing = refl
+mark-regs ps (a-mark m) = refl
 
 mark-nums : {p : Place} {byte n : ℕ} (ps : List Place) → MarkPlace p byte n → numsIn (p ∷ ps) ≡ numsIn ps
 unfolding numsIn
-mark-nums ps a-comma = refl
-mark-nums ps an-opening = refl
-mark-nums ps a-closing = refl
+mark-nums ps (a-mark m) = refl
 
 -- The next of three registers is put after those that were read.
 put-next : (got : List Register) (free count : ℕ) (r : Register) → length got ≡ count → 0 < free

@@ -9,15 +9,15 @@ use mathlib.Core.List.{List, [], _∷_, map}
 use lib.ListN.{length, getD, length-map, List·getD-eq-default}
 use lib.Dec.{ltb, eqb}
 use borrow.Author.Tests.{ltb-true, eqb-true, eqb-false, eq-eqb, ne-eqb, not-true}
-use Rattle.text_lexical.specs.Bytes.{bytes, every, same, find, each}
+use Rattle.text_lexical.specs.Bytes.{bytes, same, find, each}
 use Rattle.text_lexical.specs.Contracts.{packed, keyOf}
 use Rattle.text_lexical.proofs.Tests.{by-test, both}
-use Rattle.text_lexical.proofs.Keys.{Below, isKeyed, byKey, found-by-key}
+use Rattle.text_lexical.proofs.Keys.{Below, byKey, found-by-key}
 use Rattle.instruction.specs.Table.{Row, row, table, rowNamed, rowCoded}
 use Rattle.instruction.specs.Contracts.{noRow, rowAt, mnemonicKeys, opcodeNumbers, slotRow, slotRowsFrom, slotRows, unusedBelow}
 use Rattle.instruction.specs.Fits.{InTable}
 use Rattle.instruction.proofs.Rows.{unique, fifty}
-use Rattle.instruction.proofs.Columns.{each-at, opcode-at}
+use Rattle.instruction.proofs.Columns.{each-at, table-keyed, opcode-at}
 
 -- ---- searching a list
 
@@ -40,10 +40,6 @@ find-at p d (a ∷ l) h =
     (λ t. rw (find, place, t) (find-at p d l (omega (arith, rw (place, t) at h))))
 
 -- ---- by a mnemonic
-
-table-keyed : each (λ r. isKeyed (r .mnemonic)) table ≡ true
-unfolding each isKeyed table row bytes every
-table-keyed = refl
 
 -- A spelling names the row whose mnemonic has its key.
 pub row-by-key : (s : List ℕ) → Below s → rowNamed s ≡ find (λ q. eqb (keyOf (q .mnemonic)) (keyOf s)) table

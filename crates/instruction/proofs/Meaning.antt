@@ -6,7 +6,7 @@ use mathlib.Core.List.{List, [], _∷_}
 use lib.IntN.{ℤ}
 use Rattle.text_lexical.specs.Bytes.{value, isSome}
 use Rattle.text_lexical.specs.Contracts.{wholeMeant}
-use Rattle.instruction.specs.Table.{Place, reg, num, comma-place, opening-place, closing-place, Form, R, I, Shift, Load, Store, Branch, Jump, System, places, Row}
+use Rattle.instruction.specs.Table.{Place, reg, num, mark, Form, R, I, Shift, Load, Store, Branch, Jump, System, places, Row}
 use Rattle.instruction.specs.Operands.{Instruction as Meant}
 use Rattle.instruction.specs.Words.{wordOf, instructionOf}
 use Rattle.instruction.specs.Contracts.{rowFor, registersFor, numberFor, registersOf, partsOf, instructionMeant}
@@ -34,9 +34,7 @@ unfolding isSome numberFor hasNumber numberField
 number-fits [] z = refl
 number-fits (num bit width signed ∷ ps) z = refl
 number-fits (reg bit ∷ ps) z = number-fits ps z
-number-fits (comma-place ∷ ps) z = number-fits ps z
-number-fits (opening-place ∷ ps) z = number-fits ps z
-number-fits (closing-place ∷ ps) z = number-fits ps z
+number-fits (mark m ∷ ps) z = number-fits ps z
 
 -- The meaning of an instruction fits.
 pub meant-fits : (i : Instruction) → Fits (instructionMeant i)

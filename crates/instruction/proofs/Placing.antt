@@ -16,7 +16,7 @@ use Rattle.text_lexical.specs.Bytes.{between, isSome, each}
 use Rattle.text_lexical.specs.Numbers.{residue, meantBy}
 use Rattle.text_lexical.proofs.Tests.{by-test, both, and-both, between-true}
 use Rattle.text_lexical.proofs.Numbers.{residue-lt, residue-meant}
-use Rattle.instruction.specs.Table.{Place, reg, num, comma-place, opening-place, closing-place, places, Row, row, table}
+use Rattle.instruction.specs.Table.{Place, reg, num, mark, places, Row, row, table}
 use Rattle.instruction.specs.Words.{reduced, fields, fieldAt, registersIn, numberIn, unusedFrom}
 use Rattle.instruction.specs.Fits.{InTable, placesOf, Regs, numberField, hasNumber, reducedIn}
 use Rattle.instruction.proofs.Fields.{disjoint, disjoint-sym, field-lt, field-empty, put-read, put-other, put-bound, field-up}
@@ -31,9 +31,7 @@ unfolding isSome numberIn numberField hasNumber
 read-number w [] = refl
 read-number w (num bit width signed ∷ ps) = refl
 read-number w (reg bit ∷ ps) = read-number w ps
-read-number w (comma-place ∷ ps) = read-number w ps
-read-number w (opening-place ∷ ps) = read-number w ps
-read-number w (closing-place ∷ ps) = read-number w ps
+read-number w (mark m ∷ ps) = read-number w ps
 
 -- Registers that fit.
 pub read-registers : (w : ℕ) (ps : List Place) → Regs ps (registersIn w ps)
@@ -41,9 +39,7 @@ unfolding Regs registersIn
 read-registers w [] = tt
 read-registers w (reg bit ∷ ps) = (field-lt w bit 4, read-registers w ps)
 read-registers w (num bit width signed ∷ ps) = read-registers w ps
-read-registers w (comma-place ∷ ps) = read-registers w ps
-read-registers w (opening-place ∷ ps) = read-registers w ps
-read-registers w (closing-place ∷ ps) = read-registers w ps
+read-registers w (mark m ∷ ps) = read-registers w ps
 
 -- A number that is read is reduced already.
 pub read-reduced : (w : ℕ) (ps : List Place) → reducedIn (numberField ps) (numberIn w ps) ≡ numberIn w ps
@@ -51,9 +47,7 @@ unfolding numberField reducedIn reduced numberIn
 read-reduced w [] = refl
 read-reduced w (num bit width signed ∷ ps) = rw (residue-meant signed width _ (field-lt w bit width))
 read-reduced w (reg bit ∷ ps) = read-reduced w ps
-read-reduced w (comma-place ∷ ps) = read-reduced w ps
-read-reduced w (opening-place ∷ ps) = read-reduced w ps
-read-reduced w (closing-place ∷ ps) = read-reduced w ps
+read-reduced w (mark m ∷ ps) = read-reduced w ps
 
 -- ---- tests on the fields of places
 
@@ -61,9 +55,7 @@ read-reduced w (closing-place ∷ ps) = read-reduced w ps
 atField : (ℕ → ℕ → Bool) → Place → Bool
 atField q (reg bit) = q bit 4
 atField q (num bit width signed) = q bit width
-atField q comma-place = true
-atField q opening-place = true
-atField q closing-place = true
+atField q (mark m) = true
 
 fields-both : (f g h : ℕ → ℕ → Bool) → ((b k : ℕ) → f b k ≡ true → g b k ≡ true → h b k ≡ true)
     → (ps : List Place) → each (atField f) ps ≡ true → each (atField g) ps ≡ true → each (atField h) ps ≡ true
@@ -73,9 +65,7 @@ fields-both f g h t = each-both (atField f) (atField g) (atField h) go
     go : (p : Place) → atField f p ≡ true → atField g p ≡ true → atField h p ≡ true
     go (reg bit) = t bit 4
     go (num bit width signed) = t bit width
-    go comma-place = λ x y. refl
-    go opening-place = λ x y. refl
-    go closing-place = λ x y. refl
+    go (mark m) = λ x y. refl
 
 -- It has no bit in common with another field.
 clearOf : ℕ → ℕ → Place → Bool
@@ -150,9 +140,7 @@ put-all (num bit width signed ∷ ps) rs n x s e f =
     let (hr, hn, hw) = put-all ps rs n (x + reduced width n * 2 ^ bit) s e f in
     let (v, w) = back _ hw in
     rw (← add-assoc) (hr, (λ i. some (meantBy signed width (v i))), w)
-put-all (comma-place ∷ ps) rs n x s e f = put-all ps rs n x s e f
-put-all (opening-place ∷ ps) rs n x s e f = put-all ps rs n x s e f
-put-all (closing-place ∷ ps) rs n x s e f = put-all ps rs n x s e f
+put-all (mark m ∷ ps) rs n x s e f = put-all ps rs n x s e f
 
 -- ---- what is read tells the word
 
@@ -161,18 +149,14 @@ single : List Place → Bool
 single [] = true
 single (num bit width signed ∷ ps) = elim (not (hasNumber ps)) [ true ↦ single ps | false ↦ false ]
 single (reg bit ∷ ps) = single ps
-single (comma-place ∷ ps) = single ps
-single (opening-place ∷ ps) = single ps
-single (closing-place ∷ ps) = single ps
+single (mark m ∷ ps) = single ps
 
 -- The end of the place that begins at a bit, and that bit where none does.
 endFrom : ℕ → List Place → ℕ
 endFrom a [] = a
 endFrom a (reg bit ∷ ps) = elim (eqb bit a) [ true ↦ bit + 4 | false ↦ endFrom a ps ]
 endFrom a (num bit width signed ∷ ps) = elim (eqb bit a) [ true ↦ bit + width | false ↦ endFrom a ps ]
-endFrom a (comma-place ∷ ps) = endFrom a ps
-endFrom a (opening-place ∷ ps) = endFrom a ps
-endFrom a (closing-place ∷ ps) = endFrom a ps
+endFrom a (mark m ∷ ps) = endFrom a ps
 
 -- How far up from a bit so many places leave no gap.
 climb : ℕ → ℕ → List Place → ℕ
@@ -198,9 +182,7 @@ module _ (w w′ : ℕ) where
       let m : meantBy signed width (fieldAt w bit width) ≡ meantBy signed width (fieldAt w′ bit width) = cc in
       let f = sym (residue-meant signed width _ (field-lt w bit width)) ∙ ap (residue width) m ∙ residue-meant signed width _ (field-lt w′ bit width) in
       and-both _ (each (sameIn w w′) ps) (eq-eqb _ _ f) (read-same ps o r (no-number w ps h ∙ sym (no-number w′ ps h)))
-  read-same (comma-place ∷ ps) o r n = read-same ps o r n
-  read-same (opening-place ∷ ps) o r n = read-same ps o r n
-  read-same (closing-place ∷ ps) o r n = read-same ps o r n
+  read-same (mark m ∷ ps) o r n = read-same ps o r n
 
   -- They have the same bits below a bit.
   abbrev SameTo : ℕ → Type 0
@@ -216,9 +198,7 @@ module _ (w w′ : ℕ) where
   same-end [] a e s = s
   same-end (reg bit ∷ ps) a e s = let (f, e) = both _ (each (sameIn w w′) ps) e in same-from a bit 4 (endFrom a ps) f s (same-end ps a e s)
   same-end (num bit width signed ∷ ps) a e s = let (f, e) = both _ (each (sameIn w w′) ps) e in same-from a bit width (endFrom a ps) f s (same-end ps a e s)
-  same-end (comma-place ∷ ps) a e s = same-end ps a e s
-  same-end (opening-place ∷ ps) a e s = same-end ps a e s
-  same-end (closing-place ∷ ps) a e s = same-end ps a e s
+  same-end (mark m ∷ ps) a e s = same-end ps a e s
 
   same-climb : (n a : ℕ) (ps : List Place) → each (sameIn w w′) ps ≡ true → SameTo a → SameTo (climb n a ps)
   unfolding climb

@@ -15,8 +15,8 @@ use Rattle.text.specs.Tokens.{Class, Register, Identifier, Number, Hex, Binary,
 use Rattle.text.specs.Values.{readNumber}
 use Rattle.text.specs.Lines.{Line, content, kept, lineOf, recordOf, readLine}
 use Rattle.text.specs.NameSets.{isNumbered, Naming}
-use Rattle.instruction.specs.Table.{Place, reg, num, comma-place, opening-place, closing-place, rowNamed}
-use Rattle.instruction.specs.Operands.{Instruction, readRegister, readIdentifier, markByte, Operands, noOperands, withRegister, withNumber, readPlace, readOperands, made, readRow, readMnemonic, readInstruction, behind}
+use Rattle.instruction.specs.Table.{Place, reg, num, mark, rowNamed}
+use Rattle.instruction.specs.Operands.{Instruction, readRegister, readIdentifier, markByte, Operands, separatorByte, separatorRefusal, noOperands, withRegister, withNumber, readPlace, readOperands, made, readRow, readMnemonic, readInstruction, behind}
 use Rattle.instruction.specs.Fits.{placesOf, Regs, numberField, hasNumber, Fits}
 use Rattle.instruction.proofs.Rows.{named-row}
 use Rattle.instruction.proofs.Results.{not-refused, test-value, option-value, result-value, through-value, whenSome, each-take, each-drop}
@@ -45,9 +45,8 @@ read-operands (num bit width signed ∷ ps) (t ∷ ts) o h e =
     let (z, f, e) = result-value (readNumber t) _ o e in
     let (o′, e, q) = through-value (withNumber z) (λ o. record { registers = o .registers; number = some z }) (λ o. refl) (λ k. refl) _ o e in
     subst (Fitting (num bit width signed ∷ ps)) q (read-operands ps ts o′ (both (numberedToken t) _ h .1) e .0, refl)
-read-operands (comma-place ∷ ps) (t ∷ ts) o h e = read-operands ps ts o (both (numberedToken t) _ h .1) (test-value (eqb (markByte t) 44) _ 19 o e .1)
-read-operands (opening-place ∷ ps) (t ∷ ts) o h e = read-operands ps ts o (both (numberedToken t) _ h .1) (test-value (eqb (markByte t) 40) _ 20 o e .1)
-read-operands (closing-place ∷ ps) (t ∷ ts) o h e = read-operands ps ts o (both (numberedToken t) _ h .1) (test-value (eqb (markByte t) 41) _ 21 o e .1)
+read-operands (mark m ∷ ps) (t ∷ ts) o h e =
+    read-operands ps ts o (both (numberedToken t) _ h .1) (test-value (eqb (markByte t) (separatorByte m)) _ (separatorRefusal m) o e .1)
 
 -- ---- an instruction
 

@@ -6,8 +6,13 @@ use mathlib.Core.Bool.{Bool, true, false, true≢false}
 use mathlib.Core.Option.{Option, none, some}
 use mathlib.Core.List.{List, [], _∷_}
 use lib.ListN.{take, drop}
+use lib.IntN.{ℤ}
 use Rattle.text_lexical.specs.Bytes.{Result, value, refused, isSome, each}
+use Rattle.text_lexical.specs.Contracts.{wholeFor}
+use Rattle.text_lexical.specs.declared.number.Whole.{Whole}
 use Rattle.text_lexical.proofs.Tests.{both, and-both}
+use Rattle.text.specs.Contracts.{extractFor}
+use Rattle.text.specs.declared.parser.Extracted.the-variants.{Number as Extract}
 
 -- ---- what a value tells of the tests before it
 
@@ -32,6 +37,11 @@ pub result-value : {A B : Type 0} (r : Result A) (f : A → Result B) (b : B)
     → _≡_ {A = Result B} (elim r [ value a ↦ f a | refused k ↦ refused k ]) (value b) → (a : A) × (r ≡ value a) × (f a ≡ value b)
 result-value (value a) f b e = (a, refl, e)
 result-value (refused k) f b e = not-refused e
+
+-- A number that was taken from a token is the one that the token is read as.
+pub extracted-is : {w : Whole} (x : Result ℤ) → Extract w ≡ extractFor x → (z : ℤ) × ((x ≡ value z) × (w ≡ wholeFor z))
+extracted-is (value z) e = (z, (refl, cc))
+extracted-is (refused n) e = absurd (let z : _≡_ {A = ℕ} 0 1 = cc in omega arith)
 
 -- What is not there is missing.
 pub nothing : {A : Type 0} (o : Option A) → isSome o ≡ false → o ≡ none

@@ -12,7 +12,7 @@ use Rattle.text_lexical.specs.Bytes.{bytes, between, letter, digit, nameStart, 
 use Rattle.text_lexical.proofs.Tests.{both, between-true}
 use Rattle.text_lexical.proofs.Strings.{every-head, every-tail, same-eq, eq-same, found}
 use Rattle.text.specs.Tokens.{isIdentifier}
-use Rattle.instruction.specs.Table.{Place, reg, num, comma-place, opening-place, closing-place, places, Row, row, table, rowNamed, rowCoded}
+use Rattle.instruction.specs.Table.{Place, reg, num, mark, places, Row, row, table, rowNamed, rowCoded}
 use Rattle.instruction.specs.Fits.{InTable, placesOf, numberField, widthOf, numberWidth}
 
 -- "fifty mnemonics"
@@ -57,18 +57,14 @@ unfoldable pub marked : List Place → Bool
 marked [] = true
 marked (reg bit ∷ ps) = false
 marked (num bit width signed ∷ ps) = false
-marked (comma-place ∷ ps) = true
-marked (opening-place ∷ ps) = true
-marked (closing-place ∷ ps) = true
+marked (mark m ∷ ps) = true
 
 -- A register or a number is followed by a mark or by nothing.
 unfoldable pub apart : List Place → Bool
 apart [] = true
 apart (reg bit ∷ ps) = elim (marked ps) [ true ↦ apart ps | false ↦ false ]
 apart (num bit width signed ∷ ps) = elim (marked ps) [ true ↦ apart ps | false ↦ false ]
-apart (comma-place ∷ ps) = apart ps
-apart (opening-place ∷ ps) = apart ps
-apart (closing-place ∷ ps) = apart ps
+apart (mark m ∷ ps) = apart ps
 
 -- What is asked of each row.
 rule : Row → Bool

@@ -24,10 +24,10 @@ use Rattle.text.specs.Lines.{Line, kept, lineOf, readLine}
 use Rattle.text.specs.NameSets.{Naming}
 use Rattle.text.proofs.Tokens.{Within64, tokens-nil, reads-identifier, reads-register, reads-decimal, reads-comma, reads-opening, reads-closing, reads-space}
 use Rattle.text.proofs.Lines.{visible, high-visible, high-plain, decimal-visible, Closed, closed-append, closed-every, decimal-closed, Trimmed, read-visible}
-use Rattle.instruction.specs.Table.{Place, reg, num, comma-place, opening-place, closing-place, I, places, Row, row, table, rowCoded}
+use Rattle.instruction.specs.Table.{Place, reg, num, mark, a-comma, an-opening, a-closing, I, places, Row, row, table, rowCoded}
 use Rattle.instruction.specs.Operands.{Instruction, readRegister, readIdentifier, markByte, noOperands, withRegister, withNumber, readPlace, readOperands, made, readRow, readMnemonic, readInstruction}
 use Rattle.instruction.specs.Words.{fieldAt, registersIn, numberIn, unusedFrom, taken, instructionOf}
-use Rattle.instruction.specs.Text.{registerText, numberText, placesText, operandsText, instructionText}
+use Rattle.instruction.specs.Text.{registerText, numberText, separatorText, placesText, operandsText, instructionText}
 use Rattle.instruction.specs.Fits.{InTable, placesOf, Regs, NumberField, numberField, hasNumber, widthOf, numberWidth, Fits, reducedIn, reducedTo}
 use Rattle.instruction.proofs.Rows.{lowerCase, marked, apart, carried, row-facts}
 use Rattle.instruction.proofs.Results.{nothing}
@@ -42,9 +42,9 @@ placesTokens (reg bit ∷ ps) [] n = placesTokens ps [] n
 placesTokens (reg bit ∷ ps) (r ∷ rs) n = register (some r) ∷ placesTokens ps rs n
 placesTokens (num bit width signed ∷ ps) rs none = placesTokens ps rs none
 placesTokens (num bit width signed ∷ ps) rs (some z) = number z ∷ placesTokens ps rs (some z)
-placesTokens (comma-place ∷ ps) rs n = comma ∷ placesTokens ps rs n
-placesTokens (opening-place ∷ ps) rs n = opening ∷ placesTokens ps rs n
-placesTokens (closing-place ∷ ps) rs n = closing ∷ placesTokens ps rs n
+placesTokens (mark a-comma ∷ ps) rs n = comma ∷ placesTokens ps rs n
+placesTokens (mark an-opening ∷ ps) rs n = opening ∷ placesTokens ps rs n
+placesTokens (mark a-closing ∷ ps) rs n = closing ∷ placesTokens ps rs n
 
 -- The tokens of an instruction's operands.
 unfoldable pub operandTokens : Instruction → List Token
@@ -63,9 +63,9 @@ places-count (reg bit ∷ ps) [] n f g = absurd f
 places-count (reg bit ∷ ps) (r ∷ rs) n f g = ap suc (places-count ps rs n (f .1) g)
 places-count (num bit width signed ∷ ps) rs none f g = absurd (true≢false (sym (g refl)))
 places-count (num bit width signed ∷ ps) rs (some z) f g = ap suc (places-count ps rs (some z) f (λ h. refl))
-places-count (comma-place ∷ ps) rs n f g = ap suc (places-count ps rs n f g)
-places-count (opening-place ∷ ps) rs n f g = ap suc (places-count ps rs n f g)
-places-count (closing-place ∷ ps) rs n f g = ap suc (places-count ps rs n f g)
+places-count (mark a-comma ∷ ps) rs n f g = ap suc (places-count ps rs n f g)
+places-count (mark an-opening ∷ ps) rs n f g = ap suc (places-count ps rs n f g)
+places-count (mark a-closing ∷ ps) rs n f g = ap suc (places-count ps rs n f g)
 
 -- A number, where there is a place for one.
 keptIn : Option NumberField → Option ℤ → Option ℤ
@@ -87,9 +87,9 @@ places-read (reg bit ∷ ps) [] n f g = absurd f
 places-read (reg bit ∷ ps) (r ∷ rs) n f g = rw (places-read ps rs n (f .1) g)
 places-read (num bit width signed ∷ ps) rs none f g = absurd (true≢false (sym (g refl)))
 places-read (num bit width signed ∷ ps) rs (some z) f g = rw (places-read ps rs (some z) f (λ h. refl))
-places-read (comma-place ∷ ps) rs n f g = places-read ps rs n f g
-places-read (opening-place ∷ ps) rs n f g = places-read ps rs n f g
-places-read (closing-place ∷ ps) rs n f g = places-read ps rs n f g
+places-read (mark a-comma ∷ ps) rs n f g = places-read ps rs n f g
+places-read (mark an-opening ∷ ps) rs n f g = places-read ps rs n f g
+places-read (mark a-closing ∷ ps) rs n f g = places-read ps rs n f g
 
 -- A token is no colon.
 unfoldable pub noColon : Token → Bool
@@ -102,9 +102,9 @@ places-no-colon (reg bit ∷ ps) [] n = places-no-colon ps [] n
 places-no-colon (reg bit ∷ ps) (r ∷ rs) n = places-no-colon ps rs n
 places-no-colon (num bit width signed ∷ ps) rs none = places-no-colon ps rs none
 places-no-colon (num bit width signed ∷ ps) rs (some z) = places-no-colon ps rs (some z)
-places-no-colon (comma-place ∷ ps) rs n = places-no-colon ps rs n
-places-no-colon (opening-place ∷ ps) rs n = places-no-colon ps rs n
-places-no-colon (closing-place ∷ ps) rs n = places-no-colon ps rs n
+places-no-colon (mark a-comma ∷ ps) rs n = places-no-colon ps rs n
+places-no-colon (mark an-opening ∷ ps) rs n = places-no-colon ps rs n
+places-no-colon (mark a-closing ∷ ps) rs n = places-no-colon ps rs n
 
 -- No operand is a colon, so a mnemonic before operands is no label.
 pub no-colon : (i : Instruction) → each noColon (operandTokens i) ≡ true
@@ -195,19 +195,19 @@ places-visible [] rs n = refl
 places-visible (reg bit ∷ ps) [] n = places-visible ps [] n
 places-visible (reg bit ∷ ps) (r ∷ rs) n = every-append visible (decimal r) (placesText ps rs n) (decimal-visible r) (places-visible ps rs n)
 places-visible (num bit width signed ∷ ps) rs n = every-append visible (numberText n) (placesText ps rs n) (number-visible n) (places-visible ps rs n)
-places-visible (comma-place ∷ ps) rs n = places-visible ps rs n
-places-visible (opening-place ∷ ps) rs n = places-visible ps rs n
-places-visible (closing-place ∷ ps) rs n = places-visible ps rs n
+places-visible (mark a-comma ∷ ps) rs n = places-visible ps rs n
+places-visible (mark an-opening ∷ ps) rs n = places-visible ps rs n
+places-visible (mark a-closing ∷ ps) rs n = places-visible ps rs n
 
 -- Behind a comma something follows.
 closes : List Place → Bool
 closes [] = true
 closes (reg bit ∷ ps) = closes ps
 closes (num bit width signed ∷ ps) = closes ps
-closes (comma-place ∷ []) = false
-closes (comma-place ∷ p ∷ ps) = closes (p ∷ ps)
-closes (opening-place ∷ ps) = closes ps
-closes (closing-place ∷ ps) = closes ps
+closes (mark a-comma ∷ []) = false
+closes (mark a-comma ∷ p ∷ ps) = closes (p ∷ ps)
+closes (mark an-opening ∷ ps) = closes ps
+closes (mark a-closing ∷ ps) = closes ps
 
 -- The text of no places is empty, and the text of places ends in no edge.
 Ending : List Place → List ℕ → Type 0
@@ -226,19 +226,17 @@ places-ending (reg bit ∷ ps) [] n f g h = absurd f
 places-ending (reg bit ∷ ps) (r ∷ rs) n f g h = closed-before ps (114 ∷ decimal r) _ (closed-append (114 ∷ []) _ (decimal-closed r)) (places-ending ps rs n (f .1) g h)
 places-ending (num bit width signed ∷ ps) rs none f g h = absurd (true≢false (sym (g refl)))
 places-ending (num bit width signed ∷ ps) rs (some z) f g h = closed-before ps (signedDecimal z) _ (number-closed z) (places-ending ps rs (some z) f (λ h. refl) h)
-places-ending (comma-place ∷ []) rs n f g h = absurd (true≢false (sym h))
-places-ending (comma-place ∷ p ∷ ps) rs n f g h = closed-append (44 ∷ 32 ∷ []) _ (places-ending (p ∷ ps) rs n f g h)
-places-ending (opening-place ∷ ps) rs n f g h = closed-before ps (40 ∷ []) _ (closed-byte 40 (omega arith)) (places-ending ps rs n f g h)
-places-ending (closing-place ∷ ps) rs n f g h = closed-before ps (41 ∷ []) _ (closed-byte 41 (omega arith)) (places-ending ps rs n f g h)
+places-ending (mark a-comma ∷ []) rs n f g h = absurd (true≢false (sym h))
+places-ending (mark a-comma ∷ p ∷ ps) rs n f g h = closed-append (44 ∷ 32 ∷ []) _ (places-ending (p ∷ ps) rs n f g h)
+places-ending (mark an-opening ∷ ps) rs n f g h = closed-before ps (40 ∷ []) _ (closed-byte 40 (omega arith)) (places-ending ps rs n f g h)
+places-ending (mark a-closing ∷ ps) rs n f g h = closed-before ps (41 ∷ []) _ (closed-byte 41 (omega arith)) (places-ending ps rs n f g h)
 
 -- How many bytes the operands take at most, where the number takes so many.
 placesRoom : ℕ → List Place → ℕ
 placesRoom m [] = 0
 placesRoom m (reg bit ∷ ps) = 3 + placesRoom m ps
 placesRoom m (num bit width signed ∷ ps) = m + placesRoom m ps
-placesRoom m (comma-place ∷ ps) = 2 + placesRoom m ps
-placesRoom m (opening-place ∷ ps) = 1 + placesRoom m ps
-placesRoom m (closing-place ∷ ps) = 1 + placesRoom m ps
+placesRoom m (mark s ∷ ps) = length (separatorText s) + placesRoom m ps
 
 places-length : (ps : List Place) (rs : List ℕ) (n : Option ℤ) (m : ℕ) → Regs ps rs → length (numberText n) ≤ m → length (placesText ps rs n) ≤ placesRoom m ps
 unfolding placesText registerText placesRoom Regs
@@ -246,9 +244,7 @@ places-length [] rs n m f l = omega arith
 places-length (reg bit ∷ ps) [] n m f l = absurd f
 places-length (reg bit ∷ ps) (r ∷ rs) n m f l = rw length-append (omega (arith, decimal-length 1 r (omega arith), places-length ps rs n m (f .1) l))
 places-length (num bit width signed ∷ ps) rs n m f l = rw length-append (omega (arith, places-length ps rs n m f l))
-places-length (comma-place ∷ ps) rs n m f l = omega (arith, places-length ps rs n m f l)
-places-length (opening-place ∷ ps) rs n m f l = omega (arith, places-length ps rs n m f l)
-places-length (closing-place ∷ ps) rs n m f l = omega (arith, places-length ps rs n m f l)
+places-length (mark s ∷ ps) rs n m f l = rw length-append (omega (arith, places-length ps rs n m f l))
 
 -- A mark comes next, or nothing, so what stands before is read whole.
 ends-marked : (ps : List Place) (rs : List ℕ) (n : Option ℤ) → marked ps ≡ true → ends namePart (placesText ps rs n) ≡ true
@@ -256,9 +252,9 @@ unfolding marked placesText ends namePart nameStart letter digit between
 ends-marked [] rs n h = refl
 ends-marked (reg bit ∷ ps) rs n h = absurd (true≢false (sym h))
 ends-marked (num bit width signed ∷ ps) rs n h = absurd (true≢false (sym h))
-ends-marked (comma-place ∷ ps) rs n h = refl
-ends-marked (opening-place ∷ ps) rs n h = refl
-ends-marked (closing-place ∷ ps) rs n h = refl
+ends-marked (mark a-comma ∷ ps) rs n h = refl
+ends-marked (mark an-opening ∷ ps) rs n h = refl
+ends-marked (mark a-closing ∷ ps) rs n h = refl
 
 module _ (names : List Name) (N : Naming names) where
   -- The text of operands is read as their tokens.
@@ -275,10 +271,10 @@ module _ (names : List Name) (N : Naming names) where
   places-tokens (num bit width signed ∷ ps) rs (some z) a f h =
       let (m, a) = both (marked ps) (apart ps) a in
       reads-decimal names (N .identifiers) z _ h (ends-marked ps rs (some z) m) ∙ ap (infront (number z)) (places-tokens ps rs (some z) a f h)
-  places-tokens (comma-place ∷ ps) rs n a f h =
+  places-tokens (mark a-comma ∷ ps) rs n a f h =
       reads-comma names (N .identifiers) _ ∙ ap (infront comma) (reads-space names (N .identifiers) _ ∙ places-tokens ps rs n a f h)
-  places-tokens (opening-place ∷ ps) rs n a f h = reads-opening names (N .identifiers) _ ∙ ap (infront opening) (places-tokens ps rs n a f h)
-  places-tokens (closing-place ∷ ps) rs n a f h = reads-closing names (N .identifiers) _ ∙ ap (infront closing) (places-tokens ps rs n a f h)
+  places-tokens (mark an-opening ∷ ps) rs n a f h = reads-opening names (N .identifiers) _ ∙ ap (infront opening) (places-tokens ps rs n a f h)
+  places-tokens (mark a-closing ∷ ps) rs n a f h = reads-closing names (N .identifiers) _ ∙ ap (infront closing) (places-tokens ps rs n a f h)
 
   -- The tokens of a mnemonic and of operands behind it.
   operands-tokens : (m : List ℕ) (ps : List Place) (rs : List ℕ) (n : Option ℤ) → isIdentifier m ≡ true → isRegister names m ≡ false

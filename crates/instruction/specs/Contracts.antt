@@ -13,7 +13,7 @@ use Rattle.text_lexical.specs.Contracts.{keyOf, indexOf, registerAt, wholeMeant
 use Rattle.text_lexical.specs.declared.register.Register.{Register}
 use Rattle.text_lexical.specs.declared.register.Register.the-variants.{R0}
 use Rattle.text_lexical.specs.declared.number.Whole.{Whole}
-use Rattle.instruction.specs.Table.{Place, reg, num, comma-place, opening-place, closing-place, Form, R, I, Shift, Load, Store, Branch, Jump, System, places, Row, table, rowNamed}
+use Rattle.instruction.specs.Table.{Place, reg, num, mark, Form, R, I, Shift, Load, Store, Branch, Jump, System, places, Row, table, rowNamed}
 use Rattle.instruction.specs.Operands.{Instruction as Meant, Operands as MeantOperands}
 use Rattle.instruction.specs.declared.instruction.Instruction.{Instruction}
 use Rattle.instruction.specs.declared.instruction.Instruction.the-variants.{Add, Sub, Mul, Mulh, Divu, Remu, Div, Rem, Addi, And, Or, Xor, Andi, Ori, Xori, Sll, Srl, Sra, Slli, Srli, Srai, Sltu, Sgeu, Slt, Sge, Seq, Sne, Cmov, Cmovz, Cmovnz, Lb, Lbu, Lh, Lhu, Lw, Ld, Sb, Sh, Sw, Sd, Beq, Bne, Blt, Bge, Bltu, Bgeu, Jal, Jalr, Ecall, Ebreak}
@@ -88,6 +88,10 @@ noNumber = record { negative = false; magnitude = 0 }
 
 abbrev pub operands : Register → Register → Register → Whole → Operands
 operands a b c n = record { first = a; second = b; third = c; number = n }
+
+-- Operands from a list of registers.
+abbrev pub operandsWith : List Register → Whole → Operands
+operandsWith rs n = operands (getD rs 0 R0) (getD rs 1 R0) (getD rs 2 R0) n
 
 -- A mnemonic and operands.
 pub record Named : Type 0 where
@@ -167,17 +171,13 @@ registersFor [] rs = []
 registersFor (reg bit ∷ ps) [] = []
 registersFor (reg bit ∷ ps) (r ∷ rs) = r ∷ registersFor ps rs
 registersFor (num bit width signed ∷ ps) rs = registersFor ps rs
-registersFor (comma-place ∷ ps) rs = registersFor ps rs
-registersFor (opening-place ∷ ps) rs = registersFor ps rs
-registersFor (closing-place ∷ ps) rs = registersFor ps rs
+registersFor (mark m ∷ ps) rs = registersFor ps rs
 
 unfoldable pub numberFor : List Place → ℤ → Option ℤ
 numberFor [] z = none
 numberFor (num bit width signed ∷ ps) z = some z
 numberFor (reg bit ∷ ps) z = numberFor ps z
-numberFor (comma-place ∷ ps) z = numberFor ps z
-numberFor (opening-place ∷ ps) z = numberFor ps z
-numberFor (closing-place ∷ ps) z = numberFor ps z
+numberFor (mark m ∷ ps) z = numberFor ps z
 
 abbrev pub registersOf : Operands → List ℕ
 registersOf o = indexOf (o .first) ∷ indexOf (o .second) ∷ indexOf (o .third) ∷ []

@@ -8,7 +8,7 @@ use mathlib.Core.List.{List, [], _∷_}
 use lib.IntN.{ℤ}
 use Rattle.text_lexical.specs.Bytes.{isSome}
 use Rattle.text_lexical.specs.Numbers.{meantBy}
-use Rattle.instruction.specs.Table.{Place, reg, num, comma-place, opening-place, closing-place, places, Row, rowNamed}
+use Rattle.instruction.specs.Table.{Place, reg, num, mark, places, Row, rowNamed}
 use Rattle.instruction.specs.Operands.{Instruction}
 use Rattle.instruction.specs.Words.{reduced}
 
@@ -27,9 +27,7 @@ Regs [] (r ∷ rs) = ⊥
 Regs (reg bit ∷ ps) [] = ⊥
 Regs (reg bit ∷ ps) (r ∷ rs) = (r < 16) × Regs ps rs
 Regs (num bit width signed ∷ ps) rs = Regs ps rs
-Regs (comma-place ∷ ps) rs = Regs ps rs
-Regs (opening-place ∷ ps) rs = Regs ps rs
-Regs (closing-place ∷ ps) rs = Regs ps rs
+Regs (mark m ∷ ps) rs = Regs ps rs
 
 -- The field of a number: its width, and whether it is read as signed.
 pub record NumberField : Type 0 where
@@ -41,9 +39,7 @@ unfoldable pub numberField : List Place → Option NumberField
 numberField [] = none
 numberField (num bit width signed ∷ ps) = some (record { width = width; signed = signed })
 numberField (reg bit ∷ ps) = numberField ps
-numberField (comma-place ∷ ps) = numberField ps
-numberField (opening-place ∷ ps) = numberField ps
-numberField (closing-place ∷ ps) = numberField ps
+numberField (mark m ∷ ps) = numberField ps
 
 -- There is one.
 unfoldable pub hasNumber : List Place → Bool

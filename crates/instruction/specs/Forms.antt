@@ -6,7 +6,8 @@ use mathlib.Core.Bool.{Bool, true, false, _||_}
 use mathlib.Core.List.{List, [], _∷_, _++_}
 use lib.ListN.{getD}
 use lib.Dec.{eqb}
-use Rattle.instruction.specs.Table.{Place, reg, num, comma-place, opening-place, closing-place, Form, R, I, Shift, Load, Store, Branch, Jump, System}
+use Rattle.instruction.specs.Table.{Separator, Place, reg, num, mark, Form, R, I, Shift, Load, Store, Branch, Jump, System}
+use Rattle.instruction.specs.Operands.{separatorByte, separatorRefusal}
 use Rattle.instruction.specs.declared.form.Mark.{Mark}
 use Rattle.instruction.specs.declared.form.Mark.the-variants.{Nothing, Is}
 
@@ -36,9 +37,7 @@ pub data OperandPlace : Bool → Place → Type 0 where
 
 -- A place for the mark of a byte, and the number by which it refuses another token.
 pub data MarkPlace : Place → ℕ → ℕ → Type 0 where
-  a-comma : MarkPlace comma-place 44 19
-  an-opening : MarkPlace opening-place 40 20
-  a-closing : MarkPlace closing-place 41 21
+  a-mark : (m : Separator) → MarkPlace (mark m) (separatorByte m) (separatorRefusal m)
 
 -- The place of a mark that follows an operand, if one does.
 pub data MarkPlaces : Mark → List Place → Type 0 where

@@ -10,7 +10,7 @@ use Rattle.text_lexical.specs.Bytes.{Result, value, refused, lower}
 use Rattle.text.specs.Tokens.{Token, identifier, register, number, hex, binary, directive, comma, colon, opening, closing}
 use Rattle.text.specs.Values.{readNumber}
 use Rattle.text.specs.Lines.{Line}
-use Rattle.instruction.specs.Table.{Place, reg, num, comma-place, opening-place, closing-place, places, Row, rowNamed}
+use Rattle.instruction.specs.Table.{Separator, a-comma, an-opening, a-closing, Place, reg, num, mark, places, Row, rowNamed}
 
 -- "each has its mnemonic, lowered, the number of the register in each place its form names, and, where the form has one, the
 -- number its operand means": the mnemonic's row, the registers in operand order, and the number, not yet reduced.
@@ -78,14 +78,22 @@ unfoldable pub withNumber : ℤ → Result Operands → Result Operands
 withNumber z (value o) = value (record { registers = o .registers; number = some z })
 withNumber z (refused k) = refused k
 
+-- The byte of a mark between operands, and "19 comma, 20 `(`, 21 `)` expected".
+abbrev pub separatorByte : Separator → ℕ
+separatorByte a-comma = 44
+separatorByte an-opening = 40
+separatorByte a-closing = 41
+
+abbrev pub separatorRefusal : Separator → ℕ
+separatorRefusal a-comma = 19
+separatorRefusal an-opening = 20
+separatorRefusal a-closing = 21
+
 -- A token at a place, before what follows it: "operands left to right", so its own refusal comes first.
 unfoldable pub readPlace : Place → Token → Result Operands → Result Operands
 readPlace (reg bit) t rest = elim (readRegister t) [ value n ↦ withRegister n rest | refused k ↦ refused k ]
 readPlace (num bit width signed) t rest = elim (readNumber t) [ value z ↦ withNumber z rest | refused k ↦ refused k ]
--- "19 comma, 20 `(`, 21 `)` expected"
-readPlace comma-place t rest = elim (eqb (markByte t) 44) [ true ↦ rest | false ↦ refused 19 ]
-readPlace opening-place t rest = elim (eqb (markByte t) 40) [ true ↦ rest | false ↦ refused 20 ]
-readPlace closing-place t rest = elim (eqb (markByte t) 41) [ true ↦ rest | false ↦ refused 21 ]
+readPlace (mark m) t rest = elim (eqb (markByte t) (separatorByte m)) [ true ↦ rest | false ↦ refused (separatorRefusal m) ]
 
 -- The tokens at the places of a form. (That there are as many of them is tested before.)
 unfoldable pub readOperands : List Place → List Token → Result Operands

@@ -7,12 +7,16 @@ use mathlib.Core.List.{List, [], _∷_}
 use lib.Dec.{eqb}
 use Rattle.text_lexical.specs.Bytes.{bytes, same, find}
 
+-- The marks between operands.
+pub data Separator : Type 0 where
+  a-comma an-opening a-closing : Separator
+
 -- What stands at a place of a form: a register, whose number goes to a bit and the three above it ("Registers are 4 bits
 -- wide"); a number, which goes to a bit and takes so many bits, and is listed as signed or not; or a mark.
 pub data Place : Type 0 where
   reg : (bit : ℕ) → Place
   num : (bit width : ℕ) (signed : Bool) → Place
-  comma-place opening-place closing-place : Place
+  mark : Separator → Place
 
 pub data Form : Type 0 where
   R I Shift Load Store Branch Jump System : Form
@@ -20,19 +24,19 @@ pub data Form : Type 0 where
 -- The places of a form, left to right. "Operand tokens: 5, loads and stores 6, jal 3, ecall and ebreak none."
 unfoldable pub places : Form → List Place
 -- "R forms `rd, rs1, rs2`: bits 7, 11, 15 up"
-places R = reg 7 ∷ comma-place ∷ reg 11 ∷ comma-place ∷ reg 15 ∷ []
+places R = reg 7 ∷ mark a-comma ∷ reg 11 ∷ mark a-comma ∷ reg 15 ∷ []
 -- "`rd, rs1, n`: 7, 11; n modulo 2^17 at 15"
-places I = reg 7 ∷ comma-place ∷ reg 11 ∷ comma-place ∷ num 15 17 true ∷ []
+places I = reg 7 ∷ mark a-comma ∷ reg 11 ∷ mark a-comma ∷ num 15 17 true ∷ []
 -- "slli srli srai: n modulo 256"; listed from 0 to 255
-places Shift = reg 7 ∷ comma-place ∷ reg 11 ∷ comma-place ∷ num 15 8 false ∷ []
+places Shift = reg 7 ∷ mark a-comma ∷ reg 11 ∷ mark a-comma ∷ num 15 8 false ∷ []
 -- "loads `rd, n(rs1)`: as addi"
-places Load = reg 7 ∷ comma-place ∷ num 15 17 true ∷ opening-place ∷ reg 11 ∷ closing-place ∷ []
+places Load = reg 7 ∷ mark a-comma ∷ num 15 17 true ∷ mark an-opening ∷ reg 11 ∷ mark a-closing ∷ []
 -- "stores `rs2, n(rs1)`: rs1 at 7, rs2 at 11, n at 15"
-places Store = reg 11 ∷ comma-place ∷ num 15 17 true ∷ opening-place ∷ reg 7 ∷ closing-place ∷ []
+places Store = reg 11 ∷ mark a-comma ∷ num 15 17 true ∷ mark an-opening ∷ reg 7 ∷ mark a-closing ∷ []
 -- "branches `rs1, rs2, n`: 7, 11, n at 15"
-places Branch = reg 7 ∷ comma-place ∷ reg 11 ∷ comma-place ∷ num 15 17 true ∷ []
+places Branch = reg 7 ∷ mark a-comma ∷ reg 11 ∷ mark a-comma ∷ num 15 17 true ∷ []
 -- "jal `rd, n`: rd at 7, n modulo 2^21 at 11"
-places Jump = reg 7 ∷ comma-place ∷ num 11 21 true ∷ []
+places Jump = reg 7 ∷ mark a-comma ∷ num 11 21 true ∷ []
 -- "ecall, ebreak: rest zero"
 places System = []
 

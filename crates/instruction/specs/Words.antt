@@ -7,7 +7,7 @@ use lib.Dec.{ltb}
 use lib.IntN.{ℤ}
 use Rattle.text_lexical.specs.Bytes.{Result, value, refused}
 use Rattle.text_lexical.specs.Numbers.{residue, meantBy}
-use Rattle.instruction.specs.Table.{Place, reg, num, comma-place, opening-place, closing-place, places, Row, rowCoded}
+use Rattle.instruction.specs.Table.{Place, reg, num, mark, places, Row, rowCoded}
 use Rattle.instruction.specs.Operands.{Instruction}
 
 -- ---- from an instruction to its word
@@ -28,9 +28,7 @@ fields [] rs n = 0
 fields (reg bit ∷ ps) [] n = fields ps [] n
 fields (reg bit ∷ ps) (r ∷ rs) n = r * 2 ^ bit + fields ps rs n
 fields (num bit width signed ∷ ps) rs n = reduced width n * 2 ^ bit + fields ps rs n
-fields (comma-place ∷ ps) rs n = fields ps rs n
-fields (opening-place ∷ ps) rs n = fields ps rs n
-fields (closing-place ∷ ps) rs n = fields ps rs n
+fields (mark m ∷ ps) rs n = fields ps rs n
 
 -- "Bits 6:0 are the opcode"
 unfoldable pub wordOf : Instruction → ℕ
@@ -46,26 +44,20 @@ unfoldable pub registersIn : ℕ → List Place → List ℕ
 registersIn w [] = []
 registersIn w (reg bit ∷ ps) = fieldAt w bit 4 ∷ registersIn w ps
 registersIn w (num bit width signed ∷ ps) = registersIn w ps
-registersIn w (comma-place ∷ ps) = registersIn w ps
-registersIn w (opening-place ∷ ps) = registersIn w ps
-registersIn w (closing-place ∷ ps) = registersIn w ps
+registersIn w (mark m ∷ ps) = registersIn w ps
 
 unfoldable pub numberIn : ℕ → List Place → Option ℤ
 numberIn w [] = none
 numberIn w (num bit width signed ∷ ps) = some (meantBy signed width (fieldAt w bit width))
 numberIn w (reg bit ∷ ps) = numberIn w ps
-numberIn w (comma-place ∷ ps) = numberIn w ps
-numberIn w (opening-place ∷ ps) = numberIn w ps
-numberIn w (closing-place ∷ ps) = numberIn w ps
+numberIn w (mark m ∷ ps) = numberIn w ps
 
 -- The lowest bit above the opcode and all fields: it and those above it are unused. ("31:19 zero", "31:23 zero", "rest zero")
 unfoldable pub unusedFrom : List Place → ℕ
 unusedFrom [] = 7
 unusedFrom (reg bit ∷ ps) = max (bit + 4) (unusedFrom ps)
 unusedFrom (num bit width signed ∷ ps) = max (bit + width) (unusedFrom ps)
-unusedFrom (comma-place ∷ ps) = unusedFrom ps
-unusedFrom (opening-place ∷ ps) = unusedFrom ps
-unusedFrom (closing-place ∷ ps) = unusedFrom ps
+unusedFrom (mark m ∷ ps) = unusedFrom ps
 
 unfoldable pub taken : Row → ℕ → Instruction
 taken r w = record { row = r; registers = registersIn w (places (r .form)); number = numberIn w (places (r .form)) }

@@ -2,7 +2,7 @@
 ghost use mathlib.Core.Path.{_≡_};
 ghost use Prim.Native.Nat.{_<_};
 ghost use mathlib.Core.Bool.{false};
-ghost use Rattle.instruction.specs.Contracts.{rowAt, keep, partsOf, instructionMeant, partsMeant};
+ghost use Rattle.instruction.specs.Contracts.{operandsWith, rowAt, keep, partsOf, instructionMeant, partsMeant};
 use crate::opcode;
 use text_lexical::number::Whole;
 use text_lexical::register::Register;
@@ -275,6 +275,20 @@ pub fn no_number() -> Whole
     Whole {
         negative: false,
         magnitude: 0,
+    }
+}
+
+impl Operands {
+    // The operands of a line, from three registers and a number.
+    pub fn new(registers: [Register; 3], number: Whole) -> Operands
+        ensures { λ r. ⌜ r ≡ operandsWith registers number ⌝ }
+    {
+        Operands {
+            first: registers[0],
+            second: registers[1],
+            third: registers[2],
+            number,
+        }
     }
 }
 

@@ -43,10 +43,6 @@ module _ (i a b : ℕ) where
     unfolding formWord places fields reduced
     word-store r = rw (← r .at-width 17 refl) (omega arith)
 
-    pub word-branch : Reduced 0x20000 z v → formWord Branch i (a ∷ b ∷ []) (some z) ≡ rowAt i .opcode + (a * 0x80 + b * 0x800 + v * 0x8000)
-    unfolding formWord places fields reduced
-    word-branch r = rw (← r .at-width 17 refl) (omega arith)
-
   -- One register and a number of twenty-one bits.
   pub word-jump : (v : ℕ) (z : ℤ) → Reduced 0x200000 z v → formWord Jump i (a ∷ []) (some z) ≡ rowAt i .opcode + (a * 0x80 + v * 0x800)
   unfolding formWord places fields reduced

@@ -12,11 +12,11 @@ use Rattle.text_lexical.specs.declared.number.Whole.{Whole}
 use Rattle.instruction.specs.Table.{R, I, Load, Jump, places}
 use Rattle.instruction.specs.Text.{registerText, numberText, placesText, operandsText}
 use Rattle.instruction.specs.Contracts.{rowAt}
-use Rattle.instruction_codec.specs.Contracts.{firstText, pairText, baseText, formText}
+use Rattle.instruction_codec.specs.Contracts.{startText, twoText, addressText, formText}
 
 module _ (i : ℕ) where
   module _ (a b c : Register) where
-    pub r-type-text : formText R i (indexOf a ∷ indexOf b ∷ indexOf c ∷ []) none ≡ rowAt i .mnemonic ++ (pairText a b ++ registerText (indexOf c))
+    pub r-type-text : formText R i (indexOf a ∷ indexOf b ∷ indexOf c ∷ []) none ≡ twoText i a b ++ registerText (indexOf c)
     unfolding formText operandsText placesText places
     r-type-text = simp (append-assoc, append-nil)
 
@@ -25,7 +25,7 @@ module _ (i : ℕ) where
     r-type-length = ap length r-type-text ∙ simp length-append (omega arith)
 
   module _ (a b : Register) (n : Whole) where
-    pub i-type-text : formText I i (indexOf a ∷ indexOf b ∷ []) (some (wholeMeant n)) ≡ rowAt i .mnemonic ++ (pairText a b ++ signedDecimal (wholeMeant n))
+    pub i-type-text : formText I i (indexOf a ∷ indexOf b ∷ []) (some (wholeMeant n)) ≡ twoText i a b ++ signedDecimal (wholeMeant n)
     unfolding formText operandsText placesText places numberText
     i-type-text = simp (append-assoc, append-nil)
 
@@ -33,7 +33,7 @@ module _ (i : ℕ) where
         ≡ length (rowAt i .mnemonic) + (5 + length (registerText (indexOf a)) + length (registerText (indexOf b)) + length (signedDecimal (wholeMeant n)))
     i-type-length = ap length i-type-text ∙ simp length-append (omega arith)
 
-    pub memory-text : formText Load i (indexOf a ∷ indexOf b ∷ []) (some (wholeMeant n)) ≡ rowAt i .mnemonic ++ (firstText a ++ (signedDecimal (wholeMeant n) ++ baseText b))
+    pub memory-text : formText Load i (indexOf a ∷ indexOf b ∷ []) (some (wholeMeant n)) ≡ startText i a ++ addressText n b
     unfolding formText operandsText placesText places numberText
     memory-text = simp append-assoc
 
@@ -42,7 +42,7 @@ module _ (i : ℕ) where
     memory-length = ap length memory-text ∙ simp length-append (omega (arith, i-type-length))
 
   module _ (a : Register) (n : Whole) where
-    pub j-type-text : formText Jump i (indexOf a ∷ []) (some (wholeMeant n)) ≡ rowAt i .mnemonic ++ (firstText a ++ signedDecimal (wholeMeant n))
+    pub j-type-text : formText Jump i (indexOf a ∷ []) (some (wholeMeant n)) ≡ startText i a ++ signedDecimal (wholeMeant n)
     unfolding formText operandsText placesText places numberText
     j-type-text = simp (append-assoc, append-nil)
 

@@ -6,9 +6,10 @@ use mathlib.Core.Option.{Option}
 use mathlib.Core.List.{List, [], _∷_, _++_}
 use lib.IntN.{ℤ}
 use Rattle.text_lexical.specs.Bytes.{Result, value, refused}
-use Rattle.text_lexical.specs.Numbers.{meantBy}
+use Rattle.text_lexical.specs.Numbers.{meantBy, signedDecimal}
 use Rattle.text_lexical.specs.Contracts.{indexOf, wholeMeant, wholeFor}
 use Rattle.text_lexical.specs.declared.register.Register.{Register}
+use Rattle.text_lexical.specs.declared.number.Whole.{Whole}
 use Rattle.instruction.specs.Table.{Form, places}
 use Rattle.instruction.specs.Operands.{Instruction as Meant}
 use Rattle.instruction.specs.Text.{registerText, operandsText}
@@ -50,19 +51,26 @@ pub record Signed (modulus field : ℕ) (z : ℤ) : Type 0 where
 
 -- ---- texts in a buffer
 
--- A register with a comma and a space after it; with the space before the operands; and two registers.
+-- A register with a comma and a space after it; and with the space before the operands.
 abbrev pub nextText : Register → List ℕ
 nextText r = registerText (indexOf r) ++ (44 ∷ 32 ∷ [])
 
 abbrev pub firstText : Register → List ℕ
 firstText r = 32 ∷ nextText r
 
-abbrev pub pairText : Register → Register → List ℕ
-pairText a b = firstText a ++ nextText b
-
 -- A register in brackets.
 abbrev pub baseText : Register → List ℕ
 baseText r = 40 ∷ (registerText (indexOf r) ++ (41 ∷ []))
+
+-- The mnemonic of a row with one register, and with two; and a number with a register in brackets.
+abbrev pub startText : ℕ → Register → List ℕ
+startText row a = rowAt row .mnemonic ++ firstText a
+
+abbrev pub twoText : ℕ → Register → Register → List ℕ
+twoText row a b = startText row a ++ nextText b
+
+abbrev pub addressText : Whole → Register → List ℕ
+addressText n b = signedDecimal (wholeMeant n) ++ baseText b
 
 -- The text of a form's registers and number, with the mnemonic of a row.
 unfoldable pub formText : Form → ℕ → List ℕ → Option ℤ → List ℕ

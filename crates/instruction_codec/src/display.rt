@@ -11,7 +11,7 @@ ghost use Rattle.text_writer.specs.Contracts.{Written};
 ghost use Rattle.instruction.specs.Table.{R, I, Load, Jump};
 ghost use Rattle.instruction.specs.Text.{registerText};
 ghost use Rattle.instruction.specs.Contracts.{mnemonicKeys, rowAt};
-ghost use Rattle.instruction_codec.specs.Contracts.{nextText, firstText, pairText, baseText, formText};
+ghost use Rattle.instruction_codec.specs.Contracts.{nextText, firstText, baseText, startText, twoText, addressText, formText};
 use text_lexical::number::Whole;
 use text_lexical::register::Register;
 
@@ -120,13 +120,44 @@ pub fn write_mnemonic(out: &mut [u8], at: usize, row: usize, mnemonics: &[u64; 5
     place
 }
 
-// Two registers in front of the last operand.
-fn write_pair(out: &mut [u8], at: usize, first: Register, second: Register) -> usize
-    requires { ⌜ at + length (pairText first second) ≤ length (now out) ⌝ }
-    ensures { λ r. ⌜ Written (now (out .entry)) at (pairText first second) r (now (out .exit)) ⌝ }
+// A mnemonic and its first operand, a register.
+fn write_start(
+    out: &mut [u8],
+    at: usize,
+    row: usize,
+    mnemonics: &[u64; 50],
+    first: Register,
+) -> usize
+    requires { ⌜ row < 50 ⌝ ∗ ⌜ now mnemonics ≡ mnemonicKeys ⌝ ∗ ⌜ at + length (startText row first) ≤ length (now out) ⌝ }
+    ensures { λ r. ⌜ Written (now (out .entry)) at (startText row first) r (now (out .exit)) ⌝ }
 {
-    let place = write_first(out, at, first);
+    let place = write_mnemonic(out, at, row, mnemonics);
+    write_first(out, place, first)
+}
+
+// A mnemonic and two registers, before the last operand.
+fn write_two(
+    out: &mut [u8],
+    at: usize,
+    row: usize,
+    mnemonics: &[u64; 50],
+    first: Register,
+    second: Register,
+) -> usize
+    requires { ⌜ row < 50 ⌝ ∗ ⌜ now mnemonics ≡ mnemonicKeys ⌝ ∗ ⌜ at + length (twoText row first second) ≤ length (now out) ⌝ }
+    ensures { λ r. ⌜ Written (now (out .entry)) at (twoText row first second) r (now (out .exit)) ⌝ }
+{
+    let place = write_start(out, at, row, mnemonics, first);
     write_next(out, place, second)
+}
+
+// A number, and a register in brackets.
+fn write_address(out: &mut [u8], at: usize, number: Whole, base: Register) -> usize
+    requires { ⌜ at + length (addressText number base) ≤ length (now out) ⌝ }
+    ensures { λ r. ⌜ Written (now (out .entry)) at (addressText number base) r (now (out .exit)) ⌝ }
+{
+    let place = write_number(out, at, number);
+    write_base(out, place, base)
 }
 
 // How long the text of a mnemonic and `rd, rs1, rs2` is.
@@ -157,9 +188,8 @@ pub fn write_r_type(
     requires { ⌜ row < 50 ⌝ ∗ ⌜ now mnemonics ≡ mnemonicKeys ⌝ ∗ ⌜ at + length (formText R row (indexOf rd ∷ indexOf rs1 ∷ indexOf rs2 ∷ []) none) ≤ length (now out) ⌝ }
     ensures { λ r. ⌜ Written (now (out .entry)) at (formText R row (indexOf rd ∷ indexOf rs1 ∷ indexOf rs2 ∷ []) none) r (now (out .exit)) ⌝ }
 {
-    let first = write_mnemonic(out, at, row, mnemonics);
-    let last = write_pair(out, first, rd, rs1);
-    write_register(out, last, rs2)
+    let place = write_two(out, at, row, mnemonics, rd, rs1);
+    write_register(out, place, rs2)
 }
 
 // How long the text of a mnemonic, two registers and a number is: `rd, rs1, n` and `rd, n(rs1)` take the same.
@@ -190,9 +220,8 @@ pub fn write_i_type(
     requires { ⌜ row < 50 ⌝ ∗ ⌜ now mnemonics ≡ mnemonicKeys ⌝ ∗ ⌜ at + length (formText I row (indexOf first ∷ indexOf second ∷ []) (some (wholeMeant number))) ≤ length (now out) ⌝ }
     ensures { λ r. ⌜ Written (now (out .entry)) at (formText I row (indexOf first ∷ indexOf second ∷ []) (some (wholeMeant number))) r (now (out .exit)) ⌝ }
 {
-    let place = write_mnemonic(out, at, row, mnemonics);
-    let last = write_pair(out, place, first, second);
-    write_number(out, last, number)
+    let place = write_two(out, at, row, mnemonics, first, second);
+    write_number(out, place, number)
 }
 
 // Writes a mnemonic and a load's `rd, n(rs1)` or a store's `rs2, n(rs1)`.
@@ -208,10 +237,8 @@ pub fn write_memory(
     requires { ⌜ row < 50 ⌝ ∗ ⌜ now mnemonics ≡ mnemonicKeys ⌝ ∗ ⌜ at + length (formText Load row (indexOf register ∷ indexOf base ∷ []) (some (wholeMeant number))) ≤ length (now out) ⌝ }
     ensures { λ r. ⌜ Written (now (out .entry)) at (formText Load row (indexOf register ∷ indexOf base ∷ []) (some (wholeMeant number))) r (now (out .exit)) ⌝ }
 {
-    let first = write_mnemonic(out, at, row, mnemonics);
-    let second = write_first(out, first, register);
-    let last = write_number(out, second, number);
-    write_base(out, last, base)
+    let place = write_start(out, at, row, mnemonics, register);
+    write_address(out, place, number, base)
 }
 
 // How long the text of a mnemonic and `rd, n` is.
@@ -235,7 +262,6 @@ pub fn write_j_type(
     requires { ⌜ row < 50 ⌝ ∗ ⌜ now mnemonics ≡ mnemonicKeys ⌝ ∗ ⌜ at + length (formText Jump row (indexOf rd ∷ []) (some (wholeMeant offset))) ≤ length (now out) ⌝ }
     ensures { λ r. ⌜ Written (now (out .entry)) at (formText Jump row (indexOf rd ∷ []) (some (wholeMeant offset))) r (now (out .exit)) ⌝ }
 {
-    let first = write_mnemonic(out, at, row, mnemonics);
-    let last = write_first(out, first, rd);
-    write_number(out, last, offset)
+    let place = write_start(out, at, row, mnemonics, rd);
+    write_number(out, place, offset)
 }

@@ -5,7 +5,7 @@ ghost use mathlib.Core.List.{[], _∷_};
 ghost use Prim.Native.Nat.{suc, _+_, _*_, _/_, _%_, _^_, _≤_, _<_};
 ghost use lib.Dec.{ltb};
 ghost use Rattle.text_lexical.specs.Contracts.{indexOf, wholeMeant, wholeFor, Reduced};
-ghost use Rattle.instruction.specs.Table.{R, I, Shift, Store, Branch, Jump, System, places};
+ghost use Rattle.instruction.specs.Table.{R, I, Shift, Store, Jump, System, places};
 ghost use Rattle.instruction.specs.Words.{unusedFrom, registersIn, numberIn};
 ghost use Rattle.instruction.specs.Contracts.{rowAt, formAt, formNumbers, opcodeNumbers, numberFor, operandsMeant};
 ghost use Rattle.instruction_codec.specs.Contracts.{DecodesTo, formWord, Power, Signed};
@@ -73,7 +73,7 @@ pub fn encode_r_type(
     opcode_of(row, opcodes) + spread(rd, rs1, number_of(rs2))
 }
 
-// The word of `rd, rs1, n`. A load's `rd, n(rs1)` has the same.
+// The word of `rd, rs1, n`. A load's `rd, n(rs1)` and a branch's `rs1, rs2, n` have the same.
 pub fn encode_i_type(row: usize, opcodes: &[u8; 50], rd: Register, rs1: Register, imm: Whole) -> u32
     requires { ⌜ row < 50 ⌝ ∗ ⌜ now opcodes ≡ opcodeNumbers ⌝ }
     ensures { λ r. ⌜ r ≡ formWord I row (indexOf rd ∷ indexOf rs1 ∷ []) (some (wholeMeant imm)) ⌝ }
@@ -107,20 +107,6 @@ pub fn encode_s_type(
     ensures { λ r. ⌜ r ≡ formWord Store row (indexOf rs2 ∷ indexOf rs1 ∷ []) (some (wholeMeant imm)) ⌝ }
 {
     opcode_of(row, opcodes) + spread(rs1, rs2, reduced(imm, 0x1FFFF))
-}
-
-// The word of a branch, `rs1, rs2, n`.
-pub fn encode_b_type(
-    row: usize,
-    opcodes: &[u8; 50],
-    rs1: Register,
-    rs2: Register,
-    offset: Whole,
-) -> u32
-    requires { ⌜ row < 50 ⌝ ∗ ⌜ now opcodes ≡ opcodeNumbers ⌝ }
-    ensures { λ r. ⌜ r ≡ formWord Branch row (indexOf rs1 ∷ indexOf rs2 ∷ []) (some (wholeMeant offset)) ⌝ }
-{
-    opcode_of(row, opcodes) + spread(rs1, rs2, reduced(offset, 0x1FFFF))
 }
 
 // The word of `rd, n`.

@@ -4,7 +4,6 @@ ghost use Rattle.instruction.specs.Words.{wordOf};
 ghost use Rattle.instruction.specs.Contracts.{opcodeNumbers, instructionMeant};
 use instruction::instruction::Instruction;
 use instruction::opcode::*;
-use instruction_codec::encoder::encode_b_type;
 use instruction_codec::encoder::encode_i_type;
 use instruction_codec::encoder::encode_j_type;
 use instruction_codec::encoder::encode_r_type;
@@ -66,12 +65,12 @@ pub fn encode(instruction: Instruction, opcodes: &[u8; 50]) -> u32
         Instruction::Sw { rs1, rs2, imm } => encode_s_type(SW, opcodes, rs1, rs2, imm),
         Instruction::Sd { rs1, rs2, imm } => encode_s_type(SD, opcodes, rs1, rs2, imm),
         // branch
-        Instruction::Beq { rs1, rs2, offset } => encode_b_type(BEQ, opcodes, rs1, rs2, offset),
-        Instruction::Bne { rs1, rs2, offset } => encode_b_type(BNE, opcodes, rs1, rs2, offset),
-        Instruction::Blt { rs1, rs2, offset } => encode_b_type(BLT, opcodes, rs1, rs2, offset),
-        Instruction::Bge { rs1, rs2, offset } => encode_b_type(BGE, opcodes, rs1, rs2, offset),
-        Instruction::Bltu { rs1, rs2, offset } => encode_b_type(BLTU, opcodes, rs1, rs2, offset),
-        Instruction::Bgeu { rs1, rs2, offset } => encode_b_type(BGEU, opcodes, rs1, rs2, offset),
+        Instruction::Beq { rs1, rs2, offset } => encode_i_type(BEQ, opcodes, rs1, rs2, offset),
+        Instruction::Bne { rs1, rs2, offset } => encode_i_type(BNE, opcodes, rs1, rs2, offset),
+        Instruction::Blt { rs1, rs2, offset } => encode_i_type(BLT, opcodes, rs1, rs2, offset),
+        Instruction::Bge { rs1, rs2, offset } => encode_i_type(BGE, opcodes, rs1, rs2, offset),
+        Instruction::Bltu { rs1, rs2, offset } => encode_i_type(BLTU, opcodes, rs1, rs2, offset),
+        Instruction::Bgeu { rs1, rs2, offset } => encode_i_type(BGEU, opcodes, rs1, rs2, offset),
         // jump
         Instruction::Jal { rd, offset } => encode_j_type(JAL, opcodes, rd, offset),
         Instruction::Jalr { rd, rs1, imm } => encode_i_type(JALR, opcodes, rd, rs1, imm),

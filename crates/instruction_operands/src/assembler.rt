@@ -143,12 +143,7 @@ fn parse_operands(form: u8, tokens: [Token; KEPT], at: usize) -> Operand
         }
         left = left / 8;
     }
-    Operand::Are(Operands {
-        first: registers[0],
-        second: registers[1],
-        third: registers[2],
-        number,
-    })
+    Operand::Are(Operands::new(registers, number))
 }
 
 // The instruction of a row, by the operand tokens after the mnemonic at `at`: 16, then the operands.

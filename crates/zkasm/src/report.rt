@@ -5,6 +5,7 @@ ghost use lib.ListN.{length};
 ghost use Rattle.image.specs.Listing.{textOf, written, listing};
 ghost use Rattle.zkasm.specs.Zkasm.{most-input, image-room, text-room, refusalText, programOutput};
 ghost use Rattle.zkasm.specs.Contracts.{AssemblesInput, Prints};
+use image::limits::HEADER_SIZE;
 use image_assembler::assembler::Assembled;
 use image_labels::label::Label;
 use image_listing::disassembler::Listing;
@@ -66,7 +67,7 @@ fn report_source(input: &[u8], image: &mut [u8], out: &mut [u8]) -> usize
             words,
             labels,
             config,
-        } => write_listing(&image[..32 + 4 * words], out),
+        } => write_listing(&image[..HEADER_SIZE + 4 * words], out),
         // the image buffer holds the image of every such input
         Assembled::TooShort { labels, needed } => 0,
     }

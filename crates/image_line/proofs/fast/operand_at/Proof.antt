@@ -1,15 +1,8 @@
 -- `image_line::fast::operand_at` meets its contract.
-use Prim.Native.Nat.{ℕ}
-use mathlib.Core.Path.{_≡_, refl, sym, _∙_}
-use native.Mathlib.Omega.{arith}
-use lib.IntN.{ℤ}
+use mathlib.Core.Path.{sym, _∙_}
 use borrow.Author.Needs.{needs}
-use Rattle.text_lexical.specs.Bytes.{Result, value, refused}
-use Rattle.text_lexical.specs.Contracts.{wholeFor}
-use Rattle.text_lexical.specs.declared.number.Whole.{Whole}
-use Rattle.text.specs.Contracts.{extractFor}
-use Rattle.text.specs.declared.parser.Extracted.the-variants.{Number as Extract}
 use Rattle.text.proofs.Meanings.{extracted-for}
+use Rattle.instruction.proofs.Results.{extracted-is}
 use Rattle.image_line.proofs.fast.operand_at.Statement.{statement}
 use Rattle.image_line.proofs.fast.operand_at.Tie as tie
 
@@ -39,11 +32,6 @@ returns c = search needs
 
 returns-2 : tie.Need-returns-2
 returns-2 c = search needs
-
--- the number that was read
-extracted-is : {w : Whole} (x : Result ℤ) → Extract w ≡ extractFor x → (z : ℤ) × ((x ≡ value z) × (w ≡ wholeFor z))
-extracted-is (value z) e = (z, (refl, cc))
-extracted-is (refused n) e = absurd (let z : _≡_ {A = ℕ} 0 1 = cc in omega arith)
 
 returns-3 : tie.Need-returns-3
 returns-3 c =

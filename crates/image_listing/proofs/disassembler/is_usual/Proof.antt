@@ -1,4 +1,4 @@
--- `image::listing::is_usual` meets its contract.
+-- `image_listing::disassembler::is_usual` meets its contract.
 use borrow.Author.Tests.{eq-eqb, ne-eqb}
 use Rattle.image.specs.Program.{entry, stack-size}
 use Rattle.image.specs.Assembling.{most-words}
@@ -8,24 +8,20 @@ use Rattle.image_listing.proofs.disassembler.is_usual.Tie as tie
 
 returns : tie.Need-returns
 unfolding isUsual entry stack-size
-returns c =
-    let h = c .before .before .args .header in
-    rw (isUsual, ne-eqb (h .flags) 0 (c .if1 .taken))
+returns c = rw (isUsual, ne-eqb _ 0 (c .if1 .taken))
 
 returns-2 : tie.Need-returns-2
 unfolding isUsual entry stack-size
 returns-2 c =
     let p = c .before .before in
-    let h = p .before .before .args .header in
-    rw (isUsual, eq-eqb (h .flags) 0 (p .if1 .left), ne-eqb (h .«entry_point») 0x1000 (c .if2 .taken))
+    rw (isUsual, eq-eqb _ 0 (p .if1 .left), ne-eqb _ 0x1000 (c .if2 .taken))
 
 returns-3 : tie.Need-returns-3
 unfolding isUsual entry stack-size
 returns-3 c =
     let q = c .before .before in
     let p = q .before .before in
-    let h = p .before .before .args .header in
-    rw (isUsual, eq-eqb (h .flags) 0 (p .if1 .left), eq-eqb (h .«entry_point») 0x1000 (q .if2 .left), ne-eqb (h .«data_size») 0 (c .if3 .taken))
+    rw (isUsual, eq-eqb _ 0 (p .if1 .left), eq-eqb _ 0x1000 (q .if2 .left), ne-eqb _ 0 (c .if3 .taken))
 
 returns-4 : tie.Need-returns-4
 unfolding isUsual entry stack-size
@@ -33,8 +29,7 @@ returns-4 c =
     let r = c .before .before in
     let q = r .before .before in
     let p = q .before .before in
-    let h = p .before .before .args .header in
-    rw (isUsual, eq-eqb (h .flags) 0 (p .if1 .left), eq-eqb (h .«entry_point») 0x1000 (q .if2 .left), eq-eqb (h .«data_size») 0 (r .if3 .left), ne-eqb (h .«bss_size») 0 (c .if4 .taken))
+    rw (isUsual, eq-eqb _ 0 (p .if1 .left), eq-eqb _ 0x1000 (q .if2 .left), eq-eqb _ 0 (r .if3 .left), ne-eqb _ 0 (c .if4 .taken))
 
 returns-5 : tie.Need-returns-5
 unfolding isUsual entry stack-size
@@ -43,8 +38,7 @@ returns-5 c =
     let r = s .before .before in
     let q = r .before .before in
     let p = q .before .before in
-    let h = p .before .before .args .header in
-    rw (isUsual, eq-eqb (h .flags) 0 (p .if1 .left), eq-eqb (h .«entry_point») 0x1000 (q .if2 .left), eq-eqb (h .«data_size») 0 (r .if3 .left), eq-eqb (h .«bss_size») 0 (s .if4 .left), ne-eqb (h .«stack_size») 0x100000 (c .if5 .taken))
+    rw (isUsual, eq-eqb _ 0 (p .if1 .left), eq-eqb _ 0x1000 (q .if2 .left), eq-eqb _ 0 (r .if3 .left), eq-eqb _ 0 (s .if4 .left), ne-eqb _ 0x100000 (c .if5 .taken))
 
 returns-6 : tie.Need-returns-6
 unfolding isUsual entry stack-size most-words
@@ -54,8 +48,7 @@ returns-6 c =
     let r = s .before .before in
     let q = r .before .before in
     let p = q .before .before in
-    let h = p .before .before .args .header in
-    rw (isUsual, eq-eqb (h .flags) 0 (p .if1 .left), eq-eqb (h .«entry_point») 0x1000 (q .if2 .left), eq-eqb (h .«data_size») 0 (r .if3 .left), eq-eqb (h .«bss_size») 0 (s .if4 .left), eq-eqb (h .«stack_size») 0x100000 (t .if5 .left))
+    rw (isUsual, eq-eqb _ 0 (p .if1 .left), eq-eqb _ 0x1000 (q .if2 .left), eq-eqb _ 0 (r .if3 .left), eq-eqb _ 0 (s .if4 .left), eq-eqb _ 0x100000 (t .if5 .left))
 
 pub is-usual-spec : {M : Type 1} → statement M
 is-usual-spec = tie.close (tie.spec returns returns-2 returns-3 returns-4 returns-5 returns-6)

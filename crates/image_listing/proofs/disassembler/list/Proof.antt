@@ -1,4 +1,4 @@
--- `image::listing::list` meets its contract.
+-- `image_listing::disassembler::list` meets its contract.
 use mathlib.Core.Path.{refl, sym, _∙_}
 use mathlib.Core.Option.{none}
 use borrow.Author.Needs.{needs}
@@ -8,18 +8,6 @@ use Rattle.image_listing.specs.declared.disassembler.Listing.the-variant
 use Rattle.image_listing.proofs.Texts.{Opens, lists-not, unopened, opens, unusual, usual}
 use Rattle.image_listing.proofs.disassembler.list.Statement.{statement}
 use Rattle.image_listing.proofs.disassembler.list.Tie as tie
-
-open-requires : tie.Need-open-requires
-open-requires c κs = search needs
-
-enum-known-n : tie.Need-enum-known-n
-enum-known-n c = search needs
-
-enum-known-header : tie.Need-enum-known-header
-enum-known-header c = search needs
-
-is-usual-requires : tie.Need-is-usual-requires
-is-usual-requires c κs = search needs
 
 -- the image is opened
 opened : (c : tie.After-header) → Opens (c .before .before .before .before .before .args .image .now) (c .header .given .0 .0) (c .header .given .0 .1 .0)
@@ -50,22 +38,16 @@ returns-2 c =
     lists-not (a .image .now) (a .text .now) (refusal (n .n .given .0 .0) none none) (Refused (n .n .given .0 .0))
     (unopened (a .image .now) (n .n .given .0 .0) (rw (n .n .given .1) at (o .«open» .ensures))) refl
 
-same-length : tie.Need-same-length
-same-length c = search needs
-
-returns-3 : tie.Need-returns-3
-returns-3 c = search needs
-
 pub list-spec : {M : Type 1} → statement M
 list-spec =
     tie.close
     (tie.spec
-    open-requires
-    enum-known-n
-    enum-known-header
-    is-usual-requires
+    (λ c κs. search needs)
+    (λ c. search needs)
+    (λ c. search needs)
+    (λ c κs. search needs)
     returns
     list-words-requires
     returns-2
-    same-length
-    returns-3)
+    (λ c. search needs)
+    (λ c. search needs))

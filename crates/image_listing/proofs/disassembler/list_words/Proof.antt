@@ -1,4 +1,4 @@
--- `image::listing::list_words` meets its contract.
+-- `image_listing::disassembler::list_words` meets its contract.
 use mathlib.Core.Path.{_≡_, refl, sym, ap, _∙_}
 use mathlib.Core.Option.{none, some}
 use mathlib.Core.List.{List, flatMap}
@@ -17,27 +17,6 @@ use Rattle.image.proofs.Over.{written-over}
 use Rattle.image_listing.proofs.Texts.{whole-words, lists-not, lists-short, lists-text, usual-text, usual-fault}
 use Rattle.image_listing.proofs.disassembler.list_words.Statement.{statement}
 use Rattle.image_listing.proofs.disassembler.list_words.Tie as tie
-
-mnemonics-requires : tie.Need-mnemonics-requires
-mnemonics-requires c κs = search needs
-
-opcodes-requires : tie.Need-opcodes-requires
-opcodes-requires c κs = search needs
-
-forms-requires : tie.Need-forms-requires
-forms-requires c κs = search needs
-
-words-length-requires : tie.Need-words-length-requires
-words-length-requires c κs = search needs
-
-enum-known-number : tie.Need-enum-known-number
-enum-known-number c = search needs
-
-enum-known-length : tie.Need-enum-known-length
-enum-known-length c = search needs
-
-settings-length-requires : tie.Need-settings-length-requires
-settings-length-requires c κs = search needs
 
 -- the arguments, from where the length of the words is known
 abbrev start : (c : tie.After-length) → tie.Start
@@ -85,9 +64,6 @@ returns c =
     let a = start l .args in
     lists-short (a .image .now) (a .text .now) (good l) _ (needed n) (c .if1 .taken)
 
-write-settings-requires : tie.Need-write-settings-requires
-write-settings-requires c κs = search needs
-
 slice-aggregate-coded : tie.Need-slice-aggregate-coded
 slice-aggregate-coded c =
     let e = c .before .before .before .before .before in
@@ -112,9 +88,6 @@ returns-2 c =
     lists-not (s .args .image .now) (s .args .text .now) (refusal (n .number .given .0 .0) (some (n .number .given .0 .1 .0)) none) (Faulty (n .number .given .0 .0) (n .number .given .0 .1 .0))
     (usual-fault (s .pre) ∙ rw (n .number .given .1) at (w .words-length .ensures)) refl
 
-same-length : tie.Need-same-length
-same-length c = search needs
-
 returns-3 : tie.Need-returns-3
 returns-3 c =
     let w = c .before .before in
@@ -130,19 +103,19 @@ pub list-words-spec : {M : Type 1} → statement M
 list-words-spec =
     tie.close
     (tie.spec
-    mnemonics-requires
-    opcodes-requires
-    forms-requires
+    (λ c κs. search needs)
+    (λ c κs. search needs)
+    (λ c κs. search needs)
     slice-aggregate-words-length
-    words-length-requires
-    enum-known-number
-    enum-known-length
-    settings-length-requires
+    (λ c κs. search needs)
+    (λ c. search needs)
+    (λ c. search needs)
+    (λ c κs. search needs)
     add-needed
     returns
-    write-settings-requires
+    (λ c κs. search needs)
     slice-aggregate-coded
     write-words-requires
     returns-2
-    same-length
+    (λ c. search needs)
     returns-3)

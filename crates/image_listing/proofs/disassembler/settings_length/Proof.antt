@@ -1,24 +1,9 @@
--- `image::listing::settings_length` meets its contract.
+-- `image_listing::disassembler::settings_length` meets its contract.
 use native.Mathlib.Omega.{arith}
 use borrow.Author.Needs.{needs}
 use Rattle.image_listing.proofs.Texts.{settings-length}
 use Rattle.image_listing.proofs.disassembler.settings_length.Statement.{statement}
 use Rattle.image_listing.proofs.disassembler.settings_length.Tie as tie
-
-setting-length-requires : tie.Need-setting-length-requires
-setting-length-requires c κs = search needs
-
-setting-length-requires-2 : tie.Need-setting-length-requires-2
-setting-length-requires-2 c κs = search needs
-
-add-result : tie.Need-add-result
-add-result c = search needs
-
-setting-length-requires-3 : tie.Need-setting-length-requires-3
-setting-length-requires-3 c κs = search needs
-
-add-result-2 : tie.Need-add-result-2
-add-result-2 c = search needs
 
 returns : tie.Need-returns
 returns c =
@@ -33,9 +18,9 @@ pub settings-length-spec : {M : Type 1} → statement M
 settings-length-spec =
     tie.close
     (tie.spec
-    setting-length-requires
-    setting-length-requires-2
-    add-result
-    setting-length-requires-3
-    add-result-2
+    (λ c κs. search needs)
+    (λ c κs. search needs)
+    (λ c. search needs)
+    (λ c κs. search needs)
+    (λ c. search needs)
     returns)

@@ -1,4 +1,4 @@
--- `image::listing::word_length` meets its contract.
+-- `image_listing::disassembler::word_length` meets its contract.
 use mathlib.Core.Path.{_≡_, ap, _∙_}
 use Prim.Native.Nat.{_+_}
 use native.Mathlib.Omega.{arith}
@@ -12,21 +12,6 @@ use Rattle.image_listing.specs.Contracts.{lineLength}
 use Rattle.image_listing.proofs.Texts.{line-length, length-is, no-length}
 use Rattle.image_listing.proofs.disassembler.word_length.Statement.{statement}
 use Rattle.image_listing.proofs.disassembler.word_length.Tie as tie
-
-decode-requires : tie.Need-decode-requires
-decode-requires c κs = search needs
-
-enum-known-n : tie.Need-enum-known-n
-enum-known-n c = search needs
-
-enum-known-instruction : tie.Need-enum-known-instruction
-enum-known-instruction c = search needs
-
-instruction-length-requires : tie.Need-instruction-length-requires
-instruction-length-requires c κs = search needs
-
-add-t10 : tie.Need-add-t10
-add-t10 c = search needs
 
 returns : tie.Need-returns
 unfolding lineLength
@@ -48,10 +33,10 @@ pub word-length-spec : {M : Type 1} → statement M
 word-length-spec =
     tie.close
     (tie.spec
-    decode-requires
-    enum-known-n
-    enum-known-instruction
-    instruction-length-requires
-    add-t10
+    (λ c κs. search needs)
+    (λ c. search needs)
+    (λ c. search needs)
+    (λ c κs. search needs)
+    (λ c. search needs)
     returns
     returns-2)

@@ -1,4 +1,4 @@
--- `image::listing::words_length` meets its contract. The loop's invariant: what is known of all words, from those that are left.
+-- `image_listing::disassembler::words_length` meets its contract. The loop's invariant: what is known of all words, from those that are left.
 use mathlib.Core.Path.{_≡_, sym, ap, _∙_}
 use Prim.Native.Nat.{ℕ, _-_, _≤_}
 use native.Mathlib.Omega.{arith}
@@ -25,12 +25,6 @@ read-u32-requires c κs =
     let k = c .before in
     room-for-word (k .loop .inv .stands) (k .before .before .pre .0) (c .loop-test .taken)
 
-word-length-requires : tie.Need-word-length-requires Inv-loop μ-loop
-word-length-requires c κs = search needs
-
-enum-known-number : tie.Need-enum-known-number Inv-loop μ-loop
-enum-known-number c = search needs
-
 -- the length that was found is that of the word at the place
 line : (c : tie.After-word-length Inv-loop μ-loop) → let k = c .before .before .before in
     lengthMeant (c .word-length .result) ≡ lineLength (instructionOf (numberAt (k .loop .at) 4 (k .before .before .args .coded .now)))
@@ -46,9 +40,6 @@ returns c =
     let i = w .before .before in
     let k = i .before in
     measured-fault (k .loop .inv) (k .before .before .pre .0) (i .loop-test .taken) (n .number .given .0 .0) (sym (rw (n .number .given .1) at (line w)))
-
-enum-known-n : tie.Need-enum-known-n Inv-loop μ-loop
-enum-known-n c = search needs
 
 -- and at most 40
 short : (c : tie.After-n Inv-loop μ-loop) → c .n .given .0 .0 ≤ 40
@@ -66,9 +57,6 @@ add-at c =
     let k = c .before .before .before .before .before .before in
     let d = k .before .before .pre .0 in
     omega (arith, k .loop .inv .stands .inside, d .size, d .most)
-
-loop-less : tie.Need-loop-less Inv-loop μ-loop
-loop-less c = omega arith
 
 loop-again : tie.Need-loop-again Inv-loop μ-loop
 loop-again c =
@@ -89,13 +77,13 @@ words-length-spec =
     μ-loop
     loop-holds
     read-u32-requires
-    word-length-requires
-    enum-known-number
+    (λ c κs. search needs)
+    (λ c. search needs)
     sub-t13
     returns
-    enum-known-n
+    (λ c. search needs)
     add-length
     add-at
-    loop-less
+    (λ c. omega arith)
     loop-again
     returns-2)

@@ -1,4 +1,4 @@
--- `image::listing::write_setting` meets its contract.
+-- `image_listing::disassembler::write_setting` meets its contract.
 use mathlib.Core.Path.{_∙_}
 use mathlib.Core.List.{_++_}
 use Prim.Native.Nat.{_+_, _≤_, _<_}

@@ -1,4 +1,4 @@
--- `image::listing::write_settings` meets its contract.
+-- `image_listing::disassembler::write_settings` meets its contract.
 use mathlib.Core.List.{List, _++_}
 use Prim.Native.Nat.{ℕ, _+_, _≤_}
 use native.Mathlib.Omega.{arith}
@@ -32,18 +32,12 @@ behind : (c : tie.After-write-setting) → let a = c .before .before .before .be
 unfolding settingText limb-bits-key bytes
 behind c = room-behind (c .write-setting .ensures) _ (room (c .before .before .before .before))
 
-slice-aggregate-write-setting : tie.Need-slice-aggregate-write-setting
-slice-aggregate-write-setting c = search needs
-
 write-setting-requires : tie.Need-write-setting-requires
 unfolding settingText limb-bits-key bytes
 write-setting-requires c κs =
     let s = c .before .before .before in
     let a = s .args in
     room-before (a .text .now) 0 (limb-line (a .config)) _ (room s)
-
-slice-aggregate-write-setting-2 : tie.Need-slice-aggregate-write-setting-2
-slice-aggregate-write-setting-2 c = search needs
 
 write-setting-requires-2 : tie.Need-write-setting-requires-2
 unfolding settingText data-limbs-key bytes
@@ -52,17 +46,11 @@ write-setting-requires-2 c κs =
     let a = x .before .before .before .before .args in
     room-before (x .write-setting .last .0) (x .write-setting .result) (data-line (a .config)) _ (behind x)
 
-slice-aggregate-write-setting-3 : tie.Need-slice-aggregate-write-setting-3
-slice-aggregate-write-setting-3 c = search needs
-
 write-setting-requires-3 : tie.Need-write-setting-requires-3
 unfolding settingText data-limbs-key addr-limbs-key bytes
 write-setting-requires-3 c κs =
     let y = c .before .before .before .before in
     room-behind (y .write-setting2 .ensures) _ (behind (y .before .before .before .before .before))
-
-same-length : tie.Need-same-length
-same-length c = search needs
 
 returns : tie.Need-returns
 unfolding settings settingsText settingText limb-bits-key data-limbs-key addr-limbs-key bytes
@@ -77,11 +65,11 @@ pub write-settings-spec : {M : Type 1} → statement M
 write-settings-spec =
     tie.close
     (tie.spec
-    slice-aggregate-write-setting
+    (λ c. search needs)
     write-setting-requires
-    slice-aggregate-write-setting-2
+    (λ c. search needs)
     write-setting-requires-2
-    slice-aggregate-write-setting-3
+    (λ c. search needs)
     write-setting-requires-3
-    same-length
+    (λ c. search needs)
     returns)

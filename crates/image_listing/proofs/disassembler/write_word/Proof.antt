@@ -1,4 +1,4 @@
--- `image::listing::write_word` meets its contract.
+-- `image_listing::disassembler::write_word` meets its contract.
 use mathlib.Core.Path.{_≡_, sym}
 use mathlib.Core.List.{[], _∷_}
 use Prim.Native.Nat.{_+_, _≤_, _<_}
@@ -12,15 +12,6 @@ use Rattle.image.specs.Listing.{lineText, wordText}
 use Rattle.image_listing.proofs.Texts.{word-none, word-line}
 use Rattle.image_listing.proofs.disassembler.write_word.Statement.{statement}
 use Rattle.image_listing.proofs.disassembler.write_word.Tie as tie
-
-decode-requires : tie.Need-decode-requires
-decode-requires c κs = search needs
-
-enum-told : tie.Need-enum-told
-enum-told c = search needs
-
-enum-known-instruction : tie.Need-enum-known-instruction
-enum-known-instruction c = search needs
 
 -- the line, which has room
 line : (c : tie.After-instruction) → wordText (c .before .before .before .before .args .word) ≡ lineText (instructionText (instructionMeant (c .instruction .given .0 .0)))
@@ -78,9 +69,9 @@ pub write-word-spec : {M : Type 1} → statement M
 write-word-spec =
     tie.close
     (tie.spec
-    decode-requires
-    enum-told
-    enum-known-instruction
+    (λ c κs. search needs)
+    (λ c. search needs)
+    (λ c. search needs)
     write-instruction-requires
     slice-write-text
     add-result

@@ -1,4 +1,4 @@
--- `image::listing::write_words` meets its contract. The loop's invariant: the lines of the words before `at` are written.
+-- `image_listing::disassembler::write_words` meets its contract. The loop's invariant: the lines of the words before `at` are written.
 use Prim.Native.Nat.{_-_}
 use native.Mathlib.Omega.{arith}
 use lib.ListN.{length}
@@ -36,9 +36,6 @@ add-at c =
     let d = k .before .before .before .pre .0 in
     omega (arith, k .loop .inv .stands .inside, d .size, d .most)
 
-loop-less : tie.Need-loop-less Inv-loop μ-loop
-loop-less c = omega arith
-
 loop-again : tie.Need-loop-again Inv-loop μ-loop
 loop-again c =
     let w = c .before .before in
@@ -64,7 +61,7 @@ write-words-spec =
     read-u32-requires
     write-word-requires
     add-at
-    loop-less
+    (λ c. omega arith)
     loop-again
     same-length
     returns)

@@ -27,12 +27,6 @@ table-has (suc (suc (suc (suc (suc (suc (suc form))))))) = refl
 past-forms : (n : ℕ) → (n < 7 → ⊥) → formAt n ≡ System
 past-forms n h = List·getD-eq-default (R ∷ I ∷ Shift ∷ Load ∷ Store ∷ Branch ∷ Jump ∷ []) System {n = n} (omega arith)
 
-mul-result : tie.Need-mul-result
-mul-result c = search needs
-
-array-read-result : tie.Need-array-read-result
-array-read-result c = search needs
-
 returns : tie.Need-returns
 returns c = table-has (c .before .args .form)
 
@@ -41,4 +35,4 @@ unfolding digitsFor
 returns-2 c = rw (past-forms (c .before .args .form) (λ h. omega arith))
 
 pub operands-of-spec : {M : Type 1} → statement M
-operands-of-spec = tie.close (tie.spec mul-result array-read-result returns returns-2)
+operands-of-spec = tie.close (tie.spec (λ c. search needs) (λ c. search needs) returns returns-2)

@@ -5,17 +5,8 @@ use Rattle.instruction.proofs.Lookup.{slot-of, slot-small, key-found, k
 use Rattle.instruction.proofs.opcode.find_mnemonic.Statement.{statement}
 use Rattle.instruction.proofs.opcode.find_mnemonic.Tie as tie
 
-element-copy-out-row : tie.Need-element-copy-out-row
-element-copy-out-row c = search needs
-
 cast-row : tie.Need-cast-row
 cast-row c = omega (arith, slot-small (c .before .args .slots .now) (c .before .args .key) (c .before .pre .1))
-
-mul-if2 : tie.Need-mul-if2
-mul-if2 c = search needs
-
-element-copy-out-if2 : tie.Need-element-copy-out-if2
-element-copy-out-if2 c = search needs
 
 returns : tie.Need-returns
 returns c =
@@ -39,10 +30,10 @@ pub find-mnemonic-spec : {M : Type 1} → statement M
 find-mnemonic-spec =
     tie.close
     (tie.spec
-    element-copy-out-row
+    (λ c. search needs)
     cast-row
-    mul-if2
-    element-copy-out-if2
+    (λ c. search needs)
+    (λ c. search needs)
     returns
     returns-2
     returns-3)

@@ -7,21 +7,6 @@ use Rattle.instruction.proofs.Lookup.{opcode-found, opcode-missing}
 use Rattle.instruction.proofs.opcode.find_opcode.Statement.{statement}
 use Rattle.instruction.proofs.opcode.find_opcode.Tie as tie
 
-unused-below-requires : tie.Need-unused-below-requires
-unused-below-requires c κs = search needs
-
-sub-row : tie.Need-sub-row
-sub-row c = search needs
-
-cast-row : tie.Need-cast-row
-cast-row c = search needs
-
-element-copy-out-wide : tie.Need-element-copy-out-wide
-element-copy-out-wide c = search needs
-
-wide-requires : tie.Need-wide-requires
-wide-requires c κs = search needs
-
 returns : tie.Need-returns
 returns c =
     let u = c .before .before .before .before in
@@ -47,11 +32,11 @@ pub find-opcode-spec : {M : Type 1} → statement M
 find-opcode-spec =
     tie.close
     (tie.spec
-    unused-below-requires
-    sub-row
-    cast-row
-    element-copy-out-wide
-    wide-requires
+    (λ c κs. search needs)
+    (λ c. search needs)
+    (λ c. search needs)
+    (λ c. search needs)
+    (λ c κs. search needs)
     returns
     returns-2
     returns-3)

@@ -5,9 +5,6 @@ use Rattle.instruction.specs.Contracts.{formNumber, formNumbers}
 use Rattle.instruction.proofs.opcode.forms.Statement.{statement}
 use Rattle.instruction.proofs.opcode.forms.Tie as tie
 
-returns : tie.Need-returns
-unfolding formNumbers formNumber table row
-returns c = refl
-
 pub forms-spec : {M : Type 1} → statement M
-forms-spec = tie.close (tie.spec returns)
+unfolding formNumbers formNumber table row
+forms-spec = tie.close (tie.spec (λ c. refl))

@@ -7,9 +7,6 @@ use Rattle.instruction.specs.Contracts.{mnemonicKeys}
 use Rattle.instruction.proofs.opcode.mnemonics.Statement.{statement}
 use Rattle.instruction.proofs.opcode.mnemonics.Tie as tie
 
-returns : tie.Need-returns
-unfolding mnemonicKeys keyOf packed table row bytes
-returns c = refl
-
 pub mnemonics-spec : {M : Type 1} → statement M
-mnemonics-spec = tie.close (tie.spec returns)
+unfolding mnemonicKeys keyOf packed table row bytes
+mnemonics-spec = tie.close (tie.spec (λ c. refl))

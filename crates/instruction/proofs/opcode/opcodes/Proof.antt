@@ -5,9 +5,6 @@ use Rattle.instruction.specs.Contracts.{opcodeNumbers}
 use Rattle.instruction.proofs.opcode.opcodes.Statement.{statement}
 use Rattle.instruction.proofs.opcode.opcodes.Tie as tie
 
-returns : tie.Need-returns
-unfolding opcodeNumbers table row
-returns c = refl
-
 pub opcodes-spec : {M : Type 1} → statement M
-opcodes-spec = tie.close (tie.spec returns)
+unfolding opcodeNumbers table row
+opcodes-spec = tie.close (tie.spec (λ c. refl))

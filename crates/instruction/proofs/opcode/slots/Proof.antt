@@ -7,9 +7,6 @@ use Rattle.instruction.specs.Contracts.{mnemonicKeys, slotRow, slotRowsF
 use Rattle.instruction.proofs.opcode.slots.Statement.{statement}
 use Rattle.instruction.proofs.opcode.slots.Tie as tie
 
-returns : tie.Need-returns
-unfolding slotRows slotRowsFrom slotRow mnemonicKeys keyOf packed table row bytes
-returns c = refl
-
 pub slots-spec : {M : Type 1} → statement M
-slots-spec = tie.close (tie.spec returns)
+unfolding slotRows slotRowsFrom slotRow mnemonicKeys keyOf packed table row bytes
+slots-spec = tie.close (tie.spec (λ c. refl))

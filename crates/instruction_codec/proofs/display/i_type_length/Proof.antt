@@ -5,30 +5,6 @@ use Rattle.instruction_codec.proofs.Pieces.{i-type-length}
 use Rattle.instruction_codec.proofs.display.i_type_length.Statement.{statement}
 use Rattle.instruction_codec.proofs.display.i_type_length.Tie as tie
 
-register-length-requires : tie.Need-register-length-requires
-register-length-requires c κs = search needs
-
-add-operands : tie.Need-add-operands
-add-operands c = search needs
-
-register-length-requires-2 : tie.Need-register-length-requires-2
-register-length-requires-2 c κs = search needs
-
-add-operands-2 : tie.Need-add-operands-2
-add-operands-2 c = search needs
-
-number-length-requires : tie.Need-number-length-requires
-number-length-requires c κs = search needs
-
-add-operands-3 : tie.Need-add-operands-3
-add-operands-3 c = search needs
-
-mnemonic-length-requires : tie.Need-mnemonic-length-requires
-mnemonic-length-requires c κs = search needs
-
-add-result : tie.Need-add-result
-add-result c = search needs
-
 returns : tie.Need-returns
 returns c =
     let d = c .before .number-length .ensures in
@@ -42,12 +18,12 @@ pub i-type-length-spec : {M : Type 1} → statement M
 i-type-length-spec =
     tie.close
     (tie.spec
-    register-length-requires
-    add-operands
-    register-length-requires-2
-    add-operands-2
-    number-length-requires
-    add-operands-3
-    mnemonic-length-requires
-    add-result
+    (λ c κs. search needs)
+    (λ c. search needs)
+    (λ c κs. search needs)
+    (λ c. search needs)
+    (λ c κs. search needs)
+    (λ c. search needs)
+    (λ c κs. search needs)
+    (λ c. search needs)
     returns)

@@ -13,12 +13,6 @@ Inv-loop row mnemonics rest₀ length₀ rest length = Taken (rowAt row .mnemoni
 abbrev μ-loop : tie.MeasureT-loop
 μ-loop row mnemonics rest₀ length₀ rest length = rest
 
-mul-rest : tie.Need-mul-rest Inv-loop μ-loop
-mul-rest c = search needs
-
-element-copy-out-rest : tie.Need-element-copy-out-rest Inv-loop μ-loop
-element-copy-out-rest c = search needs
-
 loop-holds : tie.Need-loop-holds Inv-loop μ-loop
 loop-holds c =
     let a = c .before .args in
@@ -27,9 +21,6 @@ loop-holds c =
 
 add-length : tie.Need-add-length Inv-loop μ-loop
 add-length c = omega (arith, c .before .loop .inv .within, mnemonic-short (c .before .before .before .args .row) (c .before .before .before .pre .0) .few)
-
-loop-less : tie.Need-loop-less Inv-loop μ-loop
-loop-less c = omega arith
 
 loop-again : tie.Need-loop-again Inv-loop μ-loop
 loop-again c =
@@ -49,10 +40,10 @@ mnemonic-length-spec =
     (tie.spec
     Inv-loop
     μ-loop
-    mul-rest
-    element-copy-out-rest
+    (λ c. search needs)
+    (λ c. search needs)
     loop-holds
     add-length
-    loop-less
+    (λ c. omega arith)
     loop-again
     returns)

@@ -8,12 +8,6 @@ use Rattle.text_writer.proofs.Decimals.{signed-minus, signed-zero}
 use Rattle.instruction_codec.proofs.display.number_length.Statement.{statement}
 use Rattle.instruction_codec.proofs.display.number_length.Tie as tie
 
-decimal-length-requires : tie.Need-decimal-length-requires
-decimal-length-requires c κs = search needs
-
-add-result : tie.Need-add-result
-add-result c = search needs
-
 returns : tie.Need-returns
 returns c =
     let e = ap length (signed-minus (c .before .before .before .args .number .magnitude) (c .if2 .taken)) in
@@ -34,4 +28,4 @@ returns-3 c =
 
 pub number-length-spec : {M : Type 1} → statement M
 number-length-spec =
-    tie.close (tie.spec decimal-length-requires add-result returns returns-2 returns-3)
+    tie.close (tie.spec (λ c κs. search needs) (λ c. search needs) returns returns-2 returns-3)

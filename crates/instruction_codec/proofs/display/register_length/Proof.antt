@@ -11,18 +11,6 @@ use Rattle.instruction.proofs.Parts.{register-below}
 use Rattle.instruction_codec.proofs.display.register_length.Statement.{statement}
 use Rattle.instruction_codec.proofs.display.register_length.Tie as tie
 
-index-requires : tie.Need-index-requires
-index-requires c κs = search needs
-
-cast-decimal-length : tie.Need-cast-decimal-length
-cast-decimal-length c = search needs
-
-decimal-length-requires : tie.Need-decimal-length-requires
-decimal-length-requires c κs = search needs
-
-add-result : tie.Need-add-result
-add-result c = search needs
-
 returns : tie.Need-returns
 unfolding registerText
 returns c =
@@ -33,4 +21,4 @@ returns c =
 
 pub register-length-spec : {M : Type 1} → statement M
 register-length-spec =
-    tie.close (tie.spec index-requires cast-decimal-length decimal-length-requires add-result returns)
+    tie.close (tie.spec (λ c κs. search needs) (λ c. search needs) (λ c κs. search needs) (λ c. search needs) returns)

@@ -19,12 +19,6 @@ room c = room-behind (c .write-register .ensures) (41 ∷ []) (simp length-set (
 long : (c : tie.After-out) → length (c .before .write-register .last .0) ≡ length (c .before .before .before .before .args .out .now)
 long c = simp length-set at (c .out .given)
 
-slice-write-out : tie.Need-slice-write-out
-slice-write-out c = search needs
-
-add-write-register : tie.Need-add-write-register
-add-write-register c = search needs
-
 write-register-requires : tie.Need-write-register-requires
 write-register-requires c κs =
     let s = c .before .before in
@@ -49,4 +43,4 @@ returns c =
 
 pub write-base-spec : {M : Type 1} → statement M
 write-base-spec =
-    tie.close (tie.spec slice-write-out add-write-register write-register-requires slice-write-out-2 add-result same-length returns)
+    tie.close (tie.spec (λ c. search needs) (λ c. search needs) write-register-requires slice-write-out-2 add-result same-length returns)

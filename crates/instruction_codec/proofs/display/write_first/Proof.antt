@@ -6,12 +6,6 @@ use Rattle.text_writer.proofs.Writing.{written-byte, written-append}
 use Rattle.instruction_codec.proofs.display.write_first.Statement.{statement}
 use Rattle.instruction_codec.proofs.display.write_first.Tie as tie
 
-slice-write-out : tie.Need-slice-write-out
-slice-write-out c = search needs
-
-add-write-next : tie.Need-add-write-next
-add-write-next c = search needs
-
 write-next-requires : tie.Need-write-next-requires
 write-next-requires c κs = simp length-set (omega (arith, c .before .before .pre))
 
@@ -25,4 +19,4 @@ returns c =
 
 pub write-first-spec : {M : Type 1} → statement M
 write-first-spec =
-    tie.close (tie.spec slice-write-out add-write-next write-next-requires same-length returns)
+    tie.close (tie.spec (λ c. search needs) (λ c. search needs) write-next-requires same-length returns)

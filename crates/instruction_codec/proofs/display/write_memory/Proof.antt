@@ -4,74 +4,35 @@ use Prim.Native.Nat.{_+_, _≤_}
 use native.Mathlib.Omega.{arith}
 use lib.ListN.{length}
 use borrow.Author.Needs.{needs}
-use Rattle.text_lexical.specs.Numbers.{signedDecimal}
-use Rattle.text_lexical.specs.Contracts.{wholeMeant}
 use Rattle.text_writer.proofs.Writing.{written-append, room-before, room-behind}
-use Rattle.instruction.specs.Contracts.{rowAt}
-use Rattle.instruction_codec.specs.Contracts.{firstText, baseText}
+use Rattle.instruction_codec.specs.Contracts.{startText, addressText}
 use Rattle.instruction_codec.proofs.Pieces.{memory-text}
 use Rattle.instruction_codec.proofs.display.write_memory.Statement.{statement}
 use Rattle.instruction_codec.proofs.display.write_memory.Tie as tie
 
--- the text in its pieces has room, and so have those after the mnemonic and after the register
-room : (c : tie.Start) → let a = c .args in
-    a .at + length (rowAt (a .row) .mnemonic ++ (firstText (a .register) ++ (signedDecimal (wholeMeant (a .number)) ++ baseText (a .base)))) ≤ length (a .out .now)
+-- the text in its two pieces has room
+room : (c : tie.Start) → let a = c .args in a .at + length (startText (a .row) (a .register) ++ addressText (a .number) (a .base)) ≤ length (a .out .now)
 room c = let a = c .args in rw (memory-text (a .row) (a .register) (a .base) (a .number)) at (c .pre .1 .1)
 
-room-operands : (c : tie.After-write-mnemonic) → let a = c .before .before .before .args in
-    c .write-mnemonic .result + length (firstText (a .register) ++ (signedDecimal (wholeMeant (a .number)) ++ baseText (a .base))) ≤ length (c .write-mnemonic .last .0)
-room-operands c = room-behind (c .write-mnemonic .ensures) _ (room (c .before .before .before))
-
-room-number : (c : tie.After-write-first) → let a = c .before .before .before .before .before .before .before .args in
-    c .write-first .result + length (signedDecimal (wholeMeant (a .number)) ++ baseText (a .base)) ≤ length (c .write-first .last .0)
-room-number c = room-behind (c .write-first .ensures) _ (room-operands (c .before .before .before .before))
-
-write-mnemonic-requires : tie.Need-write-mnemonic-requires
-write-mnemonic-requires c κs =
+write-start-requires : tie.Need-write-start-requires
+write-start-requires c κs =
     let s = c .before .before in
-    (s .pre .0, (s .pre .1 .0, room-before (s .args .out .now) (s .args .at) (rowAt (s .args .row) .mnemonic) _ (room s)))
+    let a = s .args in
+    (s .pre .0, (s .pre .1 .0, room-before (a .out .now) (a .at) (startText (a .row) (a .register)) _ (room s)))
 
-write-first-requires : tie.Need-write-first-requires
-write-first-requires c κs =
-    let m = c .before .before .before in
-    let a = m .before .before .before .args in
-    room-before (m .write-mnemonic .last .0) (m .write-mnemonic .result) (firstText (a .register)) _ (room-operands m)
-
-write-number-requires : tie.Need-write-number-requires
-write-number-requires c κs =
+write-address-requires : tie.Need-write-address-requires
+write-address-requires c κs =
     let k = c .before .before .before in
-    let a = k .before .before .before .before .before .before .before .args in
-    room-before (k .write-first .last .0) (k .write-first .result) (signedDecimal (wholeMeant (a .number))) _ (room-number k)
-
-write-base-requires : tie.Need-write-base-requires
-write-base-requires c κs =
-    let n = c .before .before .before in
-    room-behind (n .write-number .ensures) _ (room-number (n .before .before .before .before))
-
-same-length : tie.Need-same-length
-same-length c = search needs
+    room-behind (k .write-start .ensures) _ (room (k .before .before .before))
 
 returns : tie.Need-returns
 returns c =
-    let n = c .before .before .before .before .before .before in
-    let k = n .before .before .before .before in
-    let m = k .before .before .before .before in
-    let s = m .before .before .before in
+    let k = c .before .before .before .before .before .before in
+    let s = k .before .before .before in
     let a = s .args in
     let r = room s in
-    let p = room-operands m in
-    let q = room-number k in
-    rw (memory-text (a .row) (a .register) (a .base) (a .number))
-    (written-append (m .write-mnemonic .ensures) (omega arith)
-    (written-append (k .write-first .ensures) (omega arith) (written-append (n .write-number .ensures) (omega arith) (c .before .before .write-base .ensures))))
+    rw (memory-text (a .row) (a .register) (a .base) (a .number)) (written-append (k .write-start .ensures) (omega arith) (c .before .before .write-address .ensures))
 
 pub write-memory-spec : {M : Type 1} → statement M
 write-memory-spec =
-    tie.close
-    (tie.spec
-    write-mnemonic-requires
-    write-first-requires
-    write-number-requires
-    write-base-requires
-    same-length
-    returns)
+    tie.close (tie.spec write-start-requires write-address-requires (λ c. search needs) returns)

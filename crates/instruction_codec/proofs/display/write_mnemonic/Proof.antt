@@ -13,20 +13,11 @@ Inv-loop out₀ at row mnemonics rest₀ place₀ out rest place = Spelling out�
 abbrev μ-loop : tie.MeasureT-loop
 μ-loop out₀ at row mnemonics rest₀ place₀ out rest place = rest
 
-mul-rest : tie.Need-mul-rest Inv-loop μ-loop
-mul-rest c = search needs
-
-element-copy-out-rest : tie.Need-element-copy-out-rest Inv-loop μ-loop
-element-copy-out-rest c = search needs
-
 loop-holds : tie.Need-loop-holds Inv-loop μ-loop
 loop-holds c =
     let a = c .before .args in
     let p = c .before .pre in
     spelling-none (a .out .now) (a .at) (rowAt (a .row) .mnemonic) _ (rw (p .1 .0) (mnemonic-packed (a .row) (p .0)))
-
-cast-out : tie.Need-cast-out Inv-loop μ-loop
-cast-out c = omega arith
 
 slice-write-out : tie.Need-slice-write-out Inv-loop μ-loop
 slice-write-out c = spelling-room (c .before .loop .inv) (c .before .before .before .pre .1 .1) (c .loop-test .taken)
@@ -35,9 +26,6 @@ add-place : tie.Need-add-place Inv-loop μ-loop
 add-place c =
     let s = c .before .before .before in
     omega (arith, spelling-room (c .before .loop .inv) (s .pre .1 .1) (c .loop-test .taken), spelling-length (c .before .loop .inv) (s .pre .1 .1))
-
-loop-less : tie.Need-loop-less Inv-loop μ-loop
-loop-less c = omega arith
 
 loop-again : tie.Need-loop-again Inv-loop μ-loop
 loop-again c =
@@ -56,13 +44,13 @@ write-mnemonic-spec =
     (tie.spec
     Inv-loop
     μ-loop
-    mul-rest
-    element-copy-out-rest
+    (λ c. search needs)
+    (λ c. search needs)
     loop-holds
-    cast-out
+    (λ c. omega arith)
     slice-write-out
     add-place
-    loop-less
+    (λ c. omega arith)
     loop-again
     same-length
     returns)

@@ -31,9 +31,6 @@ slice-write-out-2 c = simp length-set (omega (arith, room (c .before .before)))
 add-result : tie.Need-add-result
 add-result c = omega (arith, room (c .before .before))
 
-same-length : tie.Need-same-length
-same-length c = search needs
-
 returns : tie.Need-returns
 returns c =
     let b = c .before .before in
@@ -53,5 +50,5 @@ write-next-spec =
     add-next
     slice-write-out-2
     add-result
-    same-length
+    (λ c. search needs)
     returns)

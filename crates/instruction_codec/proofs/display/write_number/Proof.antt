@@ -25,9 +25,6 @@ plain c =
 slice-write-out : tie.Need-slice-write-out
 slice-write-out c = omega (arith, c .before .before .before .pre, ap length (below c))
 
-add-write-decimal : tie.Need-add-write-decimal
-add-write-decimal c = search needs
-
 write-decimal-requires : tie.Need-write-decimal-requires
 write-decimal-requires c κs = simp length-set (omega (arith, c .before .before .before .before .pre, ap length (below (c .before))))
 
@@ -44,9 +41,6 @@ returns c =
 write-decimal-requires-2 : tie.Need-write-decimal-requires-2
 write-decimal-requires-2 c κs = omega (arith, c .before .before .before .pre, ap length (plain (c .before)))
 
-same-length-2 : tie.Need-same-length-2
-same-length-2 c = search needs
-
 returns-2 : tie.Need-returns-2
 returns-2 c = rw (plain (c .before .before .before .before)) (c .before .before .write-decimal2 .ensures)
 
@@ -55,10 +49,10 @@ write-number-spec =
     tie.close
     (tie.spec
     slice-write-out
-    add-write-decimal
+    (λ c. search needs)
     write-decimal-requires
     same-length
     returns
     write-decimal-requires-2
-    same-length-2
+    (λ c. search needs)
     returns-2)

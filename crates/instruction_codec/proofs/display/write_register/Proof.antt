@@ -7,18 +7,9 @@ use Rattle.text_writer.proofs.Writing.{written-byte, written-append}
 use Rattle.instruction_codec.proofs.display.write_register.Statement.{statement}
 use Rattle.instruction_codec.proofs.display.write_register.Tie as tie
 
-index-requires : tie.Need-index-requires
-index-requires c κs = search needs
-
 slice-write-out : tie.Need-slice-write-out
 unfolding registerText
 slice-write-out c = omega (arith, c .before .before .pre)
-
-add-write-decimal : tie.Need-add-write-decimal
-add-write-decimal c = search needs
-
-cast-write-decimal : tie.Need-cast-write-decimal
-cast-write-decimal c = search needs
 
 write-decimal-requires : tie.Need-write-decimal-requires
 unfolding registerText
@@ -41,10 +32,10 @@ pub write-register-spec : {M : Type 1} → statement M
 write-register-spec =
     tie.close
     (tie.spec
-    index-requires
+    (λ c κs. search needs)
     slice-write-out
-    add-write-decimal
-    cast-write-decimal
+    (λ c. search needs)
+    (λ c. search needs)
     write-decimal-requires
     same-length
     returns)

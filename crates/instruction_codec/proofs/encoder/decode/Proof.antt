@@ -22,15 +22,6 @@ kept-settled Branch o h = h
 kept-settled Jump o h = h
 kept-settled System o h = refl
 
-find-opcode-requires : tie.Need-find-opcode-requires
-find-opcode-requires c κs = search needs
-
-enum-known-row : tie.Need-enum-known-row
-enum-known-row c = search needs
-
-enum-told : tie.Need-enum-told
-enum-told c = search needs
-
 returns : tie.Need-returns
 returns c = record { means = word-unknown (c .before .before .before .args .word) (rw (c .enum-told .given .1) at (c .before .before .find-opcode .ensures)); settled = tt }
 
@@ -40,12 +31,6 @@ found c = rw (c .row .given .1) at (c .before .before .find-opcode .ensures)
 
 element-copy-out-form : tie.Need-element-copy-out-form
 element-copy-out-form c = found (c .before) .0
-
-is-clear-requires : tie.Need-is-clear-requires
-is-clear-requires c κs = search needs
-
-operands-of-requires : tie.Need-operands-of-requires
-operands-of-requires c κs = search needs
 
 from-parts-requires : tie.Need-from-parts-requires
 from-parts-requires c κs = found (c .before .before .before .before .before) .0
@@ -76,13 +61,13 @@ pub decode-spec : {M : Type 1} → statement M
 decode-spec =
     tie.close
     (tie.spec
-    find-opcode-requires
-    enum-known-row
-    enum-told
+    (λ c κs. search needs)
+    (λ c. search needs)
+    (λ c. search needs)
     returns
     element-copy-out-form
-    is-clear-requires
-    operands-of-requires
+    (λ c κs. search needs)
+    (λ c κs. search needs)
     from-parts-requires
     returns-2
     returns-3)

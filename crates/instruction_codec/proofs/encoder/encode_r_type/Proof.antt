@@ -6,18 +6,6 @@ use Rattle.instruction_codec.proofs.Forms.{word-registers}
 use Rattle.instruction_codec.proofs.encoder.encode_r_type.Statement.{statement}
 use Rattle.instruction_codec.proofs.encoder.encode_r_type.Tie as tie
 
-opcode-of-requires : tie.Need-opcode-of-requires
-opcode-of-requires c κs = search needs
-
-number-of-requires : tie.Need-number-of-requires
-number-of-requires c κs = search needs
-
-spread-requires : tie.Need-spread-requires
-spread-requires c κs = search needs
-
-add-result : tie.Need-add-result
-add-result c = search needs
-
 returns : tie.Need-returns
 returns c =
     let n = c .before in
@@ -27,4 +15,4 @@ returns c =
 
 pub encode-r-type-spec : {M : Type 1} → statement M
 encode-r-type-spec =
-    tie.close (tie.spec opcode-of-requires number-of-requires spread-requires add-result returns)
+    tie.close (tie.spec (λ c κs. search needs) (λ c κs. search needs) (λ c κs. search needs) (λ c. search needs) returns)

@@ -7,17 +7,8 @@ use Rattle.instruction_codec.proofs.Forms.{word-shift}
 use Rattle.instruction_codec.proofs.encoder.encode_shift.Statement.{statement}
 use Rattle.instruction_codec.proofs.encoder.encode_shift.Tie as tie
 
-opcode-of-requires : tie.Need-opcode-of-requires
-opcode-of-requires c κs = search needs
-
 reduced-requires : tie.Need-reduced-requires
 reduced-requires c κs = record { width = 8; is-power = refl; most = omega arith }
-
-spread-requires : tie.Need-spread-requires
-spread-requires c κs = search needs
-
-add-result : tie.Need-add-result
-add-result c = search needs
 
 returns : tie.Need-returns
 returns c =
@@ -28,4 +19,4 @@ returns c =
 
 pub encode-shift-spec : {M : Type 1} → statement M
 encode-shift-spec =
-    tie.close (tie.spec opcode-of-requires reduced-requires spread-requires add-result returns)
+    tie.close (tie.spec (λ c κs. search needs) reduced-requires (λ c κs. search needs) (λ c. search needs) returns)

@@ -5,11 +5,8 @@ use Rattle.instruction_codec.proofs.Forms.{word-system}
 use Rattle.instruction_codec.proofs.encoder.encode_system.Statement.{statement}
 use Rattle.instruction_codec.proofs.encoder.encode_system.Tie as tie
 
-opcode-of-requires : tie.Need-opcode-of-requires
-opcode-of-requires c κs = search needs
-
 returns : tie.Need-returns
 returns c = c .opcode-of .ensures .0 ∙ sym (word-system (c .before .args .row))
 
 pub encode-system-spec : {M : Type 1} → statement M
-encode-system-spec = tie.close (tie.spec opcode-of-requires returns)
+encode-system-spec = tie.close (tie.spec (λ c κs. search needs) returns)

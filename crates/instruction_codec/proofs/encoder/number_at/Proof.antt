@@ -6,15 +6,6 @@ use Rattle.instruction_codec.proofs.Forms.{number-shift, number-jump, n
 use Rattle.instruction_codec.proofs.encoder.number_at.Statement.{statement}
 use Rattle.instruction_codec.proofs.encoder.number_at.Tie as tie
 
-cast-t6 : tie.Need-cast-t6
-cast-t6 c = search needs
-
-signed-requires : tie.Need-signed-requires
-signed-requires c κs = search needs
-
-signed-requires-2 : tie.Need-signed-requires-2
-signed-requires-2 c κs = search needs
-
 returns : tie.Need-returns
 returns c = (number-shift (c .before .args .form) (c .before .args .word) (c .match .keys1), refl)
 
@@ -30,4 +21,4 @@ returns-3 c =
 
 pub number-at-spec : {M : Type 1} → statement M
 number-at-spec =
-    tie.close (tie.spec cast-t6 signed-requires signed-requires-2 returns returns-2 returns-3)
+    tie.close (tie.spec (λ c. search needs) (λ c κs. search needs) (λ c κs. search needs) returns returns-2 returns-3)

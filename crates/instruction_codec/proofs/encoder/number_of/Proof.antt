@@ -5,16 +5,10 @@ use Rattle.instruction.proofs.Parts.{register-below}
 use Rattle.instruction_codec.proofs.encoder.number_of.Statement.{statement}
 use Rattle.instruction_codec.proofs.encoder.number_of.Tie as tie
 
-index-requires : tie.Need-index-requires
-index-requires c κs = search needs
-
-wide-requires : tie.Need-wide-requires
-wide-requires c κs = search needs
-
 returns : tie.Need-returns
 returns c =
     let e = c .wide .ensures ∙ c .before .index .ensures in
     (e, rw e (register-below (c .before .before .args .register)))
 
 pub number-of-spec : {M : Type 1} → statement M
-number-of-spec = tie.close (tie.spec index-requires wide-requires returns)
+number-of-spec = tie.close (tie.spec (λ c κs. search needs) (λ c κs. search needs) returns)

@@ -5,12 +5,6 @@ use Rattle.instruction.proofs.Columns.{opcode-at, opcode-small}
 use Rattle.instruction_codec.proofs.encoder.opcode_of.Statement.{statement}
 use Rattle.instruction_codec.proofs.encoder.opcode_of.Tie as tie
 
-element-copy-out-wide : tie.Need-element-copy-out-wide
-element-copy-out-wide c = search needs
-
-wide-requires : tie.Need-wide-requires
-wide-requires c κs = search needs
-
 returns : tie.Need-returns
 returns c =
     let s = c .before .before in
@@ -18,4 +12,4 @@ returns c =
     (c .wide .ensures ∙ rw (s .pre .1) (opcode-at i), rw (c .wide .ensures, s .pre .1) (opcode-small i))
 
 pub opcode-of-spec : {M : Type 1} → statement M
-opcode-of-spec = tie.close (tie.spec element-copy-out-wide wide-requires returns)
+opcode-of-spec = tie.close (tie.spec (λ c. search needs) (λ c κs. search needs) returns)

@@ -4,18 +4,6 @@ use Rattle.instruction_codec.proofs.Forms.{registers-store, registers-o
 use Rattle.instruction_codec.proofs.encoder.operands_of.Statement.{statement}
 use Rattle.instruction_codec.proofs.encoder.operands_of.Tie as tie
 
-register-at-requires : tie.Need-register-at-requires
-register-at-requires c κs = search needs
-
-register-at-requires-2 : tie.Need-register-at-requires-2
-register-at-requires-2 c κs = search needs
-
-register-at-requires-3 : tie.Need-register-at-requires-3
-register-at-requires-3 c κs = search needs
-
-number-at-requires : tie.Need-number-at-requires
-number-at-requires c κs = search needs
-
 returns : tie.Need-returns
 returns c =
     let t = c .before .before in
@@ -37,9 +25,9 @@ pub operands-of-spec : {M : Type 1} → statement M
 operands-of-spec =
     tie.close
     (tie.spec
-    register-at-requires
-    register-at-requires-2
-    register-at-requires-3
-    number-at-requires
+    (λ c κs. search needs)
+    (λ c κs. search needs)
+    (λ c κs. search needs)
+    (λ c κs. search needs)
     returns
     returns-2)

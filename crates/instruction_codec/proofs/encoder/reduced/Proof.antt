@@ -10,9 +10,6 @@ use Rattle.text_lexical.proofs.Numbers.{residue-lt}
 use Rattle.instruction_codec.proofs.encoder.reduced.Statement.{statement}
 use Rattle.instruction_codec.proofs.encoder.reduced.Tie as tie
 
-residue-requires : tie.Need-residue-requires
-residue-requires c κs = search needs
-
 -- what is left is below the modulus
 bound : (c : tie.After-residue) → c .residue .result < 2 ^ (c .before .pre .width)
 bound c =
@@ -28,4 +25,4 @@ returns : tie.Need-returns
 returns c = (c .residue .ensures, le-of-suc-le-suc (rw (c .before .pre .is-power) (bound c)))
 
 pub reduced-spec : {M : Type 1} → statement M
-reduced-spec = tie.close (tie.spec residue-requires cast-result returns)
+reduced-spec = tie.close (tie.spec (λ c κs. search needs) cast-result returns)

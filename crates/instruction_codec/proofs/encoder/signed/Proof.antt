@@ -17,15 +17,6 @@ use Rattle.instruction_codec.proofs.encoder.signed.Tie as tie
 below-zero : (n : ℕ) → 0 < n → _≡_ {A = Whole} (record { negative = true; magnitude = n }) (wholeFor (minus n))
 below-zero n h = sym (whole-minus n ∙ ap (λ (b : Bool). record { negative = b; magnitude = n }) (lt-ltb 0 n h))
 
-add-t6 : tie.Need-add-t6
-add-t6 c = search needs
-
-sub-t7 : tie.Need-sub-t7
-sub-t7 c = search needs
-
-cast-t8 : tie.Need-cast-t8
-cast-t8 c = search needs
-
 returns : tie.Need-returns
 returns c = (signed-low (c .before .args .half) (c .before .args .field) (c .if1 .taken), refl)
 
@@ -36,4 +27,4 @@ returns-2 c = (
 )
 
 pub signed-spec : {M : Type 1} → statement M
-signed-spec = tie.close (tie.spec add-t6 sub-t7 cast-t8 returns returns-2)
+signed-spec = tie.close (tie.spec (λ c. search needs) (λ c. search needs) (λ c. search needs) returns returns-2)

@@ -2,9 +2,9 @@
 -- the row's form.
 use mathlib.Core.Path.{refl}
 use borrow.Author.Needs.{needs}
-use Rattle.instruction.specs.Table.{R, I, Shift, Store, Branch, Jump, System, places, row, table}
+use Rattle.instruction.specs.Table.{R, I, Shift, Store, Jump, System, places, row, table}
 use Rattle.instruction.specs.Contracts.{registersFor, numberFor}
-use Rattle.instruction_encoder.proofs.Words.{coded, coded-load}
+use Rattle.instruction_encoder.proofs.Words.{coded, coded-load, coded-branch}
 use Rattle.instruction_encoder.proofs.encoder.encode.Statement.{statement}
 use Rattle.instruction_encoder.proofs.encoder.encode.Tie as tie
 
@@ -103,13 +103,13 @@ encode-spec =
     (λ c. coded 37 _ _ _ (c .before .before .instruction38 .given .1) refl refl Store refl (c .encode-s-type2 .ensures))
     (λ c. coded 38 _ _ _ (c .before .before .instruction39 .given .1) refl refl Store refl (c .encode-s-type3 .ensures))
     (λ c. coded 39 _ _ _ (c .before .before .instruction40 .given .1) refl refl Store refl (c .encode-s-type4 .ensures))
-    (λ c. coded 40 _ _ _ (c .before .before .instruction41 .given .1) refl refl Branch refl (c .encode-b-type .ensures))
-    (λ c. coded 41 _ _ _ (c .before .before .instruction42 .given .1) refl refl Branch refl (c .encode-b-type2 .ensures))
-    (λ c. coded 42 _ _ _ (c .before .before .instruction43 .given .1) refl refl Branch refl (c .encode-b-type3 .ensures))
-    (λ c. coded 43 _ _ _ (c .before .before .instruction44 .given .1) refl refl Branch refl (c .encode-b-type4 .ensures))
-    (λ c. coded 44 _ _ _ (c .before .before .instruction45 .given .1) refl refl Branch refl (c .encode-b-type5 .ensures))
-    (λ c. coded 45 _ _ _ (c .before .before .instruction46 .given .1) refl refl Branch refl (c .encode-b-type6 .ensures))
+    (λ c. coded-branch 40 _ _ _ (c .before .before .instruction41 .given .1) refl refl refl (c .encode-i-type11 .ensures))
+    (λ c. coded-branch 41 _ _ _ (c .before .before .instruction42 .given .1) refl refl refl (c .encode-i-type12 .ensures))
+    (λ c. coded-branch 42 _ _ _ (c .before .before .instruction43 .given .1) refl refl refl (c .encode-i-type13 .ensures))
+    (λ c. coded-branch 43 _ _ _ (c .before .before .instruction44 .given .1) refl refl refl (c .encode-i-type14 .ensures))
+    (λ c. coded-branch 44 _ _ _ (c .before .before .instruction45 .given .1) refl refl refl (c .encode-i-type15 .ensures))
+    (λ c. coded-branch 45 _ _ _ (c .before .before .instruction46 .given .1) refl refl refl (c .encode-i-type16 .ensures))
     (λ c. coded 46 _ _ _ (c .before .before .instruction47 .given .1) refl refl Jump refl (c .encode-j-type .ensures))
-    (λ c. coded 47 _ _ _ (c .before .before .instruction48 .given .1) refl refl I refl (c .encode-i-type11 .ensures))
+    (λ c. coded 47 _ _ _ (c .before .before .instruction48 .given .1) refl refl I refl (c .encode-i-type17 .ensures))
     (λ c. coded 48 _ _ _ (c .before .enum-told .given .1) refl refl System refl (c .encode-system .ensures))
     (λ c. coded 49 _ _ _ (c .before .enum-told2 .given .1) refl refl System refl (c .encode-system2 .ensures)))

@@ -155,21 +155,14 @@ loop-again c s =
     mark-next _ (b .args .t2) (b .args .at) (b .pre .0) (b .pre .1) (six-places (formAt (b .args .form))) (m .mark-of .result) (between (m .before) s) (m .mark-of .ensures)
     (rw (n .after .given .1) at (a .after-mark .ensures))
 
-array-copy-out-t18 : tie.Need-array-copy-out-t18 Inv-loop μ-loop
-array-copy-out-t18 c = search needs
-
-array-copy-out-t34 : tie.Need-array-copy-out-t34 Inv-loop μ-loop
-array-copy-out-t34 c = search needs
-
-array-copy-out-t37 : tie.Need-array-copy-out-t37 Inv-loop μ-loop
-array-copy-out-t37 c = search needs
+new-requires : tie.Need-new-requires Inv-loop μ-loop
+new-requires c κs = search needs
 
 returns-3 : tie.Need-returns-3 Inv-loop μ-loop
 returns-3 c =
-    let l = c .before .before .before in
-    let k = l .before in
+    let k = c .before .before in
     let b = k .before .before .before in
-    operands-read _ (b .args .t2) (b .args .at) (k .loop .inv) (λ h. omega arith)
+    rw (c .new .ensures) (operands-read _ (b .args .t2) (b .args .at) (k .loop .inv) (λ h. omega arith))
 
 pub parse-operands-spec : {M : Type 1} → statement M
 parse-operands-spec =
@@ -199,7 +192,5 @@ parse-operands-spec =
     enum-known-after
     loop-less
     loop-again
-    array-copy-out-t18
-    array-copy-out-t34
-    array-copy-out-t37
+    new-requires
     returns-3)

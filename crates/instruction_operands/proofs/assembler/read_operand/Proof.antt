@@ -1,15 +1,9 @@
 -- `instruction_operands::assembler::read_operand` meets its contract.
-use Prim.Native.Nat.{ℕ}
-use mathlib.Core.Path.{_≡_, refl, sym, ap, _∙_}
-use native.Mathlib.Omega.{arith}
-use lib.IntN.{ℤ}
+use mathlib.Core.Path.{sym, ap, _∙_}
 use borrow.Author.Needs.{needs}
-use Rattle.text_lexical.specs.Bytes.{Result, value, refused}
-use Rattle.text_lexical.specs.Contracts.{wholeFor}
-use Rattle.text_lexical.specs.declared.number.Whole.{Whole}
-use Rattle.text.specs.Contracts.{extractFor, extractMeant}
-use Rattle.text.specs.declared.parser.Extracted.the-variants.{Number as Extract}
+use Rattle.text.specs.Contracts.{extractMeant}
 use Rattle.text.proofs.Meanings.{extracted-for, extracted-number}
+use Rattle.instruction.proofs.Results.{extracted-is}
 use Rattle.instruction_operands.specs.Contracts.{registerMeant}
 use Rattle.instruction_operands.proofs.assembler.read_operand.Statement.{statement}
 use Rattle.instruction_operands.proofs.assembler.read_operand.Tie as tie
@@ -28,11 +22,6 @@ returns c =
     let n = c .before in
     let x = n .before .before in
     rw (x .before .if1 .taken) (λ u. sym (extracted-number (x .before .before .args .kind) u) ∙ ap extractMeant (sym (x .extract-number .ensures) ∙ n .n .given .1))
-
--- the number that was read
-extracted-is : {w : Whole} (x : Result ℤ) → Extract w ≡ extractFor x → (z : ℤ) × ((x ≡ value z) × (w ≡ wholeFor z))
-extracted-is (value z) e = (z, (refl, cc))
-extracted-is (refused n) e = absurd (let z : _≡_ {A = ℕ} 0 1 = cc in omega arith)
 
 returns-2 : tie.Need-returns-2
 returns-2 c =
