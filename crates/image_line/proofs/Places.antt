@@ -76,7 +76,7 @@ pub register-reads : (names : List Name) (ok : Naming names) (s : List ℕ) (fro
     → RegisterIs names s from r
 unfolding isRegister
 register-reads names ok s from at Other fl q h = tt
-register-reads names ok s from at (IsRegister r e) fl q (g, m, n) =
+register-reads names ok s from at (IsRegister r e) fl q (room, g, m, n) =
     let l : at < length s = omega (arith, run-le namePart (drop at s), length-drop at s) in
     let i = register-identifier names (ok .identifiers) (take (e - at) (drop at s)) (some-named _ _ n) in
     let b = identifier-start (getD s at 0) _ (rw (part-cons s at e g l) at i) in

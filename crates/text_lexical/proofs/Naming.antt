@@ -234,7 +234,7 @@ named-parts u o h = go (named present u) refl h
         let (p, q) = found (λ x. same (x .spelling) u) (λ x. every namePart (x .spelling)) present n e all-parts in
         rw (same-eq (n .spelling) u p) at q
 
-module _ (s : List ℕ) (at : ℕ) (l : at + 2 ≤ length s) where
+module _ (s : List ℕ) (at : ℕ) (l : at + 4 < length s) where
   -- A word that has two bytes at least goes on after them.
   two-or-fewer : (run namePart (drop at s) ≡ 2 + run namePart (drop (at + 2) s)) ⊎ (run namePart (drop at s) < 2)
   two-or-fewer =
@@ -269,6 +269,6 @@ module _ (s : List ℕ) (at : ℕ) (l : at + 2 ≤ length s) where
     named-word (Named r) e =
         let y = run-past namePart (end - at) (drop at s) (omega (arith, length-drop at s, length-drop (at + 2) s, run-le namePart (drop (at + 2) s)))
         (named-parts (part s at (end - at)) (some (indexOf r)) (sym e)) in
-        (omega arith, ⊎-elim (λ w. omega arith) (λ w. absurd (omega arith)) two-or-fewer, sym e)
+        (omega arith, omega arith, ⊎-elim (λ w. omega arith) (λ w. absurd (omega arith)) two-or-fewer, sym e)
     named-word NoSuch e = λ l n. other-word n (λ k. let y : _≡_ {A = ℕ} 0 1 = cc in omega arith)
     named-word NoName e = λ l n. other-word n (λ k. let y : _≡_ {A = ℕ} 0 1 = cc in omega arith)

@@ -44,7 +44,8 @@ upTo (Named r) end = Is r end
 upTo NoSuch end = Other
 upTo NoName end = Other
 
--- The register that the word at a place names, and its end; or it names none, where so many bytes follow that the longest name would be seen.
+-- The register that the word at a place names, and its end; or it names none. Nothing is found where not so many bytes follow that the end of
+-- the longest name would be seen.
 abbrev pub RegisterWordIs : List Name → List ℕ → ℕ → RegisterWord → Type 0
-RegisterWordIs names s at (Is r end) = (at < end) × (end ≡ wordEnd s at) × (nameNumber (named names (part s at (end - at))) ≡ some (some (indexOf r)))
+RegisterWordIs names s at (Is r end) = (at + 4 < length s) × (at < end) × (end ≡ wordEnd s at) × (nameNumber (named names (part s at (end - at))) ≡ some (some (indexOf r)))
 RegisterWordIs names s at Other = at + 4 < length s → (n : ℕ) → nameNumber (named names (wordAt s at)) ≡ some (some n) → ⊥

@@ -26,9 +26,6 @@ returns c =
     let a = c .before .before .before .before .args in
     sym (config-count (settingsMeant (a .config)) (recordMeant (a .source .now) (a .line)) (c .if1 .taken))
 
-array-copy-out-key : tie.Need-array-copy-out-key
-array-copy-out-key c = search needs
-
 enum-told : tie.Need-enum-told
 enum-told c = search needs
 
@@ -37,18 +34,6 @@ returns-2 c =
     let e = c .before .before in
     let s = e .before .before .before .before in
     sym (config-key (settingsMeant (s .args .config)) (s .args .source .now) (s .args .line) past (s .pre .places) (e .if1 .left) (c .match .keys2))
-
-array-copy-out-value : tie.Need-array-copy-out-value
-array-copy-out-value c = search needs
-
-extract-number-requires : tie.Need-extract-number-requires
-extract-number-requires c κs = search needs
-
-enum-known-n : tie.Need-enum-known-n
-enum-known-n c = search needs
-
-enum-known-whole : tie.Need-enum-known-whole
-enum-known-whole c = search needs
 
 -- the key is a part of the text
 inside : (c : tie.After-struct-known2) → let a = c .before .before .before .before .before .before .before .before .before .before .before .before .before .args in
@@ -61,17 +46,8 @@ inside c =
 add-end : tie.Need-add-end
 add-end c = let i = inside c in omega (arith, i)
 
-sub-set-field : tie.Need-sub-set-field
-sub-set-field c = search needs
-
-part-set-field-start : tie.Need-part-set-field-start
-part-set-field-start c = search needs
-
 part-set-field-end : tie.Need-part-set-field-end
 part-set-field-end c = inside c
-
-residue-requires : tie.Need-residue-requires
-residue-requires c κs = search needs
 
 -- the value is what its number leaves
 left : (c : tie.After-residue) → c .residue .result ≡ residue 8 (wholeMeant (c .before .before .before .before .whole .given .0 .0))
@@ -79,9 +55,6 @@ left c = c .residue .ensures .at-width 8 refl
 
 cast-set-field : tie.Need-cast-set-field
 cast-set-field c = omega (arith, left c, residue-lt 8 (wholeMeant (c .before .before .before .before .whole .given .0 .0)))
-
-set-field-requires : tie.Need-set-field-requires
-set-field-requires c κs = search needs
 
 returns-3 : tie.Need-returns-3
 returns-3 c =
@@ -112,21 +85,6 @@ returns-4 c =
 pub parse-config-spec : {M : Type 1} → statement M
 parse-config-spec =
     tie.close
-    (tie.spec
-    returns
-    array-copy-out-key
-    enum-told
-    returns-2
-    array-copy-out-value
-    extract-number-requires
-    enum-known-n
-    enum-known-whole
-    add-end
-    sub-set-field
-    part-set-field-start
-    part-set-field-end
-    residue-requires
-    cast-set-field
-    set-field-requires
-    returns-3
+    (tie.spec returns (search needs) enum-told returns-2 (search needs) (search needs) (search needs) (search needs)
+    add-end (search needs) (search needs) part-set-field-end (search needs) cast-set-field (search needs) returns-3
     returns-4)

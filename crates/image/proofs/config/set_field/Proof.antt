@@ -9,15 +9,6 @@ use Rattle.image.proofs.Checks.{set-limb-bits, set-data-limbs, set-addr
 use Rattle.image.proofs.config.set_field.Statement.{statement}
 use Rattle.image.proofs.config.set_field.Tie as tie
 
-slice-aggregate-same : tie.Need-slice-aggregate-same
-slice-aggregate-same c = search needs
-
-same-requires : tie.Need-same-requires
-same-requires c κs = search needs
-
-validated-requires : tie.Need-validated-requires
-validated-requires c κs = search needs
-
 returns : tie.Need-returns
 unfolding settings limb-bits-key bytes
 returns c =
@@ -34,15 +25,6 @@ no-data-limbs : (c : tie.Else2) → same (c .before .before .before .before .bef
 unfolding data-limbs-key bytes
 no-data-limbs c = sym (c .before .same2 .ensures) ∙ c .if2 .left
 
-slice-aggregate-same-2 : tie.Need-slice-aggregate-same-2
-slice-aggregate-same-2 c = search needs
-
-same-requires-2 : tie.Need-same-requires-2
-same-requires-2 c κs = search needs
-
-validated-requires-2 : tie.Need-validated-requires-2
-validated-requires-2 c κs = search needs
-
 returns-2 : tie.Need-returns-2
 unfolding settings data-limbs-key bytes
 returns-2 c =
@@ -51,15 +33,6 @@ returns-2 c =
     let a = e .before .before .before .before .args in
     c .validated2 .ensures
     ∙ ap checked (sym (set-data-limbs (settingsMeant (a .config)) (a .key .now) (a .value) (no-limb-bits e) (sym (k .same2 .ensures) ∙ c .before .if2 .taken)))
-
-slice-aggregate-same-3 : tie.Need-slice-aggregate-same-3
-slice-aggregate-same-3 c = search needs
-
-same-requires-3 : tie.Need-same-requires-3
-same-requires-3 c κs = search needs
-
-validated-requires-3 : tie.Need-validated-requires-3
-validated-requires-3 c κs = search needs
 
 returns-3 : tie.Need-returns-3
 unfolding settings addr-limbs-key bytes
@@ -83,17 +56,5 @@ returns-4 c =
 pub set-field-spec : {M : Type 1} → statement M
 set-field-spec =
     tie.close
-    (tie.spec
-    slice-aggregate-same
-    same-requires
-    validated-requires
-    returns
-    slice-aggregate-same-2
-    same-requires-2
-    validated-requires-2
-    returns-2
-    slice-aggregate-same-3
-    same-requires-3
-    validated-requires-3
-    returns-3
-    returns-4)
+    (tie.spec (search needs) (search needs) (search needs) returns (search needs) (search needs) (search needs)
+    returns-2 (search needs) (search needs) (search needs) returns-3 returns-4)

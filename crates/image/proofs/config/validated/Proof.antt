@@ -6,12 +6,6 @@ use Rattle.image.proofs.Checks.{checked-fault, checked-good}
 use Rattle.image.proofs.config.validated.Statement.{statement}
 use Rattle.image.proofs.config.validated.Tie as tie
 
-validate-requires : tie.Need-validate-requires
-validate-requires c κs = search needs
-
-enum-known-n : tie.Need-enum-known-n
-enum-known-n c = search needs
-
 enum-told : tie.Need-enum-told
 enum-told c = search needs
 
@@ -26,4 +20,5 @@ returns-2 c =
     sym (checked-good (settingsMeant (v .before .args .config)) (sym (rw (c .enum-told .given .1) at (v .validate .ensures))))
 
 pub validated-spec : {M : Type 1} → statement M
-validated-spec = tie.close (tie.spec validate-requires enum-known-n enum-told returns returns-2)
+validated-spec = tie.close
+    (tie.spec (search needs) (search needs) enum-told returns returns-2)

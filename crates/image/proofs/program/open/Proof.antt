@@ -13,29 +13,8 @@ use Rattle.image.proofs.program.open.Tie as tie
 returns : tie.Need-returns
 returns c = sym (opening-short (c .before .before .args .image .now) (c .if1 .taken))
 
-read-header-requires : tie.Need-read-header-requires
-read-header-requires c κs = search needs
-
-validate-requires : tie.Need-validate-requires
-validate-requires c κs = search needs
-
-enum-known-n : tie.Need-enum-known-n
-enum-known-n c = search needs
-
 enum-told : tie.Need-enum-told
 enum-told c = search needs
-
-cast-code-end : tie.Need-cast-code-end
-cast-code-end c = search needs
-
-add-code-end : tie.Need-add-code-end
-add-code-end c = search needs
-
-cast-if3 : tie.Need-cast-if3
-cast-if3 c = search needs
-
-add-if3 : tie.Need-add-if3
-add-if3 c = search needs
 
 -- what the header that was read is refused for
 refused-for : (c : tie.After-validate) → headerFault (headerOf (c .before .before .before .before .args .image .now)) ≡ faultMeant (c .validate .result)
@@ -82,17 +61,5 @@ returns-5 c =
 pub open-spec : {M : Type 1} → statement M
 open-spec =
     tie.close
-    (tie.spec
-    returns
-    read-header-requires
-    validate-requires
-    enum-known-n
-    enum-told
-    returns-2
-    cast-code-end
-    add-code-end
-    cast-if3
-    add-if3
-    returns-3
-    returns-4
-    returns-5)
+    (tie.spec returns (search needs) (search needs) (search needs) enum-told returns-2 (search needs) (search needs)
+    (search needs) (search needs) returns-3 returns-4 returns-5)

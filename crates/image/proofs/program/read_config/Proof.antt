@@ -7,15 +7,6 @@ use Rattle.image.proofs.Heads.{number-one}
 use Rattle.image.proofs.program.read_config.Statement.{statement}
 use Rattle.image.proofs.program.read_config.Tie as tie
 
-shared-slice-read-t3 : tie.Need-shared-slice-read-t3
-shared-slice-read-t3 c = search needs
-
-shared-slice-read-t5 : tie.Need-shared-slice-read-t5
-shared-slice-read-t5 c = search needs
-
-shared-slice-read-t7 : tie.Need-shared-slice-read-t7
-shared-slice-read-t7 c = search needs
-
 returns : tie.Need-returns
 unfolding headerOf
 returns c =
@@ -27,4 +18,5 @@ returns c =
 
 pub read-config-spec : {M : Type 1} → statement M
 read-config-spec =
-    tie.close (tie.spec shared-slice-read-t3 shared-slice-read-t5 shared-slice-read-t7 returns)
+    tie.close
+    (tie.spec (search needs) (search needs) (search needs) returns)

@@ -6,33 +6,6 @@ use Rattle.image.proofs.Heads.{number-one}
 use Rattle.image.proofs.program.read_header.Statement.{statement}
 use Rattle.image.proofs.program.read_header.Tie as tie
 
-read-u32-requires : tie.Need-read-u32-requires
-read-u32-requires c κs = search needs
-
-read-u32-requires-2 : tie.Need-read-u32-requires-2
-read-u32-requires-2 c κs = search needs
-
-read-config-requires : tie.Need-read-config-requires
-read-config-requires c κs = search needs
-
-shared-slice-read-t6 : tie.Need-shared-slice-read-t6
-shared-slice-read-t6 c = search needs
-
-read-u32-requires-3 : tie.Need-read-u32-requires-3
-read-u32-requires-3 c κs = search needs
-
-read-u32-requires-4 : tie.Need-read-u32-requires-4
-read-u32-requires-4 c κs = search needs
-
-read-u32-requires-5 : tie.Need-read-u32-requires-5
-read-u32-requires-5 c κs = search needs
-
-read-u32-requires-6 : tie.Need-read-u32-requires-6
-read-u32-requires-6 c κs = search needs
-
-read-u32-requires-7 : tie.Need-read-u32-requires-7
-read-u32-requires-7 c κs = search needs
-
 returns : tie.Need-returns
 unfolding headerOf
 returns c =
@@ -55,14 +28,5 @@ returns c =
 pub read-header-spec : {M : Type 1} → statement M
 read-header-spec =
     tie.close
-    (tie.spec
-    read-u32-requires
-    read-u32-requires-2
-    read-config-requires
-    shared-slice-read-t6
-    read-u32-requires-3
-    read-u32-requires-4
-    read-u32-requires-5
-    read-u32-requires-6
-    read-u32-requires-7
-    returns)
+    (tie.spec (search needs) (search needs) (search needs) (search needs) (search needs) (search needs)
+    (search needs) (search needs) (search needs) returns)

@@ -6,17 +6,8 @@ use Rattle.image.proofs.Heads.{number-four}
 use Rattle.image.proofs.program.read_u32.Statement.{statement}
 use Rattle.image.proofs.program.read_u32.Tie as tie
 
-shared-slice-read-low : tie.Need-shared-slice-read-low
-shared-slice-read-low c = search needs
-
 cast-low : tie.Need-cast-low
 cast-low c = omega (arith, c .shared-slice-known .given (c .before .args .at))
-
-add-low : tie.Need-add-low
-add-low c = search needs
-
-shared-slice-read-low-2 : tie.Need-shared-slice-read-low-2
-shared-slice-read-low-2 c = search needs
 
 cast-low-2 : tie.Need-cast-low-2
 cast-low-2 c = omega (arith, c .shared-slice-known2 .given (c .before .before .args .at + 1))
@@ -27,12 +18,6 @@ mul-low c = omega (arith, c .shared-slice-known2 .given (c .before .before .args
 add-low-2 : tie.Need-add-low-2
 add-low-2 c = let a = c .before .before .args in omega (arith, c .before .shared-slice-known .given (a .at), c .shared-slice-known2 .given (a .at + 1))
 
-add-result : tie.Need-add-result
-add-result c = search needs
-
-shared-slice-read-result : tie.Need-shared-slice-read-result
-shared-slice-read-result c = search needs
-
 cast-result : tie.Need-cast-result
 cast-result c = omega (arith, c .shared-slice-known3 .given (c .before .before .before .args .at + 2))
 
@@ -41,12 +26,6 @@ mul-result c = omega (arith, c .shared-slice-known3 .given (c .before .before .b
 
 add-result-2 : tie.Need-add-result-2
 add-result-2 c = let a = c .before .before .before .args in omega (arith, c .before .before .shared-slice-known .given (a .at), c .before .shared-slice-known2 .given (a .at + 1), c .shared-slice-known3 .given (a .at + 2))
-
-add-result-3 : tie.Need-add-result-3
-add-result-3 c = search needs
-
-shared-slice-read-result-2 : tie.Need-shared-slice-read-result-2
-shared-slice-read-result-2 c = search needs
 
 cast-result-2 : tie.Need-cast-result-2
 cast-result-2 c = omega (arith, c .shared-slice-known4 .given (c .before .before .before .before .args .at + 3))
@@ -63,22 +42,6 @@ returns c = let s = c .before .before .before .before in number-four (s .args .a
 pub read-u32-spec : {M : Type 1} → statement M
 read-u32-spec =
     tie.close
-    (tie.spec
-    shared-slice-read-low
-    cast-low
-    add-low
-    shared-slice-read-low-2
-    cast-low-2
-    mul-low
-    add-low-2
-    add-result
-    shared-slice-read-result
-    cast-result
-    mul-result
-    add-result-2
-    add-result-3
-    shared-slice-read-result-2
-    cast-result-2
-    mul-result-2
-    add-result-4
-    returns)
+    (tie.spec (search needs) cast-low (search needs) (search needs) cast-low-2 mul-low add-low-2 (search needs)
+    (search needs) cast-result mul-result add-result-2 (search needs) (search needs) cast-result-2 mul-result-2
+    add-result-4 returns)

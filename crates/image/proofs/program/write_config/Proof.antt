@@ -7,32 +7,14 @@ use Rattle.text_writer.proofs.Writing.{written-four}
 use Rattle.image.proofs.program.write_config.Statement.{statement}
 use Rattle.image.proofs.program.write_config.Tie as tie
 
-slice-write-out : tie.Need-slice-write-out
-slice-write-out c = search needs
-
-add-out : tie.Need-add-out
-add-out c = search needs
-
 slice-write-out-2 : tie.Need-slice-write-out-2
 slice-write-out-2 c = simp length-set (omega arith)
-
-add-out-2 : tie.Need-add-out-2
-add-out-2 c = search needs
 
 slice-write-out-3 : tie.Need-slice-write-out-3
 slice-write-out-3 c = simp length-set (omega arith)
 
-add-out-3 : tie.Need-add-out-3
-add-out-3 c = search needs
-
 slice-write-out-4 : tie.Need-slice-write-out-4
 slice-write-out-4 c = simp length-set (omega arith)
-
-add-result : tie.Need-add-result
-add-result c = search needs
-
-same-length : tie.Need-same-length
-same-length c = search needs
 
 returns : tie.Need-returns
 unfolding settings
@@ -43,14 +25,5 @@ returns c =
 pub write-config-spec : {M : Type 1} → statement M
 write-config-spec =
     tie.close
-    (tie.spec
-    slice-write-out
-    add-out
-    slice-write-out-2
-    add-out-2
-    slice-write-out-3
-    add-out-3
-    slice-write-out-4
-    add-result
-    same-length
-    returns)
+    (tie.spec (search needs) (search needs) slice-write-out-2 (search needs) slice-write-out-3 (search needs)
+    slice-write-out-4 (search needs) (search needs) returns)

@@ -8,33 +8,9 @@ use Rattle.image.specs.Program.{magic, version, entry, stack-size, heade
 use Rattle.image.proofs.program.write_header.Statement.{statement}
 use Rattle.image.proofs.program.write_header.Tie as tie
 
-slice-aggregate-write-bytes : tie.Need-slice-aggregate-write-bytes
-slice-aggregate-write-bytes c = search needs
-
-write-bytes-requires : tie.Need-write-bytes-requires
-write-bytes-requires c κs = search needs
-
-write-config-requires : tie.Need-write-config-requires
-write-config-requires c κs = search needs
-
-slice-aggregate-write-bytes-2 : tie.Need-slice-aggregate-write-bytes-2
-slice-aggregate-write-bytes-2 c = search needs
-
-write-bytes-requires-2 : tie.Need-write-bytes-requires-2
-write-bytes-requires-2 c κs = search needs
-
-write-u32-requires : tie.Need-write-u32-requires
-write-u32-requires c κs = search needs
-
-slice-aggregate-write-bytes-3 : tie.Need-slice-aggregate-write-bytes-3
-slice-aggregate-write-bytes-3 c = search needs
-
 write-bytes-requires-3 : tie.Need-write-bytes-requires-3
 unfolding little
 write-bytes-requires-3 c κs = search needs
-
-same-length : tie.Need-same-length
-same-length c = search needs
 
 returns : tie.Need-returns
 unfolding headerBytes headerFor little magic version entry stack-size settings
@@ -50,14 +26,5 @@ returns c =
 pub write-header-spec : {M : Type 1} → statement M
 write-header-spec =
     tie.close
-    (tie.spec
-    slice-aggregate-write-bytes
-    write-bytes-requires
-    write-config-requires
-    slice-aggregate-write-bytes-2
-    write-bytes-requires-2
-    write-u32-requires
-    slice-aggregate-write-bytes-3
-    write-bytes-requires-3
-    same-length
-    returns)
+    (tie.spec (search needs) (search needs) (search needs) (search needs) (search needs) (search needs)
+    (search needs) write-bytes-requires-3 (search needs) returns)

@@ -6,9 +6,6 @@ use Rattle.image_assembler.proofs.assembler.answered.Tie as tie
 enum-told : tie.Need-enum-told
 enum-told c = search needs
 
-enum-known-fill : tie.Need-enum-known-fill
-enum-known-fill c = search needs
-
 returns : tie.Need-returns
 returns c = rw (c .enum-told .given .1)
 
@@ -16,4 +13,5 @@ returns-2 : tie.Need-returns-2
 returns-2 c = rw (c .before .fill .given .1)
 
 pub answered-spec : {M : Type 1} → statement M
-answered-spec = tie.close (tie.spec enum-told enum-known-fill returns returns-2)
+answered-spec = tie.close
+    (tie.spec enum-told (search needs) returns returns-2)

@@ -21,22 +21,11 @@ returns-3 c =
     let a = c .before .before .before .before .before .before .args in
     sym (advanced-spent (a .source .now) (a .label) (a .path) (c .before .before .before .before .before .before .pre) (omega arith) (omega arith) (omega arith))
 
-add-at : tie.Need-add-at
-add-at c = search needs
-
-shared-slice-read-bits-of : tie.Need-shared-slice-read-bits-of
-shared-slice-read-bits-of c = search needs
-
-bits-of-requires : tie.Need-bits-of-requires
-bits-of-requires c κs = search needs
-
-add-t12 : tie.Need-add-t12
-add-t12 c = search needs
-
 returns-4 : tie.Need-returns-4
 returns-4 c =
     let a = c .before .before .before .before .before .before .before .before .before .args in
     rw (c .bits-of .ensures) (sym (advanced-byte (a .source .now) (a .label) (a .path) (c .before .before .before .before .before .before .before .before .before .pre) (omega arith) (omega arith) (omega arith)))
 
 pub advance-spec : {M : Type 1} → statement M
-advance-spec = tie.close (tie.spec returns returns-2 returns-3 add-at shared-slice-read-bits-of bits-of-requires add-t12 returns-4)
+advance-spec = tie.close
+    (tie.spec returns returns-2 returns-3 (search needs) (search needs) (search needs) (search needs) returns-4)

@@ -13,35 +13,8 @@ use Rattle.image_labels.proofs.Roots.{begun-none, begun-some}
 use Rattle.image_labels.proofs.tree.begin.Statement.{statement}
 use Rattle.image_labels.proofs.tree.begin.Tie as tie
 
-hash-requires : tie.Need-hash-requires
-hash-requires c κs = search needs
-
-mul-t15 : tie.Need-mul-t15
-mul-t15 c = search needs
-
-add-t16 : tie.Need-add-t16
-add-t16 c = search needs
-
-add-t18 : tie.Need-add-t18
-add-t18 c = search needs
-
-add-t20 : tie.Need-add-t20
-add-t20 c = search needs
-
-slot-requires : tie.Need-slot-requires
-slot-requires c κs = search needs
-
-mul-root : tie.Need-mul-root
-mul-root c = search needs
-
-shared-slice-read-root : tie.Need-shared-slice-read-root
-shared-slice-read-root c = search needs
-
 cast-root : tie.Need-cast-root
 cast-root c = omega (arith, c .shared-slice-known3 .given (c .before .slot .result))
-
-started-requires : tie.Need-started-requires
-started-requires c κs = search needs
 
 returns : tie.Need-returns
 unfolding firstPath keyOf entryFor
@@ -54,12 +27,6 @@ returns c =
     let at : f .slot .result ≡ slotOf (hashOf u) (length roots) = f .slot .ensures .0 ∙ ap (λ (d : Digest). slotOf d (length roots)) (h .ensures) in
     let none : rootOf roots u ≡ 0 = ap (λ (i : ℕ). getD roots i 0) (sym at) ∙ c .before .if1 .taken in
     rw (begun-none (k .args .source .now) roots (k .args .count) (span (k .args .start) (k .args .length)) none, c .started .ensures, h .ensures, spelled-long (k .args .source .now) (span (k .args .start) (k .args .length)) (k .pre .0 .in-text), ← at)
-
-sub-started : tie.Need-sub-started
-sub-started c = search needs
-
-started-requires-2 : tie.Need-started-requires-2
-started-requires-2 c κs = search needs
 
 returns-2 : tie.Need-returns-2
 unfolding firstPath keyOf entryFor
@@ -78,18 +45,5 @@ returns-2 c =
 pub begin-spec : {M : Type 1} → statement M
 begin-spec =
     tie.close
-    (tie.spec
-    hash-requires
-    mul-t15
-    add-t16
-    add-t18
-    add-t20
-    slot-requires
-    mul-root
-    shared-slice-read-root
-    cast-root
-    started-requires
-    returns
-    sub-started
-    started-requires-2
-    returns-2)
+    (tie.spec (search needs) (search needs) (search needs) (search needs) (search needs) (search needs)
+    (search needs) (search needs) cast-root (search needs) returns (search needs) (search needs) returns-2)

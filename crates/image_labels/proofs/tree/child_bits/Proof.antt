@@ -5,17 +5,12 @@ use Rattle.image_labels.proofs.Hashing.{child-bits-odd, child-bits-even
 use Rattle.image_labels.proofs.tree.child_bits.Statement.{statement}
 use Rattle.image_labels.proofs.tree.child_bits.Tie as tie
 
-mul-result : tie.Need-mul-result
-mul-result c = search needs
-
 returns : tie.Need-returns
 returns c = let a = c .before .args in sym (child-bits-odd (a .to) (a .branch) (c .if1 .taken))
-
-mul-result-2 : tie.Need-mul-result-2
-mul-result-2 c = search needs
 
 returns-2 : tie.Need-returns-2
 returns-2 c = let a = c .before .args in sym (child-bits-even (a .to) (a .branch) (c .if1 .left))
 
 pub child-bits-spec : {M : Type 1} → statement M
-child-bits-spec = tie.close (tie.spec mul-result returns mul-result-2 returns-2)
+child-bits-spec = tie.close
+    (tie.spec (search needs) returns (search needs) returns-2)

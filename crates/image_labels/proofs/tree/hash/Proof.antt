@@ -24,9 +24,6 @@ Inv-loop2 s at₀ end hash₀ at hash =
 abbrev μ-loop2 : tie.MeasureT-loop2
 μ-loop2 s at₀ end hash₀ at hash = end - at
 
-add-end : tie.Need-add-end Inv-loop μ-loop Inv-loop2 μ-loop2
-add-end c = search needs
-
 loop-holds : tie.Need-loop-holds Inv-loop μ-loop Inv-loop2 μ-loop2
 loop-holds c = (omega arith, omega arith, refl)
 
@@ -77,9 +74,6 @@ loop2-again c =
     let i = k .loop2 .inv in
     (omega arith, omega arith, omega arith, rw (c .mix2 .ensures) (sym (hash-one s (k .loop2 .hash) (k .loop2 .at) _ (l .loop2-test .taken) (i .2) (i .1)) ∙ i .3))
 
-mix-requires-3 : tie.Need-mix-requires-3 Inv-loop μ-loop Inv-loop2 μ-loop2
-mix-requires-3 c κs = search needs
-
 returns : tie.Need-returns Inv-loop μ-loop Inv-loop2 μ-loop2
 returns c =
     let l = c .before in
@@ -90,25 +84,6 @@ returns c =
 pub hash-spec : {M : Type 1} → statement M
 hash-spec =
     tie.close
-    (tie.spec
-    Inv-loop
-    μ-loop
-    Inv-loop2
-    μ-loop2
-    add-end
-    loop-holds
-    sub-loop
-    three-bytes-requires
-    mix-requires
-    add-at
-    loop-less
-    loop-again
-    loop2-holds
-    shared-slice-read-mix
-    cast-mix
-    mix-requires-2
-    add-at-2
-    loop2-less
-    loop2-again
-    mix-requires-3
-    returns)
+    (tie.spec Inv-loop μ-loop Inv-loop2 μ-loop2 (search needs) loop-holds sub-loop three-bytes-requires mix-requires
+    add-at loop-less loop-again loop2-holds shared-slice-read-mix cast-mix mix-requires-2 add-at-2 loop2-less
+    loop2-again (search needs) returns)

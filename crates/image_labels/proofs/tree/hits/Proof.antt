@@ -8,9 +8,6 @@ use Rattle.image_labels.proofs.tree.hits.Tie as tie
 returns : tie.Need-returns
 returns c = let a = c .before .before .before .args in sym (hits-not (a .source .now) (a .at) (a .key) _ (c .if1 .taken))
 
-plain-requires : tie.Need-plain-requires
-plain-requires c κs = search needs
-
 same-spelling-requires : tie.Need-same-spelling-requires
 same-spelling-requires c κs = let k = c .before .before .before .before in (rw (c .plain .ensures) (k .pre .0), k .pre .1)
 
@@ -20,4 +17,5 @@ returns-2 c =
     c .same-spelling .ensures ∙ rw (c .before .plain .ensures) (sym (hits-same (a .source .now) (a .at) (a .key) _ (c .before .before .if1 .left)))
 
 pub hits-spec : {M : Type 1} → statement M
-hits-spec = tie.close (tie.spec returns plain-requires same-spelling-requires returns-2)
+hits-spec = tie.close
+    (tie.spec returns (search needs) same-spelling-requires returns-2)

@@ -6,9 +6,6 @@ use Rattle.image_labels.proofs.Hashing.{child-bits-fits, linked-low, li
 use Rattle.image_labels.proofs.tree.linked.Statement.{statement}
 use Rattle.image_labels.proofs.tree.linked.Tie as tie
 
-child-bits-requires : tie.Need-child-bits-requires
-child-bits-requires c κs = search needs
-
 add-t9 : tie.Need-add-t9
 add-t9 c = let a = c .before .before .args in omega (arith, child-bits-fits (a .to) (a .branch))
 
@@ -22,4 +19,5 @@ returns-2 : tie.Need-returns-2
 returns-2 c = let a = c .before .before .args in rw (c .before .child-bits .ensures) (sym (linked-high (a .entry) (a .branch) (c .if1 .left) (a .to)))
 
 pub linked-spec : {M : Type 1} → statement M
-linked-spec = tie.close (tie.spec child-bits-requires add-t9 returns add-t11 returns-2)
+linked-spec = tie.close
+    (tie.spec (search needs) add-t9 returns add-t11 returns-2)

@@ -8,32 +8,14 @@ use Rattle.image_labels.proofs.Hashing.{mix-fits}
 use Rattle.image_labels.proofs.tree.mix.Statement.{statement}
 use Rattle.image_labels.proofs.tree.mix.Tie as tie
 
-mul-t6 : tie.Need-mul-t6
-mul-t6 c = search needs
-
-add-t7 : tie.Need-add-t7
-add-t7 c = search needs
-
 mul-t8 : tie.Need-mul-t8
 mul-t8 c = omega (arith, mix-fits (c .args .hash .first) (2654435761 + 89 * c .args .bytes) (omega arith))
-
-add-t10 : tie.Need-add-t10
-add-t10 c = search needs
 
 add-t11 : tie.Need-add-t11
 add-t11 c = omega (arith, mix-fits (c .args .hash .first) (2654435761 + 89 * c .args .bytes) (omega arith))
 
-mul-t13 : tie.Need-mul-t13
-mul-t13 c = search needs
-
-add-t14 : tie.Need-add-t14
-add-t14 c = search needs
-
 mul-t15 : tie.Need-mul-t15
 mul-t15 c = omega (arith, mix-fits (c .args .hash .second) (2246822519 + 113 * c .args .bytes) (omega arith))
-
-add-t17 : tie.Need-add-t17
-add-t17 c = search needs
 
 add-t18 : tie.Need-add-t18
 add-t18 c = omega (arith, mix-fits (c .args .hash .second) (2246822519 + 113 * c .args .bytes) (omega arith))
@@ -43,4 +25,6 @@ unfolding mixed
 returns c = refl
 
 pub mix-spec : {M : Type 1} → statement M
-mix-spec = tie.close (tie.spec mul-t6 add-t7 mul-t8 add-t10 add-t11 mul-t13 add-t14 mul-t15 add-t17 add-t18 returns)
+mix-spec = tie.close
+    (tie.spec (search needs) (search needs) mul-t8 (search needs) add-t11 (search needs) (search needs) mul-t15
+    (search needs) add-t18 returns)

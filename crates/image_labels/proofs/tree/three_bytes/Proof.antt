@@ -7,17 +7,8 @@ use Rattle.image_labels.specs.Tree.{threeAt}
 use Rattle.image_labels.proofs.tree.three_bytes.Statement.{statement}
 use Rattle.image_labels.proofs.tree.three_bytes.Tie as tie
 
-shared-slice-read-result : tie.Need-shared-slice-read-result
-shared-slice-read-result c = search needs
-
 cast-result : tie.Need-cast-result
 cast-result c = omega (arith, c .shared-slice-known .given (c .before .args .at))
-
-add-result : tie.Need-add-result
-add-result c = search needs
-
-shared-slice-read-result-2 : tie.Need-shared-slice-read-result-2
-shared-slice-read-result-2 c = search needs
 
 cast-result-2 : tie.Need-cast-result-2
 cast-result-2 c = omega (arith, c .shared-slice-known2 .given (c .before .before .args .at + 1))
@@ -27,12 +18,6 @@ mul-result c = omega (arith, c .shared-slice-known2 .given (c .before .before .a
 
 add-result-2 : tie.Need-add-result-2
 add-result-2 c = let at = c .before .before .args .at in omega (arith, c .shared-slice-known2 .given at, c .shared-slice-known2 .given (at + 1))
-
-add-result-3 : tie.Need-add-result-3
-add-result-3 c = search needs
-
-shared-slice-read-result-3 : tie.Need-shared-slice-read-result-3
-shared-slice-read-result-3 c = search needs
 
 cast-result-3 : tie.Need-cast-result-3
 cast-result-3 c = omega (arith, c .shared-slice-known3 .given (c .before .before .before .args .at + 2))
@@ -54,17 +39,5 @@ returns c =
 pub three-bytes-spec : {M : Type 1} → statement M
 three-bytes-spec =
     tie.close
-    (tie.spec
-    shared-slice-read-result
-    cast-result
-    add-result
-    shared-slice-read-result-2
-    cast-result-2
-    mul-result
-    add-result-2
-    add-result-3
-    shared-slice-read-result-3
-    cast-result-3
-    mul-result-2
-    add-result-4
-    returns)
+    (tie.spec (search needs) cast-result (search needs) (search needs) cast-result-2 mul-result add-result-2
+    (search needs) (search needs) cast-result-3 mul-result-2 add-result-4 returns)

@@ -7,24 +7,9 @@ use Rattle.image_passes.specs.Contracts.{lineAfter}
 use Rattle.image_passes.proofs.first_pass.after_line.Statement.{statement}
 use Rattle.image_passes.proofs.first_pass.after_line.Tie as tie
 
-enum-known-rest : tie.Need-enum-known-rest
-enum-known-rest c = search needs
-
-stopped-at-requires : tie.Need-stopped-at-requires
-stopped-at-requires c κs = search needs
-
-enum-known-rest-2 : tie.Need-enum-known-rest-2
-enum-known-rest-2 c = search needs
-
-finished-requires : tie.Need-finished-requires
-finished-requires c κs = search needs
-
 returns : tie.Need-returns
 unfolding lineAfter
 returns c = rw (c .finished .ensures, c .before .before .before .rest2 .given .1, lineAfter, le-ltb _ _ (c .before .if1 .taken))
-
-add-t13 : tie.Need-add-t13
-add-t13 c = search needs
 
 add-t14 : tie.Need-add-t14
 unfolding most-bytes
@@ -43,13 +28,5 @@ returns-3 c =
 pub after-line-spec : {M : Type 1} → statement M
 after-line-spec =
     tie.close
-    (tie.spec
-    enum-known-rest
-    stopped-at-requires
-    enum-known-rest-2
-    finished-requires
-    returns
-    add-t13
-    add-t14
-    returns-2
+    (tie.spec (search needs) (search needs) (search needs) (search needs) returns (search needs) add-t14 returns-2
     returns-3)

@@ -19,15 +19,6 @@ clean c = c .ascii-end .ensures ∙ omega arith
 short : (c : tie.After-ascii-end) → length (c .before .before .args .source .now) ≤ most-bytes
 short c = c .before .before .pre
 
-ascii-end-requires : tie.Need-ascii-end-requires
-ascii-end-requires c κs = search needs
-
-line-number-requires : tie.Need-line-number-requires
-line-number-requires c κs = search needs
-
-stopped-requires : tie.Need-stopped-requires
-stopped-requires c κs = search needs
-
 returns : tie.Need-returns
 returns c =
     let l = c .before in
@@ -35,13 +26,11 @@ returns c =
     let s = r .before .before .args .source .now in
     rw (c .stopped .ensures) (begins-high (short r) (rw (← clean r) (l .before .if1 .taken)) (l .line-number .ensures ∙ ap (λ n. length (lines (take n s))) (clean r)))
 
-begin-requires : tie.Need-begin-requires
-begin-requires c κs = search needs
-
 returns-2 : tie.Need-returns-2
 returns-2 c =
     let r = c .before .before in
     begins-first (short r) (c .begin .result) (c .begin .ensures) (rw (← clean r) (c .before .if1 .left))
 
 pub begin-spec : {M : Type 1} → statement M
-begin-spec = tie.close (tie.spec ascii-end-requires line-number-requires stopped-requires returns begin-requires returns-2)
+begin-spec = tie.close
+    (tie.spec (search needs) (search needs) (search needs) returns (search needs) returns-2)

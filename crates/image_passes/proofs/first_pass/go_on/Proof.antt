@@ -9,23 +9,11 @@ use Rattle.image_passes.proofs.first_pass.go_on.Tie as tie
 enum-told : tie.Need-enum-told
 enum-told c = search needs
 
-stopped-at-requires : tie.Need-stopped-at-requires
-stopped-at-requires c κs = search needs
-
 returns : tie.Need-returns
 returns c = goes-refused (rw (c .stopped-at .ensures, c .before .enum-told .given .1))
 
-enum-told-2 : tie.Need-enum-told-2
-enum-told-2 c = search needs
-
-stopped-at-requires-2 : tie.Need-stopped-at-requires-2
-stopped-at-requires-2 c κs = search needs
-
 returns-2 : tie.Need-returns-2
 returns-2 c = goes-refused (rw (c .stopped-at2 .ensures, c .before .enum-told2 .given .1))
-
-enum-told-3 : tie.Need-enum-told-3
-enum-told-3 c = search needs
 
 add-after-line : tie.Need-add-after-line
 unfolding most-bytes
@@ -42,14 +30,5 @@ returns-3 c =
 pub go-on-spec : {M : Type 1} → statement M
 go-on-spec =
     tie.close
-    (tie.spec
-    enum-told
-    stopped-at-requires
-    returns
-    enum-told-2
-    stopped-at-requires-2
-    returns-2
-    enum-told-3
-    add-after-line
-    after-line-requires
-    returns-3)
+    (tie.spec enum-told (search needs) returns (search needs) (search needs) returns-2 (search needs) add-after-line
+    after-line-requires returns-3)

@@ -4,12 +4,6 @@ use Rattle.image_passes.proofs.Scanning.{reads-end}
 use Rattle.image_passes.proofs.first_pass.read_on.Statement.{statement}
 use Rattle.image_passes.proofs.first_pass.read_on.Tie as tie
 
-enum-known-next : tie.Need-enum-known-next
-enum-known-next c = search needs
-
-enum-known-next-2 : tie.Need-enum-known-next-2
-enum-known-next-2 c = search needs
-
 scan-requires : tie.Need-scan-requires
 scan-requires c κs =
     let n = c .before in
@@ -23,4 +17,5 @@ returns-2 : tie.Need-returns-2
 returns-2 c = rw (c .before .before .next2 .given .1) (c .scan .ensures)
 
 pub read-on-spec : {M : Type 1} → statement M
-read-on-spec = tie.close (tie.spec enum-known-next enum-known-next-2 scan-requires returns returns-2)
+read-on-spec = tie.close
+    (tie.spec (search needs) (search needs) scan-requires returns returns-2)

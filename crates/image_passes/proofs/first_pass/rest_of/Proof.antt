@@ -7,18 +7,6 @@ use Rattle.image_passes.proofs.first_pass.rest_of.Tie as tie
 enum-told : tie.Need-enum-told
 enum-told c = search needs
 
-enum-known-effect : tie.Need-enum-known-effect
-enum-known-effect c = search needs
-
-enum-told-2 : tie.Need-enum-told-2
-enum-told-2 c = search needs
-
-counted-requires : tie.Need-counted-requires
-counted-requires c κs = search needs
-
-enum-known-effect-2 : tie.Need-enum-known-effect-2
-enum-known-effect-2 c = search needs
-
 returns : tie.Need-returns
 returns c = rw (c .enum-told .given .1)
 
@@ -35,13 +23,5 @@ returns-4 c = rw (c .before .effect2 .given .1)
 pub rest-of-spec : {M : Type 1} → statement M
 rest-of-spec =
     tie.close
-    (tie.spec
-    enum-told
-    enum-known-effect
-    enum-told-2
-    counted-requires
-    enum-known-effect-2
-    returns
-    returns-2
-    returns-3
+    (tie.spec enum-told (search needs) (search needs) (search needs) (search needs) returns returns-2 returns-3
     returns-4)

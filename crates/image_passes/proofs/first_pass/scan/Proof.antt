@@ -24,9 +24,6 @@ loop-holds c = scanning-none (c .before .pre .0)
 read-line-requires : tie.Need-read-line-requires Inv-loop μ-loop
 read-line-requires c κs = (c .before .loop .inv .safe .in-text, c .before .before .before .pre .1)
 
-rest-of-requires : tie.Need-rest-of-requires Inv-loop μ-loop
-rest-of-requires c κs = search needs
-
 at-label-requires : tie.Need-at-label-requires Inv-loop μ-loop
 at-label-requires c κs = c .before .before .before .before .loop .inv .safe .few-words
 
@@ -47,9 +44,6 @@ follows : (c : tie.After-after-line Inv-loop μ-loop) → let l = c .before .bef
     ≡ lineAfter (length (r .before .before .before .before .args .source .now)) (k .line) (k .labels) (restFor (effectMeant (r .read-line .result .effect)) (k .words) (k .config) (r .read-line .result .end))
 follows c = let k = c .before .before .before .before .before .loop .cursor in c .after-line .ensures ∙ ap (lineAfter _ (k .line) (k .labels)) (c .before .before .rest-of .ensures)
 
-enum-known-outcome : tie.Need-enum-known-outcome Inv-loop μ-loop
-enum-known-outcome c = search needs
-
 returns-2 : tie.Need-returns-2 Inv-loop μ-loop
 returns-2 c =
     let o = c .before in
@@ -57,9 +51,6 @@ returns-2 c =
     let e = f .before in
     let r = e .before .before in
     scans-end (r .before .before .loop .inv) (r .read-line .result) (r .read-line .ensures) (e .if1 .left) (follows f) (o .outcome .given .1)
-
-enum-known-next : tie.Need-enum-known-next Inv-loop μ-loop
-enum-known-next c = search needs
 
 -- the next line
 nexts : (c : tie.After-next Inv-loop μ-loop) → let f = c .before .before in let k = f .before .before .before .before .before in
@@ -79,17 +70,5 @@ loop-again c = nexts (c .before) .0
 pub scan-spec : {M : Type 1} → statement M
 scan-spec =
     tie.close
-    (tie.spec
-    Inv-loop
-    μ-loop
-    loop-holds
-    read-line-requires
-    rest-of-requires
-    at-label-requires
-    returns
-    after-line-requires
-    enum-known-outcome
-    returns-2
-    enum-known-next
-    loop-less
-    loop-again)
+    (tie.spec Inv-loop μ-loop loop-holds read-line-requires (search needs) at-label-requires returns
+    after-line-requires (search needs) returns-2 (search needs) loop-less loop-again)

@@ -11,21 +11,12 @@ use Rattle.image_passes.proofs.Steps.{Quiet, codes-word, codes-settings
 use Rattle.image_passes.proofs.second_pass.code_line.Statement.{statement}
 use Rattle.image_passes.proofs.second_pass.code_line.Tie as tie
 
-read-line-requires : tie.Need-read-line-requires
-read-line-requires c κs = search needs
-
-enum-known-effect : tie.Need-enum-known-effect
-enum-known-effect c = search needs
-
 word-of-requires : tie.Need-word-of-requires
 word-of-requires c κs =
     let e = c .before in
     let r = e .before .before in
     let b = r .before .before in
     (rw (e .effect .given .1) at (r .read-line .ensures .in-table), b .pre .1 .1)
-
-enum-known-effect-2 : tie.Need-enum-known-effect-2
-enum-known-effect-2 c = search needs
 
 returns : tie.Need-returns
 returns c =
@@ -60,11 +51,4 @@ returns-3 c =
 pub code-line-spec : {M : Type 1} → statement M
 code-line-spec =
     tie.close
-    (tie.spec
-    read-line-requires
-    enum-known-effect
-    word-of-requires
-    enum-known-effect-2
-    returns
-    returns-2
-    returns-3)
+    (tie.spec (search needs) (search needs) word-of-requires (search needs) returns returns-2 returns-3)

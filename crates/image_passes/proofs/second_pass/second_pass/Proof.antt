@@ -18,9 +18,6 @@ Inv-loop source image₀ mnemonics opcodes forms slots place₀ at₀ config₀ 
 abbrev μ-loop : tie.MeasureT-loop
 μ-loop source image₀ mnemonics opcodes forms slots place₀ at₀ config₀ image place at config = length source - at
 
-begin-requires : tie.Need-begin-requires Inv-loop μ-loop
-begin-requires c κs = search needs
-
 loop-holds : tie.Need-loop-holds Inv-loop μ-loop
 loop-holds c = let s = c .before .before .before in worded-none present (s .args .image .now) (s .args .source .now) (c .begin .result) (c .begin .ensures) (s .pre .0)
 
@@ -71,15 +68,5 @@ loop-again c =
 pub second-pass-spec : {M : Type 1} → statement M
 second-pass-spec =
     tie.close
-    (tie.spec
-    Inv-loop
-    μ-loop
-    begin-requires
-    loop-holds
-    code-line-requires
-    write-coded-requires
-    same-length
-    returns
-    add-at
-    loop-less
-    loop-again)
+    (tie.spec Inv-loop μ-loop (search needs) loop-holds code-line-requires write-coded-requires same-length returns
+    add-at loop-less loop-again)

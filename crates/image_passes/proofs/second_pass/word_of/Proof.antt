@@ -5,14 +5,9 @@ use borrow.Author.Needs.{needs}
 use Rattle.image_passes.proofs.second_pass.word_of.Statement.{statement}
 use Rattle.image_passes.proofs.second_pass.word_of.Tie as tie
 
-from-parts-requires : tie.Need-from-parts-requires
-from-parts-requires c κs = search needs
-
-encode-requires : tie.Need-encode-requires
-encode-requires c κs = search needs
-
 returns : tie.Need-returns
 returns c = c .encode .ensures ∙ ap wordOf (c .before .from-parts .ensures .1)
 
 pub word-of-spec : {M : Type 1} → statement M
-word-of-spec = tie.close (tie.spec from-parts-requires encode-requires returns)
+word-of-spec = tie.close
+    (tie.spec (search needs) (search needs) returns)

@@ -25,9 +25,6 @@ four w = omega arith
 enum-told : tie.Need-enum-told
 enum-told c = search needs
 
-enum-known-coded : tie.Need-enum-known-coded
-enum-known-coded c = search needs
-
 write-u32-requires : tie.Need-write-u32-requires
 write-u32-requires c κs =
     let k = c .before .before in
@@ -39,9 +36,6 @@ returns : tie.Need-returns
 unfolding flatMap
 returns c = let a = c .before .before .before .args in rw (c .enum-told .given .1) (written-none (a .image .now) (a .place))
 
-same-length : tie.Need-same-length
-same-length c = search needs
-
 returns-2 : tie.Need-returns-2
 returns-2 c =
     let u = c .before .before in
@@ -52,4 +46,4 @@ returns-2 c =
 pub write-coded-spec : {M : Type 1} → statement M
 write-coded-spec =
     tie.close
-    (tie.spec enum-told enum-known-coded write-u32-requires returns same-length returns-2)
+    (tie.spec enum-told (search needs) write-u32-requires returns (search needs) returns-2)

@@ -25,9 +25,6 @@ returns c =
     let b = c .before .before .before in
     fills-not (b .pre .0) (b .args .image .now) (c .if1 .taken)
 
-opcodes-requires : tie.Need-opcodes-requires
-opcodes-requires c κs = search needs
-
 cast-write-header : tie.Need-cast-write-header
 cast-write-header c = let p = c .before .before .before .before .before .pre .0 in record { fits = omega (arith, p .most) }
 
@@ -69,14 +66,5 @@ returns-2 c =
 pub write-image-spec : {M : Type 1} → statement M
 write-image-spec =
     tie.close
-    (tie.spec
-    mul-needed
-    add-needed
-    returns
-    opcodes-requires
-    cast-write-header
-    mul-write-header
-    write-header-requires
-    second-pass-requires
-    same-length
-    returns-2)
+    (tie.spec mul-needed add-needed returns (search needs) cast-write-header mul-write-header write-header-requires
+    second-pass-requires same-length returns-2)

@@ -24,15 +24,6 @@ Inv-loop form at tokens registers₀ count₀ number₀ next₀ left₀ register
 abbrev μ-loop : tie.MeasureT-loop
 μ-loop form at tokens registers₀ count₀ number₀ next₀ left₀ registers count number next left = left
 
-no-number-requires : tie.Need-no-number-requires Inv-loop μ-loop
-no-number-requires c κs = search needs
-
-add-next : tie.Need-add-next Inv-loop μ-loop
-add-next c = search needs
-
-operands-of-requires : tie.Need-operands-of-requires Inv-loop μ-loop
-operands-of-requires c κs = search needs
-
 loop-holds : tie.Need-loop-holds Inv-loop μ-loop
 loop-holds c s =
     let b = c .before .before in
@@ -55,15 +46,6 @@ mul-token c = let h = within c in omega (arith, h)
 array-copy-out-token : tie.Need-array-copy-out-token Inv-loop μ-loop
 array-copy-out-token c = within c
 
-is-number-requires : tie.Need-is-number-requires Inv-loop μ-loop
-is-number-requires c κs = search needs
-
-read-operand-requires : tie.Need-read-operand-requires Inv-loop μ-loop
-read-operand-requires c κs = search needs
-
-enum-known-n : tie.Need-enum-known-n Inv-loop μ-loop
-enum-known-n c = search needs
-
 returns : tie.Need-returns Inv-loop μ-loop
 returns c =
     let n = c .before in
@@ -77,12 +59,6 @@ returns c =
           (l .loop-test .taken) (i .is-number .ensures) (rw (n .n .given .1) at (o .read-operand .ensures));
       settled = tt;
     }
-
-enum-known-n-2 : tie.Need-enum-known-n-2 Inv-loop μ-loop
-enum-known-n-2 c = search needs
-
-enum-known-register : tie.Need-enum-known-register Inv-loop μ-loop
-enum-known-register c = search needs
 
 array-set-from-registers : tie.Need-array-set-from-registers Inv-loop μ-loop
 array-set-from-registers c =
@@ -117,16 +93,10 @@ between c s =
 add-after-mark : tie.Need-add-after-mark Inv-loop μ-loop
 add-after-mark c = let h = within (c .before .before .before .before) in omega (arith, h)
 
-mark-of-requires : tie.Need-mark-of-requires Inv-loop μ-loop
-mark-of-requires c κs = search needs
-
 after-mark-requires : tie.Need-after-mark-requires Inv-loop μ-loop
 after-mark-requires c κs =
     let b = c .before .before .before .before .before .before .before .before .before in
     (b .pre .0, mark-room _ (b .args .t2) (b .args .at) (b .pre .0) (b .pre .1) (six-places (formAt (b .args .form))) (between (c .before) []) (c .mark-of .result) (c .mark-of .ensures))
-
-enum-known-n-3 : tie.Need-enum-known-n-3 Inv-loop μ-loop
-enum-known-n-3 c = search needs
 
 returns-2 : tie.Need-returns-2 Inv-loop μ-loop
 returns-2 c =
@@ -140,12 +110,6 @@ returns-2 c =
       settled = tt;
     }
 
-enum-known-after : tie.Need-enum-known-after Inv-loop μ-loop
-enum-known-after c = search needs
-
-loop-less : tie.Need-loop-less Inv-loop μ-loop
-loop-less c = search needs
-
 loop-again : tie.Need-loop-again Inv-loop μ-loop
 loop-again c s =
     let n = c .before in
@@ -154,9 +118,6 @@ loop-again c s =
     let b = m .before .before .before .before .before .before .before .before .before in
     mark-next _ (b .args .t2) (b .args .at) (b .pre .0) (b .pre .1) (six-places (formAt (b .args .form))) (m .mark-of .result) (between (m .before) s) (m .mark-of .ensures)
     (rw (n .after .given .1) at (a .after-mark .ensures))
-
-new-requires : tie.Need-new-requires Inv-loop μ-loop
-new-requires c κs = search needs
 
 returns-3 : tie.Need-returns-3 Inv-loop μ-loop
 returns-3 c =
@@ -167,30 +128,7 @@ returns-3 c =
 pub parse-operands-spec : {M : Type 1} → statement M
 parse-operands-spec =
     tie.close
-    (tie.spec
-    Inv-loop
-    μ-loop
-    no-number-requires
-    add-next
-    operands-of-requires
-    loop-holds
-    mul-token
-    array-copy-out-token
-    is-number-requires
-    read-operand-requires
-    enum-known-n
-    returns
-    enum-known-n-2
-    enum-known-register
-    array-set-from-registers
-    add-count
-    add-after-mark
-    mark-of-requires
-    after-mark-requires
-    enum-known-n-3
-    returns-2
-    enum-known-after
-    loop-less
-    loop-again
-    new-requires
-    returns-3)
+    (tie.spec Inv-loop μ-loop (search needs) (search needs) (search needs) loop-holds mul-token array-copy-out-token
+    (search needs) (search needs) (search needs) returns (search needs) (search needs) array-set-from-registers
+    add-count add-after-mark (search needs) after-mark-requires (search needs) returns-2 (search needs)
+    (search needs) loop-again (search needs) returns-3)

@@ -8,15 +8,6 @@ use Rattle.instruction_operands.specs.Contracts.{registerMeant}
 use Rattle.instruction_operands.proofs.assembler.read_operand.Statement.{statement}
 use Rattle.instruction_operands.proofs.assembler.read_operand.Tie as tie
 
-extract-number-requires : tie.Need-extract-number-requires
-extract-number-requires c κs = search needs
-
-enum-known-n : tie.Need-enum-known-n
-enum-known-n c = search needs
-
-enum-known-number : tie.Need-enum-known-number
-enum-known-number c = search needs
-
 returns : tie.Need-returns
 returns c =
     let n = c .before in
@@ -28,15 +19,6 @@ returns-2 c =
     let n = c .before in
     let x = n .before .before in
     (x .before .if1 .taken, λ u. extracted-is _ (sym (n .number .given .1) ∙ x .extract-number .ensures ∙ extracted-for (x .before .before .args .kind) u))
-
-extract-register-requires : tie.Need-extract-register-requires
-extract-register-requires c κs = search needs
-
-enum-known-n-2 : tie.Need-enum-known-n-2
-enum-known-n-2 c = search needs
-
-enum-known-register : tie.Need-enum-known-register
-enum-known-register c = search needs
 
 returns-3 : tie.Need-returns-3
 returns-3 c =
@@ -53,14 +35,5 @@ returns-4 c =
 pub read-operand-spec : {M : Type 1} → statement M
 read-operand-spec =
     tie.close
-    (tie.spec
-    extract-number-requires
-    enum-known-n
-    enum-known-number
-    returns
-    returns-2
-    extract-register-requires
-    enum-known-n-2
-    enum-known-register
-    returns-3
-    returns-4)
+    (tie.spec (search needs) (search needs) (search needs) returns returns-2 (search needs) (search needs)
+    (search needs) returns-3 returns-4)

@@ -13,9 +13,6 @@ Inv-loop out₀ at n end place₀ rest₀ out place rest = Unwritten out₀ at n
 abbrev μ-loop : tie.MeasureT-loop
 μ-loop out₀ at n end place₀ rest₀ out place rest = rest
 
-decimal-length-requires : tie.Need-decimal-length-requires Inv-loop μ-loop
-decimal-length-requires c κs = search needs
-
 add-end : tie.Need-add-end Inv-loop μ-loop
 add-end c = omega (arith, c .decimal-length .ensures .0)
 
@@ -62,20 +59,5 @@ returns c = rw (c .before .before .decimal-length .ensures .0) (unwritten-none (
 pub write-decimal-spec : {M : Type 1} → statement M
 write-decimal-spec =
     tie.close
-    (tie.spec
-    Inv-loop
-    μ-loop
-    decimal-length-requires
-    add-end
-    loop-holds
-    sub-place
-    add-out
-    cast-out
-    slice-write-out
-    loop-less
-    loop-again
-    add-out-2
-    cast-out-2
-    slice-write-out-2
-    same-length
-    returns)
+    (tie.spec Inv-loop μ-loop (search needs) add-end loop-holds sub-place add-out cast-out slice-write-out loop-less
+    loop-again add-out-2 cast-out-2 slice-write-out-2 same-length returns)

@@ -12,9 +12,6 @@ use Rattle.image.proofs.Checks.{fault-10, fault-11, fault-12, fault-13}
 use Rattle.image.proofs.config.Config.validate.Statement.{statement}
 use Rattle.image.proofs.config.Config.validate.Tie as tie
 
-within-requires : tie.Need-within-requires
-within-requires c κs = search needs
-
 returns : tie.Need-returns
 unfolding settings
 returns c =
@@ -29,9 +26,6 @@ returns-2 : tie.Need-returns-2
 unfolding settings
 returns-2 c = sym (fault-11 (settingsMeant (c .before .before .before .args .self)) (bits (c .before)) (c .if2 .taken))
 
-within-requires-2 : tie.Need-within-requires-2
-within-requires-2 c κs = search needs
-
 returns-3 : tie.Need-returns-3
 unfolding settings
 returns-3 c =
@@ -39,9 +33,6 @@ returns-3 c =
     let e = w .before in
     sym (fault-12 (settingsMeant (e .before .before .before .args .self)) (bits (e .before)) (e .if2 .left)
     (sym (w .within2 .ensures) ∙ not-true _ (c .if3 .taken)))
-
-within-requires-3 : tie.Need-within-requires-3
-within-requires-3 c κs = search needs
 
 returns-4 : tie.Need-returns-4
 unfolding settings
@@ -69,12 +60,4 @@ returns-5 c =
 pub validate-spec : {M : Type 1} → statement M
 validate-spec =
     tie.close
-    (tie.spec
-    within-requires
-    returns
-    returns-2
-    within-requires-2
-    returns-3
-    within-requires-3
-    returns-4
-    returns-5)
+    (tie.spec (search needs) returns returns-2 (search needs) returns-3 (search needs) returns-4 returns-5)

@@ -17,9 +17,6 @@ returns-2 c =
     let e = c .before .before in
     sym (header-version (headerMeant (e .before .before .args .self)) (e .if1 .left) (c .if2 .taken))
 
-validate-requires : tie.Need-validate-requires
-validate-requires c κs = search needs
-
 returns-3 : tie.Need-returns-3
 unfolding magic version
 returns-3 c =
@@ -29,4 +26,5 @@ returns-3 c =
     c .validate .ensures ∙ sym (header-setup h (e .if1 .left) (f .if2 .left))
 
 pub validate-spec : {M : Type 1} → statement M
-validate-spec = tie.close (tie.spec returns returns-2 validate-requires returns-3)
+validate-spec = tie.close
+    (tie.spec returns returns-2 (search needs) returns-3)
