@@ -1,5 +1,5 @@
 -- Looking for a spelling in the trees that the first entries of a table are, and entering a label into them. Nothing here depends on what a spelling's path or its hash are.
---     Branch            the branch of a spelling to an entry.        Seeking        where a search stands
+--     PathTo            the path of a spelling to an entry.        Seeking        where a search stands
 --     seek-begin, seek-visit, seek-end       how a search begins, goes on behind an entry, and what it comes to
 use Prim.Native.Nat.{ℕ, zero, suc, _+_, _-_, _/_, _%_, _≤_, _<_}
 use mathlib.Core.Path.{_≡_, refl, sym, ap, ap₂, subst, _∙_}
@@ -121,7 +121,7 @@ unlinked-more n t h = rw (add-one n) (go n t h)
     go zero (e ∷ t) h = refl
     go (suc n) (e ∷ t) h = ap (λ (l : List Label). plain e ∷ l) (go n t (omega arith))
 
--- ---- branches
+-- ---- paths
 
 -- The first entries of a table are what they were, and lead where they led.
 record Grown (t : List Label) (n : ℕ) (t′ : List Label) : Type 0 where
@@ -143,25 +143,25 @@ module _ (s : List ℕ) (u : List ℕ) where
   hit-is t i f g = and-both (eqb (getD t i noLabel .length) (keyOf u)) _ (eq-eqb _ _ f) (eq-same _ _ g)
 
   module _ (t : List Label) (root n : ℕ) where
-    -- The branch of the spelling from its root to another entry, past entries that are not of it.
-    pub data Branch : ℕ → PathBits → Type 0 where
-      start : Branch root (firstPath u)
-      step : {i l : ℕ} {z : PathBits} → Branch (suc i) z → i < n → hit t i ≡ false → link (getD t i noLabel) (branchOf z) ≡ l → Branch l (advanced u z)
+    -- The path of the spelling from its root to another entry, past entries that are not of it.
+    pub data PathTo : ℕ → PathBits → Type 0 where
+      start : PathTo root (firstPath u)
+      step : {i l : ℕ} {z : PathBits} → PathTo (suc i) z → i < n → hit t i ≡ false → link (getD t i noLabel) (branchOf z) ≡ l → PathTo l (advanced u z)
 
-    -- If the spelling is found, it is found from any entry of its branch on.
+    -- If the spelling is found, it is found from any entry of its path on.
     past : {m : ℕ} {z : PathBits} → Finds s t n u m z → (i l : ℕ) → m ≡ suc i → hit t i ≡ false → link (getD t i noLabel) (branchOf z) ≡ l → Finds s t n u l (advanced u z)
     past (here {i = j} h y) i l e miss f = let k : j ≡ i = omega arith in no-both (rw k at y) miss
     past (there {i = j} {l = m} {z = z} h g x) i l e miss f =
         let k : j ≡ i = omega arith in
         subst (λ (p : ℕ). Finds s t n u p (advanced u z)) (sym g ∙ ap (λ (x : ℕ). link (getD t x noLabel) (branchOf z)) k ∙ f) x
 
-    branch-finds : {l : ℕ} {z : PathBits} → Branch l z → Finds s t n u root (firstPath u) → Finds s t n u l z
-    branch-finds start x = x
-    branch-finds (step {i = i} {l = l} w h miss f) x = past (branch-finds w x) i l refl miss f
+    path-finds : {l : ℕ} {z : PathBits} → PathTo l z → Finds s t n u root (firstPath u) → Finds s t n u l z
+    path-finds start x = x
+    path-finds (step {i = i} {l = l} w h miss f) x = past (path-finds w x) i l refl miss f
 
-    branch-rooted : {l : ℕ} {z : PathBits} → Branch l z → (l ≡ 0 → ⊥) → root ≡ 0 → ⊥
-    branch-rooted start h = h
-    branch-rooted (step w h miss f) _ = branch-rooted w (λ e. omega arith)
+    path-rooted : {l : ℕ} {z : PathBits} → PathTo l z → (l ≡ 0 → ⊥) → root ≡ 0 → ⊥
+    path-rooted start h = h
+    path-rooted (step w h miss f) _ = path-rooted w (λ e. omega arith)
 
     not-nowhere : {l : ℕ} {z : PathBits} → Finds s t n u l z → l ≡ 0 → ⊥
     not-nowhere (here h y) e = omega arith
@@ -177,10 +177,10 @@ module _ (s : List ℕ) (u : List ℕ) where
       finds-grown (here {i = i} h y) = here {i = i} (omega arith) (hit-grown i h ∙ y)
       finds-grown (there {i = i} {l = l} {z = z} h f x) = there {i = i} (omega arith) (g .links i h (branchOf z) l (not-nowhere x) f) (finds-grown x)
 
-      -- What is found from an entry of the branch on is found.
-      branch-back : {l : ℕ} {z : PathBits} → Branch l z → (l ≡ 0 → ⊥) → Finds s t′ (suc n) u l z → Finds s t′ (suc n) u root (firstPath u)
-      branch-back start nz x = x
-      branch-back (step {i = i} {l = l} {z = z} w h miss f) nz x = branch-back w (λ e. omega arith) (there {i = i} (omega arith) (g .links i h (branchOf z) l nz f) x)
+      -- What is found from an entry of the path on is found.
+      path-back : {l : ℕ} {z : PathBits} → PathTo l z → (l ≡ 0 → ⊥) → Finds s t′ (suc n) u l z → Finds s t′ (suc n) u root (firstPath u)
+      path-back start nz x = x
+      path-back (step {i = i} {l = l} {z = z} w h miss f) nz x = path-back w (λ e. omega arith) (there {i = i} (omega arith) (g .links i h (branchOf z) l nz f) x)
 
 -- What is found is one thing or the other.
 missing? : Found → Bool
@@ -207,12 +207,12 @@ left n q = elim (q .more) [ true ↦ n - q .next | false ↦ 0 ]
 
 pub record AtEntry (s : List ℕ) (t : List Label) (roots : List ℕ) (n : ℕ) (l : Label) (q : Search) : Type 0 where
   pub inside : q .next < n
-  pub branch : Branch s (spelled s l) t (rootOf roots (spelled s l)) n (suc (q .next)) (q .path)
+  pub reached : PathTo s (spelled s l) t (rootOf roots (spelled s l)) n (suc (q .next)) (q .path)
 
 -- A search that has found nothing ends where there is no root, or behind an entry that leads nowhere.
 pub data Lost (s : List ℕ) (t : List Label) (roots : List ℕ) (n : ℕ) (l : Label) (q : Search) : Type 0 where
   none-there : rootOf roots (spelled s l) ≡ 0 → q .last ≡ n → q .parent ≡ entryFor (spelled s l) l → Lost s t roots n l q
-  behind : (z : PathBits) → q .last < n → Branch s (spelled s l) t (rootOf roots (spelled s l)) n (suc (q .last)) z
+  behind : (z : PathBits) → q .last < n → PathTo s (spelled s l) t (rootOf roots (spelled s l)) n (suc (q .last)) z
       → hit s (spelled s l) t (q .last) ≡ false → link (getD t (q .last) noLabel) (branchOf z) ≡ 0
       → q .parent ≡ linked (getD t (q .last) noLabel) (branchOf z) (n + 1) → Lost s t roots n l q
 
@@ -259,7 +259,7 @@ module _ (s : List ℕ) (t : List Label) (roots : List ℕ) (n : ℕ) (l : Label
         count-is = refl;
         at-entry = λ _. record {
           inside = tree .rooted (slotOf (hashOf u) (length roots)) i f;
-          branch = subst (λ (m : ℕ). Branch s u t root n m (firstPath u)) f start;
+          reached = subst (λ (m : ℕ). PathTo s u t root n m (firstPath u)) f start;
         };
         is-known = λ e. absurd (true≢false (sym e));
         is-lost = λ e _. absurd (true≢false e);
@@ -315,7 +315,7 @@ module _ (s : List ℕ) (t : List Label) (roots : List ℕ) (n : ℕ) (l : Label
             count-is = k .count-is;
             at-entry = λ g. absurd (true≢false (sym g));
             is-known = λ g. absurd (true≢false (sym g));
-            is-lost = λ _ _. behind (q .path) inside (k .at-entry more .branch) miss f (ap (λ (m : ℕ). linked e (branchOf (q .path)) (m + 1)) (k .count-is));
+            is-lost = λ _ _. behind (q .path) inside (k .at-entry more .reached) miss f (ap (λ (m : ℕ). linked e (branchOf (q .path)) (m + 1)) (k .count-is));
           })
           passing miss (suc i) f = subst (Seeking s t roots n l) (sym (visited-on s q e (hit-here ∙ miss) i f)) (record {
             bucket-is = k .bucket-is;
@@ -323,7 +323,7 @@ module _ (s : List ℕ) (t : List Label) (roots : List ℕ) (n : ℕ) (l : Label
             count-is = k .count-is;
             at-entry = λ _. record {
               inside = tree .onward (q .next) inside (branchOf (q .path)) i f .1;
-              branch = subst (λ (w : List ℕ). Branch s u t root n (suc i) (advanced w (q .path))) (sym spelled-is) (step (k .at-entry more .branch) inside miss f);
+              reached = subst (λ (w : List ℕ). PathTo s u t root n (suc i) (advanced w (q .path))) (sym spelled-is) (step (k .at-entry more .reached) inside miss f);
             };
             is-known = λ g. absurd (true≢false (sym g));
             is-lost = λ g _. absurd (true≢false g);
@@ -362,7 +362,7 @@ module _ (s : List ℕ) (t : List Label) (roots : List ℕ) (n : ℕ) (l : Label
 
       not-found : Lost s t roots n l q → Finds s t n u root (firstPath u) → ⊥
       not-found (none-there f g h) x = not-nowhere s u t root n x f
-      not-found (behind z inside w miss f g) x = not-nowhere s u t root n (past s u t root n (branch-finds s u t root n w x) (q .last) 0 refl miss f) refl
+      not-found (behind z inside w miss f g) x = not-nowhere s u t root n (past s u t root n (path-finds s u t root n w x) (q .last) 0 refl miss f) refl
 
       -- and if not, none is.
       none-there-yet : q .known ≡ false → (i : ℕ) → i < n → spelled s (plain (getD t i noLabel)) ≡ u → ⊥
@@ -425,8 +425,8 @@ module _ (s : List ℕ) (t : List Label) (roots : List ℕ) (n : ℕ) (l : Label
               grown = more;
               onward = onwards;
               later = later-is (omega arith);
-              leads = subst (λ (m : ℕ). Finds s t′ (suc n) u m (firstPath u)) (sym (with-root-kept roots n u u (branch-rooted s u t root n w (λ v. omega arith))))
-                  (branch-back s u t root n more w (λ v. omega arith) (there {i = q .last} (omega arith) (at-last ∙ add-one n) (here {i = n} (omega arith) (hit-new e))));
+              leads = subst (λ (m : ℕ). Finds s t′ (suc n) u m (firstPath u)) (sym (with-root-kept roots n u u (path-rooted s u t root n w (λ v. omega arith))))
+                  (path-back s u t root n more w (λ v. omega arith) (there {i = q .last} (omega arith) (at-last ∙ add-one n) (here {i = n} (omega arith) (hit-new e))));
             }
           where
             p : Label
@@ -544,7 +544,7 @@ module _ (s : List ℕ) (t : List Label) (roots : List ℕ) (n start long a : �
         bucket-is = k .bucket-is;
         entry-is = entry-same;
         count-is = k .count-is;
-        at-entry = λ more. record { inside = k .at-entry more .inside; branch = k .at-entry more .branch };
+        at-entry = λ more. record { inside = k .at-entry more .inside; reached = k .at-entry more .reached };
         is-known = k .is-known;
         is-lost = λ more known. lost (k .is-lost more known);
       }
@@ -599,7 +599,7 @@ module _ {s : List ℕ} {t : List Label} {roots : List ℕ} {n : ℕ} {l : Label
     unfolding isSome
     unnamed = any-index s (spelled s l) (take n (unlinked n t)) ∙ ap isSome (sym (x .index-is))
 
-    -- What `set-root` asks for, and what it leaves.
+    -- What `set_root` asks for, and what it leaves.
     pub bucket-inside : 0 < length roots → g .bucket < length roots
     bucket-inside h = rw (gaps .bucket-is) (slot-inside (hashOf (spelled s l)) (length roots) h)
 

@@ -55,7 +55,7 @@ use Rattle.image_labels.proofs.label.append.Statement as stated
 use Rattle.image_labels.proofs.label.append.Code as code
 use Rattle.image_labels.proofs.label.append.Code.Mir as m
 
--- at the exit the table is still childNumber, and nothing of the other parameters is
+-- at the exit the table is still had, and nothing of the other parameters
 abbrev stayed : Stays (append.ended .signature .params) (append.ended .kept)
 stayed = (stay-slice (0 ∷ []) tt (plain (λ _. L.the-row)), (stay-dropped (plain (λ _. usize)) yes, (stay-dropped (plain (λ _. L.the-row)) yes, tt)))
 

@@ -1,5 +1,5 @@
 -- `image_labels::label::enter` meets its contract: a walk of its MIR. The table and the roots are lent as `&` to `find`, for lifetimes that are made for the call, and they come back; then the table is lent again
--- to `append`, twice, and the roots to `set-root`.
+-- to `append`, twice, and the roots to `set_root`.
 --     looks    the call of `find`.        matched  its answer is taken apart.        adds     the first call of `append`.        added    the branch behind it, and the calls behind that
 use Prim.Native.Nat.{ℕ, _<_, _^_}
 use mathlib.Core.Path.{_≡_, refl, sym, _∙_}
@@ -90,7 +90,7 @@ use Rattle.image_labels.proofs.label.enter.Statement as stated
 use Rattle.image_labels.proofs.label.enter.Code as code
 use Rattle.image_labels.proofs.label.enter.Code.Mir as m
 
--- at the exit the table and the roots are still childNumber, and nothing of the other parameters is had
+-- at the exit the table and the roots are still had, and nothing of the other parameters
 abbrev stayed : Stays (enters.ended .signature .params) (enters.ended .kept)
 stayed = (stay-dropped (shrSliceOf (0 ∷ []) tt (plain (λ _. u8))) yes, (stay-slice (1 ∷ []) tt (plain (λ _. L.the-row)), (stay-slice (2 ∷ []) tt (plain (λ _. u32)), (stay-dropped (plain (λ _. usize)) yes, (stay-dropped (plain (λ _. L.the-row)) yes, tt)))))
 
@@ -333,7 +333,7 @@ module _ {M : Type 1} (𝓤 : URA M) (H : Heap 𝓤) (A : Atoms 𝓤) (at-mem : 
             assigns ! (agg ! (and-then ! (load ! (from ! (stop !)) (look ! 7 refl)) (and-then ! (load ! (from ! (fld ! refl (stop !))) (look-in ! 45 (sub ! 1 refl (whole !)))) (no-more !))))
             (from ! (stop !)) (init ! 5 refl (tt, (tt, (record { fits = g₂ .0 }, tt)))) $ move ! (3 ∷ 4 ∷ []) $
             lends u32 κ₂ q₂ γ₂ b₂ o₂ rs (named 2) (named 0) ! tt (λ ν₂ δ₂. move ! (1 ∷ 0 ∷ []) $ use2 W (raw (SetRoot .pre (to-set-root g ν₂ δ₂))) (goes-set-root g gi (bucket-inside e (ok .near) made (tree .rootable .some)) ν₂ δ₂) $
-            -- [what `set-root` asks for; what is kept of the roots; the table; its token; the source's token; _23; …]
+            -- [what `set_root` asks for; what is kept of the roots; the table; its token; the source's token; _23; …]
             calls-to ! (fmOf 𝓤 H (W .laws) 𝓣) set-root.ended (set-root.clauses 𝓤 H A at-mem run) sets-root (to-set-root g ν₂ δ₂) (λ _. vunit) nothing-tells
             (and-then ! (load ! (from ! (stop !)) (look ! 5 refl)) (and-then ! (load ! (from ! (fld ! refl (stop !))) (look-in ! 33 (sub ! 0 refl (whole !))))
             (and-then ! (load ! (from ! (stop !)) (look ! 43 refl)) (no-more !)))) (λ _ us _.

@@ -1,4 +1,4 @@
--- `image_labels::label::find` meets its contract: a walk of its MIR, with a loop that calls `visit`. The source and the table are childNumber over the loop. In each turn the table's borrow is looked into and shut,
+-- `image_labels::label::find` meets its contract: a walk of its MIR, with a loop that calls `visit`. The source and the table are kept through the loop. In each turn the table's borrow is looked into and shut,
 -- and the source is lent to the call.
 --     starts   the call of `begin`.        Inv      the loop's invariant, the whole context.        turns    a turn: it goes on to `reads`, or leaves the loop
 --     reads    an entry is read, and visited.        answers  the call of `found`
@@ -270,9 +270,9 @@ module _ {M : Type 1} (𝓤 : URA M) (H : Heap 𝓤) (A : Atoms 𝓤) (at-mem : 
           frees-all ! E (holds (some (fval a)) (some (sval r) ∷ none ∷ some (vbool (r .more)) ∷ [])) Has $
           exits a (subst (Finding xs ys rs n st ln) (sym e) (seek-end xs ys rs n st ln tree ok r k ended)) ia))
 
-      path : (t : St) → Sq W (Inv t) (runs (𝓣 .C) (𝓣 .Λ) E m.turn-1 (Turned t))
+      turns : (t : St) → Sq W (Inv t) (runs (𝓣 .C) (𝓣 .Λ) E m.turn-1 (Turned t))
       unfolding afterTurn
-      path (r, (k, is)) =
+      turns (r, (k, is)) =
           assigns ! (of-opd ! (load ! (from ! (fld ! refl (stop !))) (look-in ! 15 (sub ! 1 refl (whole !))))) (from ! (stop !)) (init ! 11 refl (tt, tt)) $
           first ! $ branches ! (load ! (from ! (stop !)) (look ! 11 refl))
           (λ more. skips ! $ exec ! (𝓣 .C) (𝓣 .Λ) E (behind 2 m.turn-1) (Turned (r, (k, is))) $ reads (r, (k, is)) (is-true (r .more) more))
@@ -289,7 +289,7 @@ module _ {M : Type 1} (𝓤 : URA M) (H : Heap 𝓤) (A : Atoms 𝓤) (at-mem : 
           -- [the tokens of the source and of the roots; the source; the table; its token; _12; …]
           use1 W (‵ (flft κ₀ q₀) ⊛ (‵ (flft κ₂ q₂) ⊛ ‵ ftrue)) (id⊢ 𝓤 _) $ split ! $ move ! (1 ∷ []) $ split ! $ move ! (1 ∷ []) $ drop ! $ move ! (2 ∷ 1 ∷ 3 ∷ 4 ∷ []) $
           land ! (from ! (stop !)) (init ! 15 refl (LL.lawful S.the-type S′.the-laws 𝓤 H A W .typed r _ is .0)) $
-          first ! $ blocks ! $ loops ! 𝓣 Nearer Nearer-wf Inv path (r, (subst (Seeking xs ys rs n v) (sym e) (seek-begin xs ys rs n v tree ok), is))))
+          first ! $ blocks ! $ loops ! 𝓣 Nearer Nearer-wf Inv turns (r, (subst (Seeking xs ys rs n v) (sym e) (seek-begin xs ys rs n v tree ok), is))))
 
     walk : (𝓣 : Tables 𝓤 H) → Triple 𝓤 (𝓣 .C #begin) Begin → Triple 𝓤 (𝓣 .C #visit) Visit → Triple 𝓤 (𝓣 .C #found) Answer
         → ent 𝓤 (onEntry 𝓤 H A find.signature (κ₀, (κ, (κ₂, tt))) (q₀, (q, (q₂, tt))) a at) (WpFn 𝓤 H (𝓣 .C) (𝓣 .Λ) code.function (s₁ ∷ s ∷ s₂ ∷ vint w64 n ∷ vint w64 st ∷ vint w64 ln ∷ []) Post)

@@ -65,7 +65,7 @@ use Rattle.image_labels.proofs.label.unlink.Statement as stated
 use Rattle.image_labels.proofs.label.unlink.Code as code
 use Rattle.image_labels.proofs.label.unlink.Code.Mir as m
 
--- at the exit the table is still childNumber, and nothing of the count is
+-- at the exit the table is still had, and nothing of the count
 abbrev stayed : Stays (unlink.ended .signature .params) (unlink.ended .kept)
 stayed = (stay-slice (0 ∷ []) tt (plain (λ _. L.the-row)), (stay-dropped (plain (λ _. usize)) yes, tt))
 
@@ -194,9 +194,9 @@ module _ {M : Type 1} (𝓤 : URA M) (H : Heap 𝓤) (A : Atoms 𝓤) (at-mem : 
           placeable : i * 24 < 2 ^ 64
           placeable = fits-place (length ys) i gn inside′
 
-      path : (t : St) → Sq W (Inv t) (runs (𝓣 .C) (𝓣 .Λ) E m.turn-1 (Turned t))
+      turns : (t : St) → Sq W (Inv t) (runs (𝓣 .C) (𝓣 .Λ) E m.turn-1 (Turned t))
       unfolding afterTurn
-      path (i, f) =
+      turns (i, f) =
           assigns ! (bin ! (load ! (from ! (stop !)) (look ! 16 refl)) (load ! (from ! (stop !)) (look ! 18 refl)) tt) (from ! (stop !)) (init ! 14 refl (tt, tt)) $
           first ! $ branches ! (load ! (from ! (stop !)) (look ! 14 refl))
           (λ less. skips ! $ exec ! (𝓣 .C) (𝓣 .Λ) E (behind 2 m.turn-1) (Turned (i, f)) $ reads (i, f) (ltb→lt _ _ less))
@@ -213,7 +213,7 @@ module _ {M : Type 1} (𝓤 : URA M) (H : Heap 𝓤) (A : Atoms 𝓤) (at-mem : 
         pass1 ! (init ! 18 refl (tt, (tt, (record { fits = gn .0 }, tt)))) $ pass1 ! (init ! 16 refl (tt, record { fits = fn })) $ pass0 ! $
         move ! (22 ∷ 23 ∷ []) $ split ! $ move ! (2 ∷ []) $ fsplit ! $ move ! (1 ∷ []) $ drop ! $ move ! (2 ∷ []) $ drop ! $
         assigns ! (of-opd ! (lit ! tt)) (from ! (stop !)) (init ! 16 refl (tt, record { fits = lit< tt })) $ first ! $ blocks ! $
-        loops ! 𝓣 Nearer Nearer-wf (Inv 𝓣 plains l₀ l₁ l₂ l₃ l₄ l₅ l₆ l₇ l₈ l₉ l₁₀) (path 𝓣 plains l₀ l₁ l₂ l₃ l₄ l₅ l₆ l₇ l₈ l₉ l₁₀) (0, omega arith))))))))))))
+        loops ! 𝓣 Nearer Nearer-wf (Inv 𝓣 plains l₀ l₁ l₂ l₃ l₄ l₅ l₆ l₇ l₈ l₉ l₁₀) (turns 𝓣 plains l₀ l₁ l₂ l₃ l₄ l₅ l₆ l₇ l₈ l₉ l₁₀) (0, omega arith))))))))))))
 
   meets : (W : Given 𝓤 H A) (𝓣 : Tables 𝓤 H) → Triple 𝓤 (𝓣 .C #plain) Plain → Meets 𝓤 H A unlink.signature (WpFn 𝓤 H (𝓣 .C) (𝓣 .Λ) code.function) (unlink.spec 𝓤 H A at-mem run)
   meets W 𝓣 plains =

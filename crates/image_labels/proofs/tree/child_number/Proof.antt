@@ -1,4 +1,4 @@
--- `image_labels::tree::childNumber` meets its contract.
+-- `image_labels::tree::child_number` meets its contract.
 use mathlib.Core.Path.{sym}
 use Rattle.image_labels.proofs.Hashing.{child-number-odd, child-number-even}
 use Rattle.image_labels.proofs.tree.child_number.Statement.{statement}

@@ -1,4 +1,4 @@
--- `image_labels::tree::set-root` meets its contract.
+-- `image_labels::tree::set_root` meets its contract.
 use borrow.Author.Needs.{needs}
 use borrow.Author.Tests.{eq-eqb, ne-eqb}
 use Rattle.image_labels.specs.Tree.{withRootAt}
