@@ -36,12 +36,6 @@ three-bytes-requires c κs = omega (arith, c .loop-test .taken, c .before .loop 
 mix-requires : tie.Need-mix-requires Inv-loop μ-loop Inv-loop2 μ-loop2
 mix-requires c κs = c .three-bytes .ensures .1
 
-add-at : tie.Need-add-at Inv-loop μ-loop Inv-loop2 μ-loop2
-add-at c = omega arith
-
-loop-less : tie.Need-loop-less Inv-loop μ-loop Inv-loop2 μ-loop2
-loop-less c = omega arith
-
 loop-again : tie.Need-loop-again Inv-loop μ-loop Inv-loop2 μ-loop2
 loop-again c =
     let k = c .before .before .before in
@@ -51,20 +45,11 @@ loop-again c =
 loop2-holds : tie.Need-loop2-holds Inv-loop μ-loop Inv-loop2 μ-loop2
 loop2-holds c = let i = c .before .loop .inv in (i .0, i .1, omega (arith, c .loop-test .left), refl)
 
-shared-slice-read-mix : tie.Need-shared-slice-read-mix Inv-loop μ-loop Inv-loop2 μ-loop2
-shared-slice-read-mix c = omega arith
-
 cast-mix : tie.Need-cast-mix Inv-loop μ-loop Inv-loop2 μ-loop2
 cast-mix c = omega (arith, c .shared-slice-known2 .given (c .before .before .loop2 .at))
 
 mix-requires-2 : tie.Need-mix-requires-2 Inv-loop μ-loop Inv-loop2 μ-loop2
 mix-requires-2 c κs = omega (arith, c .shared-slice-known2 .given (c .before .before .loop2 .at))
-
-add-at-2 : tie.Need-add-at-2 Inv-loop μ-loop Inv-loop2 μ-loop2
-add-at-2 c = omega arith
-
-loop2-less : tie.Need-loop2-less Inv-loop μ-loop Inv-loop2 μ-loop2
-loop2-less c = omega arith
 
 loop2-again : tie.Need-loop2-again Inv-loop μ-loop Inv-loop2 μ-loop2
 loop2-again c =
@@ -85,5 +70,5 @@ pub hash-spec : {M : Type 1} → statement M
 hash-spec =
     tie.close
     (tie.spec Inv-loop μ-loop Inv-loop2 μ-loop2 (search needs) loop-holds sub-loop three-bytes-requires mix-requires
-    add-at loop-less loop-again loop2-holds shared-slice-read-mix cast-mix mix-requires-2 add-at-2 loop2-less
-    loop2-again (search needs) returns)
+    (λ c. omega arith) (λ c. omega arith) loop-again loop2-holds (λ c. omega arith) cast-mix mix-requires-2
+    (λ c. omega arith) (λ c. omega arith) loop2-again (search needs) returns)

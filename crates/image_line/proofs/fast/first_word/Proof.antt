@@ -103,19 +103,6 @@ loop-again c =
 pub first-word-spec : {M : Type 1} → statement M
 first-word-spec =
     tie.close
-    (tie.spec
-    Inv-loop
-    μ-loop
-    loop-holds
-    returns
-    (λ c. search needs) (λ c κs. search needs)
-    returns-2
-    lower-word-requires
-    returns-3
-    is-label-requires
-    returns-4
-    sub-run-end
-    add-run-end
-    run-end-requires
-    loop-less
+    (tie.spec Inv-loop μ-loop loop-holds returns (λ c. search needs) (λ c κs. search needs) returns-2
+    lower-word-requires returns-3 is-label-requires returns-4 sub-run-end add-run-end run-end-requires loop-less
     loop-again)

@@ -65,12 +65,5 @@ returns-5 c =
 pub is-label-spec : {M : Type 1} → statement M
 is-label-spec =
     tie.close
-    (tie.spec
-    returns
-    (λ c. search needs)
-    returns-2
-    (λ c. search needs) (λ c. search needs) (λ c. search needs) (λ c. search needs) (λ c κs. search needs)
-    enum-told
-    returns-3
-    returns-4
-    returns-5)
+    (tie.spec returns (λ c. search needs) returns-2 (λ c. search needs) (λ c. search needs) (λ c. search needs)
+    (λ c. search needs) (λ c κs. search needs) enum-told returns-3 returns-4 returns-5)

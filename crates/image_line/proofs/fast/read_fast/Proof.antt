@@ -58,15 +58,7 @@ returns-5 c =
 pub read-fast-spec : {M : Type 1} → statement M
 read-fast-spec =
     tie.close
-    (tie.spec
-    first-word-requires
-    (λ c. search needs)
-    end-at-requires
-    (λ c. search needs) (λ c. search needs) (λ c. search needs) (λ c κs. search needs) (λ c. search needs)
-    (λ c. search needs)
-    element-copy-out-read-tail
-    read-tail-requires
-    (λ c. search needs) (λ c. search needs) (λ c. search needs)
-    returns-2
-    (λ c. search needs) (λ c. search needs)
-    returns-5)
+    (tie.spec first-word-requires (λ c. search needs) end-at-requires (λ c. search needs) (λ c. search needs)
+    (λ c. search needs) (λ c κs. search needs) (λ c. search needs) (λ c. search needs) element-copy-out-read-tail
+    read-tail-requires (λ c. search needs) (λ c. search needs) (λ c. search needs) returns-2 (λ c. search needs)
+    (λ c. search needs) returns-5)

@@ -24,9 +24,6 @@ loop-holds c =
 operand-at-requires : tie.Need-operand-at-requires Inv-loop μ-loop
 operand-at-requires c κs = c .before .loop .inv .passed .place
 
-returns : tie.Need-returns Inv-loop μ-loop
-returns c = tt
-
 array-set-from-registers : tie.Need-array-set-from-registers Inv-loop μ-loop
 array-set-from-registers c =
     let o = c .before .before .before in
@@ -42,9 +39,6 @@ after-mark-requires c κs =
     let o = c .before in
     ⊎-elim (λ w. let (digit, v) = rw (w .1 .given .1) at (o .operand-at .ensures) in rw (w .6) (v .reads .in-text))
     (λ w. let (letter, rd) = rw (w .1 .given .1) at (o .operand-at .ensures) in rw (w .6) (rd .in-text)) (c .match .came)
-
-returns-2 : tie.Need-returns-2 Inv-loop μ-loop
-returns-2 c = tt
 
 loop-again : tie.Need-loop-again Inv-loop μ-loop
 loop-again c =
@@ -70,21 +64,7 @@ returns-3 c = let l = c .before in operands-end (c .tail-at .result) (l .before 
 pub read-tail-spec : {M : Type 1} → statement M
 read-tail-spec =
     tie.close
-    (tie.spec
-    Inv-loop
-    μ-loop
-    (λ c κs. search needs) (λ c κs. search needs)
-    loop-holds
-    operand-at-requires
-    (λ c. search needs)
-    returns
-    (λ c. search needs) (λ c. search needs)
-    array-set-from-registers
-    add-count
-    after-mark-requires
-    (λ c. search needs)
-    returns-2
-    (λ c. search needs) (λ c. search needs)
-    loop-again
-    tail-at-requires
-    returns-3)
+    (tie.spec Inv-loop μ-loop (λ c κs. search needs) (λ c κs. search needs) loop-holds operand-at-requires
+    (λ c. search needs) (λ c. tt) (λ c. search needs) (λ c. search needs) array-set-from-registers add-count
+    after-mark-requires (λ c. search needs) (λ c. tt) (λ c. search needs) (λ c. search needs) loop-again
+    tail-at-requires returns-3)

@@ -41,11 +41,5 @@ returns-3 c = here (c .before .before .before .before) _ (c .read-record .ensure
 pub read-line-spec : {M : Type 1} → statement M
 read-line-spec =
     tie.close
-    (tie.spec
-    (λ c κs. search needs)
-    read-fast-requires
-    (λ c. search needs) (λ c. search needs) (λ c. search needs)
-    read-record-requires
-    returns
-    returns-2
-    returns-3)
+    (tie.spec (λ c κs. search needs) read-fast-requires (λ c. search needs) (λ c. search needs) (λ c. search needs)
+    read-record-requires returns returns-2 returns-3)

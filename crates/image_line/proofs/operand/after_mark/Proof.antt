@@ -27,10 +27,5 @@ returns-4 c =
 pub after-mark-spec : {M : Type 1} → statement M
 after-mark-spec =
     tie.close
-    (tie.spec
-    (λ c κs. search needs)
-    enum-told
-    (λ c. search needs) (λ c κs. search needs) (λ c. search needs) (λ c. search needs) (λ c. search needs)
-    (λ c. search needs)
-    returns-3
-    returns-4)
+    (tie.spec (λ c κs. search needs) enum-told (λ c. search needs) (λ c κs. search needs) (λ c. search needs)
+    (λ c. search needs) (λ c. search needs) (λ c. search needs) returns-3 returns-4)

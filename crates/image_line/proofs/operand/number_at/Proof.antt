@@ -38,9 +38,5 @@ returns-3 c =
 pub number-at-spec : {M : Type 1} → statement M
 number-at-spec =
     tie.close
-    (tie.spec
-    (λ c κs. search needs) (λ c. search needs) (λ c. search needs) (λ c κs. search needs) (λ c. search needs)
-    number-requires
-    (λ c. search needs)
-    returns-3
-    (λ c. search needs))
+    (tie.spec (λ c κs. search needs) (λ c. search needs) (λ c. search needs) (λ c κs. search needs)
+    (λ c. search needs) number-requires (λ c. search needs) returns-3 (λ c. search needs))

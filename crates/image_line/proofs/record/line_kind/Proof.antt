@@ -174,20 +174,6 @@ returns-7 c =
 pub line-kind-spec : {M : Type 1} → statement M
 line-kind-spec =
     tie.close
-    (tie.spec
-    returns
-    (λ c. search needs)
-    enum-told
-    returns-2
-    (λ c. search needs) (λ c. search needs) (λ c. search needs)
-    add-start
-    add-end
-    sub-same
-    part-same-start
-    part-same-end
-    (λ c. search needs) (λ c κs. search needs)
-    returns-3
-    returns-4
-    returns-5
-    returns-6
-    returns-7)
+    (tie.spec returns (λ c. search needs) enum-told returns-2 (λ c. search needs) (λ c. search needs)
+    (λ c. search needs) add-start add-end sub-same part-same-start part-same-end (λ c. search needs)
+    (λ c κs. search needs) returns-3 returns-4 returns-5 returns-6 returns-7)

@@ -116,20 +116,6 @@ returns-5 c =
 pub read-record-spec : {M : Type 1} → statement M
 read-record-spec =
     tie.close
-    (tie.spec
-    tokenize-requires
-    (λ c κs. search needs)
-    returns
-    line-kind-requires
-    (λ c κs. search needs)
-    enum-told
-    read-config-requires
-    (λ c κs. search needs) (λ c. search needs)
-    read-label-requires
-    (λ c. search needs)
-    read-instruction-requires
-    (λ c κs. search needs)
-    returns-2
-    returns-3
-    returns-4
-    returns-5)
+    (tie.spec tokenize-requires (λ c κs. search needs) returns line-kind-requires (λ c κs. search needs) enum-told
+    read-config-requires (λ c κs. search needs) (λ c. search needs) read-label-requires (λ c. search needs)
+    read-instruction-requires (λ c κs. search needs) returns-2 returns-3 returns-4 returns-5)

@@ -41,13 +41,5 @@ returns-2 c =
 pub list-spec : {M : Type 1} → statement M
 list-spec =
     tie.close
-    (tie.spec
-    (λ c κs. search needs)
-    (λ c. search needs)
-    (λ c. search needs)
-    (λ c κs. search needs)
-    returns
-    list-words-requires
-    returns-2
-    (λ c. search needs)
-    (λ c. search needs))
+    (tie.spec (λ c κs. search needs) (λ c. search needs) (λ c. search needs) (λ c κs. search needs) returns
+    list-words-requires returns-2 (λ c. search needs) (λ c. search needs))

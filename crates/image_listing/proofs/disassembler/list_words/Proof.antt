@@ -102,20 +102,6 @@ returns-3 c =
 pub list-words-spec : {M : Type 1} → statement M
 list-words-spec =
     tie.close
-    (tie.spec
-    (λ c κs. search needs)
-    (λ c κs. search needs)
-    (λ c κs. search needs)
-    slice-aggregate-words-length
-    (λ c κs. search needs)
-    (λ c. search needs)
-    (λ c. search needs)
-    (λ c κs. search needs)
-    add-needed
-    returns
-    (λ c κs. search needs)
-    slice-aggregate-coded
-    write-words-requires
-    returns-2
-    (λ c. search needs)
-    returns-3)
+    (tie.spec (λ c κs. search needs) (λ c κs. search needs) (λ c κs. search needs) slice-aggregate-words-length
+    (λ c κs. search needs) (λ c. search needs) (λ c. search needs) (λ c κs. search needs) add-needed returns
+    (λ c κs. search needs) slice-aggregate-coded write-words-requires returns-2 (λ c. search needs) returns-3)

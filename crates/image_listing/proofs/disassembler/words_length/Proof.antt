@@ -72,18 +72,5 @@ returns-2 c = measured-all (c .before .loop .inv) (omega arith)
 pub words-length-spec : {M : Type 1} → statement M
 words-length-spec =
     tie.close
-    (tie.spec
-    Inv-loop
-    μ-loop
-    loop-holds
-    read-u32-requires
-    (λ c κs. search needs)
-    (λ c. search needs)
-    sub-t13
-    returns
-    (λ c. search needs)
-    add-length
-    add-at
-    (λ c. omega arith)
-    loop-again
-    returns-2)
+    (tie.spec Inv-loop μ-loop loop-holds read-u32-requires (λ c κs. search needs) (λ c. search needs) sub-t13 returns
+    (λ c. search needs) add-length add-at (λ c. omega arith) loop-again returns-2)

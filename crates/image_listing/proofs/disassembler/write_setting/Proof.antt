@@ -62,10 +62,4 @@ returns c =
 pub write-setting-spec : {M : Type 1} → statement M
 write-setting-spec =
     tie.close
-    (tie.spec
-    write-bytes-requires
-    write-decimal-requires
-    slice-write-text
-    add-result
-    same-length
-    returns)
+    (tie.spec write-bytes-requires write-decimal-requires slice-write-text add-result same-length returns)

@@ -64,12 +64,5 @@ returns c =
 pub write-settings-spec : {M : Type 1} → statement M
 write-settings-spec =
     tie.close
-    (tie.spec
-    (λ c. search needs)
-    write-setting-requires
-    (λ c. search needs)
-    write-setting-requires-2
-    (λ c. search needs)
-    write-setting-requires-3
-    (λ c. search needs)
-    returns)
+    (tie.spec (λ c. search needs) write-setting-requires (λ c. search needs) write-setting-requires-2
+    (λ c. search needs) write-setting-requires-3 (λ c. search needs) returns)

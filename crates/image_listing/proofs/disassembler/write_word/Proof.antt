@@ -68,13 +68,5 @@ returns-2 c =
 pub write-word-spec : {M : Type 1} → statement M
 write-word-spec =
     tie.close
-    (tie.spec
-    (λ c κs. search needs)
-    (λ c. search needs)
-    (λ c. search needs)
-    write-instruction-requires
-    slice-write-text
-    add-result
-    returns
-    same-length
-    returns-2)
+    (tie.spec (λ c κs. search needs) (λ c. search needs) (λ c. search needs) write-instruction-requires
+    slice-write-text add-result returns same-length returns-2)

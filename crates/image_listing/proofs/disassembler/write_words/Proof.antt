@@ -54,14 +54,5 @@ returns c = lined-all (c .before .loop .inv) (c .before .before .before .before 
 pub write-words-spec : {M : Type 1} → statement M
 write-words-spec =
     tie.close
-    (tie.spec
-    Inv-loop
-    μ-loop
-    loop-holds
-    read-u32-requires
-    write-word-requires
-    add-at
-    (λ c. omega arith)
-    loop-again
-    same-length
-    returns)
+    (tie.spec Inv-loop μ-loop loop-holds read-u32-requires write-word-requires add-at (λ c. omega arith) loop-again
+    same-length returns)

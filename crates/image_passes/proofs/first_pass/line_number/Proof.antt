@@ -33,12 +33,6 @@ add-line c =
     let p = t .before .before .pre in
     omega (arith, k .inv .1, lines-few (t .before .before .args .source .now) (k .i), t .loop-test .taken, p)
 
-add-i : tie.Need-add-i Inv-loop μ-loop
-add-i c = omega arith
-
-loop-less : tie.Need-loop-less Inv-loop μ-loop
-loop-less c = omega arith
-
 loop-again : tie.Need-loop-again Inv-loop μ-loop
 loop-again c =
     let t = c .before .before in
@@ -63,13 +57,5 @@ returns c =
 pub line-number-spec : {M : Type 1} → statement M
 line-number-spec =
     tie.close
-    (tie.spec
-    Inv-loop
-    μ-loop
-    loop-holds
-    shared-slice-read-if1
-    add-line
-    add-i
-    loop-less
-    loop-again
-    returns)
+    (tie.spec Inv-loop μ-loop loop-holds shared-slice-read-if1 add-line (λ c. omega arith) (λ c. omega arith)
+    loop-again returns)

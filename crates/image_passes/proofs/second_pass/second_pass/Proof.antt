@@ -48,9 +48,6 @@ same-length c = written-length (all-written c) (c .before .before .before .befor
 returns : tie.Need-returns Inv-loop μ-loop
 returns c = all-written c
 
-add-at : tie.Need-add-at Inv-loop μ-loop
-add-at c = omega arith
-
 loop-less : tie.Need-loop-less Inv-loop μ-loop
 loop-less c =
     let t = c .before .before .before .before .before .before in
@@ -69,4 +66,4 @@ pub second-pass-spec : {M : Type 1} → statement M
 second-pass-spec =
     tie.close
     (tie.spec Inv-loop μ-loop (search needs) loop-holds code-line-requires write-coded-requires same-length returns
-    add-at loop-less loop-again)
+    (λ c. omega arith) loop-less loop-again)

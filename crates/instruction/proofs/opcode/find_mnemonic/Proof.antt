@@ -29,11 +29,4 @@ returns-3 c =
 pub find-mnemonic-spec : {M : Type 1} → statement M
 find-mnemonic-spec =
     tie.close
-    (tie.spec
-    (λ c. search needs)
-    cast-row
-    (λ c. search needs)
-    (λ c. search needs)
-    returns
-    returns-2
-    returns-3)
+    (tie.spec (λ c. search needs) cast-row (λ c. search needs) (λ c. search needs) returns returns-2 returns-3)

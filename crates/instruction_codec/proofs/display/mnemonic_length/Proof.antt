@@ -37,13 +37,5 @@ returns c =
 pub mnemonic-length-spec : {M : Type 1} → statement M
 mnemonic-length-spec =
     tie.close
-    (tie.spec
-    Inv-loop
-    μ-loop
-    (λ c. search needs)
-    (λ c. search needs)
-    loop-holds
-    add-length
-    (λ c. omega arith)
-    loop-again
-    returns)
+    (tie.spec Inv-loop μ-loop (λ c. search needs) (λ c. search needs) loop-holds add-length (λ c. omega arith)
+    loop-again returns)

@@ -41,16 +41,5 @@ returns c = spelling-all (c .before .loop .inv) (c .before .before .before .pre 
 pub write-mnemonic-spec : {M : Type 1} → statement M
 write-mnemonic-spec =
     tie.close
-    (tie.spec
-    Inv-loop
-    μ-loop
-    (λ c. search needs)
-    (λ c. search needs)
-    loop-holds
-    (λ c. omega arith)
-    slice-write-out
-    add-place
-    (λ c. omega arith)
-    loop-again
-    same-length
-    returns)
+    (tie.spec Inv-loop μ-loop (λ c. search needs) (λ c. search needs) loop-holds (λ c. omega arith) slice-write-out
+    add-place (λ c. omega arith) loop-again same-length returns)

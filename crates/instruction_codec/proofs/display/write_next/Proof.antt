@@ -44,11 +44,5 @@ returns c =
 pub write-next-spec : {M : Type 1} → statement M
 write-next-spec =
     tie.close
-    (tie.spec
-    write-register-requires
-    slice-write-out
-    add-next
-    slice-write-out-2
-    add-result
-    (λ c. search needs)
+    (tie.spec write-register-requires slice-write-out add-next slice-write-out-2 add-result (λ c. search needs)
     returns)

@@ -47,12 +47,5 @@ returns-2 c = rw (plain (c .before .before .before .before)) (c .before .before 
 pub write-number-spec : {M : Type 1} → statement M
 write-number-spec =
     tie.close
-    (tie.spec
-    slice-write-out
-    (λ c. search needs)
-    write-decimal-requires
-    same-length
-    returns
-    write-decimal-requires-2
-    (λ c. search needs)
-    returns-2)
+    (tie.spec slice-write-out (λ c. search needs) write-decimal-requires same-length returns write-decimal-requires-2
+    (λ c. search needs) returns-2)

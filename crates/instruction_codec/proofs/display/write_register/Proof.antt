@@ -31,11 +31,5 @@ returns c =
 pub write-register-spec : {M : Type 1} → statement M
 write-register-spec =
     tie.close
-    (tie.spec
-    (λ c κs. search needs)
-    slice-write-out
-    (λ c. search needs)
-    (λ c. search needs)
-    write-decimal-requires
-    same-length
-    returns)
+    (tie.spec (λ c κs. search needs) slice-write-out (λ c. search needs) (λ c. search needs) write-decimal-requires
+    same-length returns)

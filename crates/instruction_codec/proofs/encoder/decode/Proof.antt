@@ -60,14 +60,5 @@ returns-3 c =
 pub decode-spec : {M : Type 1} → statement M
 decode-spec =
     tie.close
-    (tie.spec
-    (λ c κs. search needs)
-    (λ c. search needs)
-    (λ c. search needs)
-    returns
-    element-copy-out-form
-    (λ c κs. search needs)
-    (λ c κs. search needs)
-    from-parts-requires
-    returns-2
-    returns-3)
+    (tie.spec (λ c κs. search needs) (λ c. search needs) (λ c. search needs) returns element-copy-out-form
+    (λ c κs. search needs) (λ c κs. search needs) from-parts-requires returns-2 returns-3)

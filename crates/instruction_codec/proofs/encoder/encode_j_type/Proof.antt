@@ -19,12 +19,5 @@ returns c =
 pub encode-j-type-spec : {M : Type 1} → statement M
 encode-j-type-spec =
     tie.close
-    (tie.spec
-    (λ c κs. search needs)
-    (λ c κs. search needs)
-    (λ c. search needs)
-    (λ c. search needs)
-    reduced-requires
-    (λ c. search needs)
-    (λ c. search needs)
-    returns)
+    (tie.spec (λ c κs. search needs) (λ c κs. search needs) (λ c. search needs) (λ c. search needs) reduced-requires
+    (λ c. search needs) (λ c. search needs) returns)

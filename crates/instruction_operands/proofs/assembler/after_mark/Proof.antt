@@ -64,13 +64,5 @@ returns-3 c =
 pub after-mark-spec : {M : Type 1} → statement M
 after-mark-spec =
     tie.close
-    (tie.spec
-    enum-told
-    (λ c. search needs)
-    mul-token
-    array-copy-out-token
-    (λ c κs. search needs)
-    returns
-    add-t10
-    returns-2
-    returns-3)
+    (tie.spec enum-told (λ c. search needs) mul-token array-copy-out-token (λ c κs. search needs) returns add-t10
+    returns-2 returns-3)

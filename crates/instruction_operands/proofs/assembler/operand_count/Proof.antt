@@ -40,14 +40,5 @@ returns c = counting-end (c .before .loop .inv) (λ h. omega arith)
 pub operand-count-spec : {M : Type 1} → statement M
 operand-count-spec =
     tie.close
-    (tie.spec
-    Inv-loop
-    μ-loop
-    (λ c κs. search needs)
-    loop-holds
-    add-count
-    (λ c κs. search needs) (λ c. search needs)
-    add-count-2
-    (λ c. search needs) (λ c. search needs)
-    loop-again
-    returns)
+    (tie.spec Inv-loop μ-loop (λ c κs. search needs) loop-holds add-count (λ c κs. search needs) (λ c. search needs)
+    add-count-2 (λ c. search needs) (λ c. search needs) loop-again returns)

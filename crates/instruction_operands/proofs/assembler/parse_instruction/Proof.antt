@@ -147,16 +147,6 @@ returns-4 c =
 pub parse-instruction-spec : {M : Type 1} → statement M
 parse-instruction-spec =
     tie.close
-    (tie.spec
-    returns
-    (λ c. search needs) (λ c. search needs)
-    enum-told
-    returns-2
-    add-end
-    (λ c. search needs) (λ c. search needs)
-    part-lower-key-end
-    (λ c κs. search needs) (λ c κs. search needs) (λ c. search needs) (λ c. search needs)
-    element-copy-out-parse-row
-    parse-row-requires
-    returns-3
-    returns-4)
+    (tie.spec returns (λ c. search needs) (λ c. search needs) enum-told returns-2 add-end (λ c. search needs)
+    (λ c. search needs) part-lower-key-end (λ c κs. search needs) (λ c κs. search needs) (λ c. search needs)
+    (λ c. search needs) element-copy-out-parse-row parse-row-requires returns-3 returns-4)

@@ -13,5 +13,5 @@ returns c =
 pub hex-byte-at-spec : {M : Type 1} → statement M
 hex-byte-at-spec =
     tie.close
-    (tie.spec (search needs) (search needs) (search needs) (search needs) (search needs) (search needs) (search needs)
-    (search needs) returns)
+    (tie.spec (search needs) (search needs) (search needs) (search needs) (search needs) (search needs)
+    (search needs) (search needs) returns)

@@ -15,4 +15,5 @@ returns-2 c = let p = c .before .before in rw (p .before .before .before .before
 pub put-verdict-spec : {M : Type 1} → statement M
 put-verdict-spec =
     tie.close
-    (tie.spec (search needs) (search needs) (search needs) returns (search needs) (search needs) (search needs) (search needs) returns-2)
+    (tie.spec (search needs) (search needs) (search needs) returns (search needs) (search needs) (search needs)
+    (search needs) returns-2)

@@ -14,6 +14,6 @@ same-length-4 c =
 pub is-assembled-with-tables-spec : {M : Type 1} → statement M
 is-assembled-with-tables-spec =
     tie.close
-    (tie.spec (search needs) (search needs) (search needs) (search needs) (search needs) (search needs) (search needs)
+    (tie.spec (search needs) (search needs) (search needs) (search needs) (search needs) (search needs)
     (search needs) (search needs) (search needs) (search needs) (search needs) (search needs) (search needs)
-    (search needs) same-length-4 (search needs))
+    (search needs) (search needs) same-length-4 (search needs))

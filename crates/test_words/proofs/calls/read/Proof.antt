@@ -28,5 +28,5 @@ from-parts-requires c κs = let n = c .before in rw (n .row .given .1) at (n .be
 pub read-spec : {M : Type 1} → statement M
 read-spec =
     tie.close
-    (tie.spec (search needs) tokenize-requires (search needs) (search needs) (search needs) (search needs) parse-instruction-requires
-    (search needs) (search needs) from-parts-requires (search needs) (search needs))
+    (tie.spec (search needs) tokenize-requires (search needs) (search needs) (search needs) (search needs)
+    parse-instruction-requires (search needs) (search needs) from-parts-requires (search needs) (search needs))

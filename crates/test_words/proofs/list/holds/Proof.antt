@@ -76,5 +76,5 @@ returns-3 c = rw (holdsText, left (c .before .before), ← fits (c .before), c .
 pub holds-spec : {M : Type 1} → statement M
 holds-spec =
     tie.close
-    (tie.spec Inv-loop μ-loop loop-holds (search needs) (search needs) returns (search needs) (search needs) loop-again
-    (search needs) (search needs) (search needs) returns-2 returns-3)
+    (tie.spec Inv-loop μ-loop loop-holds (search needs) (search needs) returns (search needs) (search needs)
+    loop-again (search needs) (search needs) (search needs) returns-2 returns-3)

@@ -34,11 +34,5 @@ decimal-requires c κs =
 pub digits-spec : {M : Type 1} → statement M
 digits-spec =
     tie.close
-    (tie.spec
-    (λ c. search needs) (λ c. search needs) (λ c. search needs)
-    prefixed-requires
-    (λ c. search needs) (λ c. search needs)
-    prefixed-requires-2
-    (λ c. search needs)
-    decimal-requires
-    (λ c. search needs))
+    (tie.spec (λ c. search needs) (λ c. search needs) (λ c. search needs) prefixed-requires (λ c. search needs)
+    (λ c. search needs) prefixed-requires-2 (λ c. search needs) decimal-requires (λ c. search needs))

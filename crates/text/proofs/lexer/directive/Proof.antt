@@ -41,10 +41,5 @@ returns-3 c =
 pub directive-spec : {M : Type 1} → statement M
 directive-spec =
     tie.close
-    (tie.spec
-    (λ c. search needs)
-    returns
-    (λ c. search needs) (λ c κs. search needs)
-    returns-2
-    (λ c. search needs) (λ c κs. search needs) (λ c κs. search needs)
-    returns-3)
+    (tie.spec (λ c. search needs) returns (λ c. search needs) (λ c κs. search needs) returns-2 (λ c. search needs)
+    (λ c κs. search needs) (λ c κs. search needs) returns-3)

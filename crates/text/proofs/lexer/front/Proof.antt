@@ -48,14 +48,5 @@ mark-or-ending-requires c κs =
 pub front-spec : {M : Type 1} → statement M
 front-spec =
     tie.close
-    (tie.spec
-    (λ c. search needs) (λ c κs. search needs)
-    word-requires
-    returns
-    (λ c κs. search needs)
-    number-requires
-    returns-2
-    (λ c κs. search needs)
-    returns-3
-    mark-or-ending-requires
-    (λ c. search needs))
+    (tie.spec (λ c. search needs) (λ c κs. search needs) word-requires returns (λ c κs. search needs) number-requires
+    returns-2 (λ c κs. search needs) returns-3 mark-or-ending-requires (λ c. search needs))

@@ -50,12 +50,6 @@ returns-4 c =
 pub mark-or-ending-spec : {M : Type 1} → statement M
 mark-or-ending-spec =
     tie.close
-    (tie.spec
-    (λ c. search needs) (λ c. search needs) (λ c κs. search needs) (λ c κs. search needs) (λ c κs. search needs)
-    (λ c κs. search needs)
-    end-or-bad-requires
-    returns
-    returns-2
-    returns-3
-    returns-4
+    (tie.spec (λ c. search needs) (λ c. search needs) (λ c κs. search needs) (λ c κs. search needs)
+    (λ c κs. search needs) (λ c κs. search needs) end-or-bad-requires returns returns-2 returns-3 returns-4
     (λ c. search needs))

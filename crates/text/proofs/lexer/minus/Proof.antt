@@ -54,12 +54,5 @@ returns-4 c =
 pub minus-spec : {M : Type 1} → statement M
 minus-spec =
     tie.close
-    (tie.spec
-    (λ c. search needs) (λ c κs. search needs)
-    returns
-    enum-told
-    (λ c. search needs)
-    found-requires
-    returns-2
-    returns-3
-    returns-4)
+    (tie.spec (λ c. search needs) (λ c κs. search needs) returns enum-told (λ c. search needs) found-requires
+    returns-2 returns-3 returns-4)

@@ -51,13 +51,5 @@ returns-3 c =
 pub prefixed-spec : {M : Type 1} → statement M
 prefixed-spec =
     tie.close
-    (tie.spec
-    add-begin
-    digits-at-requires
-    decimal-requires
-    (λ c. search needs)
-    enum-told
-    (λ c. search needs) (λ c κs. search needs)
-    found-requires
-    returns-2
-    returns-3)
+    (tie.spec add-begin digits-at-requires decimal-requires (λ c. search needs) enum-told (λ c. search needs)
+    (λ c κs. search needs) found-requires returns-2 returns-3)

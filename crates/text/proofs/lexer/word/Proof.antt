@@ -44,12 +44,6 @@ returns-3 c = rw (c .found3 .ensures) (word-is (c .before .before .before) _ (c 
 pub word-spec : {M : Type 1} → statement M
 word-spec =
     tie.close
-    (tie.spec
-    (λ c. search needs) (λ c κs. search needs) (λ c. search needs) (λ c. search needs)
-    part-parse-register-end
-    (λ c κs. search needs) (λ c. search needs) (λ c κs. search needs)
-    enum-told
-    (λ c κs. search needs) (λ c. search needs) (λ c κs. search needs)
-    returns
-    returns-2
-    returns-3)
+    (tie.spec (λ c. search needs) (λ c κs. search needs) (λ c. search needs) (λ c. search needs)
+    part-parse-register-end (λ c κs. search needs) (λ c. search needs) (λ c κs. search needs) enum-told
+    (λ c κs. search needs) (λ c. search needs) (λ c κs. search needs) returns returns-2 returns-3)

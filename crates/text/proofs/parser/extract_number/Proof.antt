@@ -56,10 +56,5 @@ returns-5 c = rw (c .before .kind3 .given .1)
 pub extract-number-spec : {M : Type 1} → statement M
 extract-number-spec =
     tie.close
-    (tie.spec
-    (λ c. search needs) (λ c. search needs) (λ c. search needs) (λ c. search needs)
-    returns
-    returns-2
-    returns-3
-    returns-4
-    returns-5)
+    (tie.spec (λ c. search needs) (λ c. search needs) (λ c. search needs) (λ c. search needs) returns returns-2
+    returns-3 returns-4 returns-5)

@@ -16,14 +16,8 @@ Inv-loop n rest₀ count₀ rest count = count + length (decimal rest) ≡ lengt
 abbrev μ-loop : tie.MeasureT-loop
 μ-loop n rest₀ count₀ rest count = rest
 
-loop-holds : tie.Need-loop-holds Inv-loop μ-loop
-loop-holds c = omega arith
-
 add-length : tie.Need-add-length Inv-loop μ-loop
 add-length c = omega (arith, decimal-length 19 (c .before .before .args .n) (omega arith))
-
-loop-less : tie.Need-loop-less Inv-loop μ-loop
-loop-less c = omega arith
 
 loop-again : tie.Need-loop-again Inv-loop μ-loop
 loop-again c = omega (arith, decimal-longer (c .before .loop .rest) (c .loop-test .taken))
@@ -36,4 +30,5 @@ returns c =
 
 pub decimal-length-spec : {M : Type 1} → statement M
 decimal-length-spec =
-    tie.close (tie.spec Inv-loop μ-loop loop-holds add-length loop-less loop-again returns)
+    tie.close
+    (tie.spec Inv-loop μ-loop (λ c. omega arith) add-length (λ c. omega arith) loop-again returns)

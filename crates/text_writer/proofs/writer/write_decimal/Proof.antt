@@ -24,26 +24,11 @@ loop-holds c =
 sub-place : tie.Need-sub-place Inv-loop μ-loop
 sub-place c = omega (arith, decimal-longer (c .before .loop .rest) (c .loop-test .taken), c .before .loop .inv .ends)
 
-add-out : tie.Need-add-out Inv-loop μ-loop
-add-out c = omega arith
-
-cast-out : tie.Need-cast-out Inv-loop μ-loop
-cast-out c = omega arith
-
 slice-write-out : tie.Need-slice-write-out Inv-loop μ-loop
 slice-write-out c = omega (arith, decimal-longer (c .before .loop .rest) (c .loop-test .taken), c .before .loop .inv .ends, c .before .loop .inv .room)
 
-loop-less : tie.Need-loop-less Inv-loop μ-loop
-loop-less c = omega arith
-
 loop-again : tie.Need-loop-again Inv-loop μ-loop
 loop-again c = unwritten-less (c .before .loop .inv) (c .loop-test .taken)
-
-add-out-2 : tie.Need-add-out-2 Inv-loop μ-loop
-add-out-2 c = omega arith
-
-cast-out-2 : tie.Need-cast-out-2 Inv-loop μ-loop
-cast-out-2 c = omega arith
 
 slice-write-out-2 : tie.Need-slice-write-out-2 Inv-loop μ-loop
 slice-write-out-2 c =
@@ -59,5 +44,6 @@ returns c = rw (c .before .before .decimal-length .ensures .0) (unwritten-none (
 pub write-decimal-spec : {M : Type 1} → statement M
 write-decimal-spec =
     tie.close
-    (tie.spec Inv-loop μ-loop (search needs) add-end loop-holds sub-place add-out cast-out slice-write-out loop-less
-    loop-again add-out-2 cast-out-2 slice-write-out-2 same-length returns)
+    (tie.spec Inv-loop μ-loop (search needs) add-end loop-holds sub-place (λ c. omega arith) (λ c. omega arith)
+    slice-write-out (λ c. omega arith) loop-again (λ c. omega arith) (λ c. omega arith) slice-write-out-2 same-length
+    returns)

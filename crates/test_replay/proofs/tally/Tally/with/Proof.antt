@@ -23,5 +23,5 @@ returns-4 c = rw (c .before .before .before .outcome .given .1, c .with .ensures
 pub with-spec : {M : Type 1} → statement M
 with-spec =
     tie.close
-    (tie.spec (search needs) (search needs) (search needs) (search needs) (search needs) (search needs) (search needs)
-    (search needs) (search needs) returns returns-2 returns-3 returns-4)
+    (tie.spec (search needs) (search needs) (search needs) (search needs) (search needs) (search needs)
+    (search needs) (search needs) (search needs) returns returns-2 returns-3 returns-4)

@@ -13,5 +13,5 @@ abbrev μ-loop : tie.MeasureT-loop
 pub with-tokens-spec : {M : Type 1} → statement M
 with-tokens-spec =
     tie.close
-    (tie.spec Inv-loop μ-loop (search needs) (search needs) (search needs) (search needs) (search needs) (search needs)
-    (search needs) (search needs))
+    (tie.spec Inv-loop μ-loop (search needs) (search needs) (search needs) (search needs) (search needs)
+    (search needs) (search needs) (search needs))
