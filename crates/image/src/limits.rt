@@ -1,5 +1,5 @@
-// The limits of document 01, and what its header has for every program. Code that tests or writes one of them names it here; the
-// definitions (`most-bytes`, `most-words`, `header-size`, `entry`, `stack-size`) have the same values, which the contracts compare.
+// The limits of document 01, and what its header has for every program. Code that tests one of them names it here; the header itself is
+// written from fixed byte strings, as document 01 names that form. Each function's proof shows that its number is the definition's.
 
 // A longer source is refused (1).
 pub const MOST_BYTES: usize = 1048576;
@@ -17,3 +17,7 @@ pub const HEADER_SIZE: usize = 32;
 pub const ENTRY: u32 = 0x1000;
 
 pub const STACK_SIZE: u32 = 0x100000;
+
+pub const MAGIC: u32 = 0x52494B5A;
+
+pub const VERSION: u32 = 0x00030004;

@@ -9,6 +9,8 @@ ghost use Rattle.image.specs.Contracts.{settingsMeant, faultMeant, setti
 use crate::config::Checked;
 use crate::config::Config;
 use crate::limits::HEADER_SIZE;
+use crate::limits::MAGIC;
+use crate::limits::VERSION;
 
 pub struct ProgramHeader {
     pub magic: u32,
@@ -104,10 +106,10 @@ impl ProgramHeader {
     fn validate(self) -> Checked
         ensures { λ r. ⌜ faultMeant r ≡ headerFault (headerMeant self) ⌝ }
     {
-        if self.magic != 0x52494B5A {
+        if self.magic != MAGIC {
             return Checked::Refused(25);
         }
-        if self.version != 0x00030004 {
+        if self.version != VERSION {
             return Checked::Refused(26);
         }
         let config = self.config;

@@ -26,7 +26,7 @@ use Rattle.text.specs.Contracts.{kindMeant as tokenMeant, firsts, filler, spell
 use Rattle.text.specs.declared.parser.Line.{Line as Record}
 use Rattle.instruction.specs.Table.{places, Row, table}
 use Rattle.instruction.specs.Operands.{markByte, readOperands}
-use Rattle.instruction.specs.Contracts.{mnemonicKeys, formNumbers, slotRows, formAt, operandsMeant, operandsFor, SettledFor, partsMeant, Settled}
+use Rattle.instruction.specs.Contracts.{mnemonicKeys, formNumbers, slotRows, formAt, operandsMeant, operandsFor, SettledFor, partsMeant, Settled, operandsWith}
 use Rattle.instruction.specs.declared.instruction.Operands.{Operands}
 use Rattle.instruction.specs.declared.form.Mark.{Mark}
 use Rattle.instruction.specs.declared.form.Mark.the-variants.{Nothing as NoMark, Is as IsMark}
@@ -112,7 +112,7 @@ OperandIs names s at numeric NoOperand = Unit {0}
 
 -- The line ends at a place, after these operands.
 pub record EndsAfter (names : List Name) (s : List ℕ) (at : ℕ) (rs : List Register) (w : Whole) (o : Operands) (end : ℕ) : Type 0 where
-  pub operands-are : o ≡ record { first = getD rs 0 R0; second = getD rs 1 R0; third = getD rs 2 R0; number = w }
+  pub operands-are : o ≡ operandsWith rs w
   pub nothing-left : tokens names (leftAt s at) ≡ some []
   pub ends : end ≡ endAt s at
 

@@ -143,7 +143,8 @@ fn read_tail(source: &[u8], from: usize, form: u8) -> Tail
     tail_at(source, at, registers, number)
 }
 
-// Whether the word from `at` to `end` is a label: a colon follows it at once, and it is no register's name. A longer word is none.
+// Whether the word from `at` to `end` is a label: a colon follows it at once, and it is no register's name, as no word is that is longer than
+// the longest of these.
 fn is_label(source: &[u8], at: usize, end: usize) -> bool
     requires { ⌜ at < end ⌝ ∗ ⌜ end ≤ length (now source) ⌝ }
     ensures { λ r. ⌜ r ≡ isLabel present (now (source .entry)) at end ⌝ }

@@ -6,7 +6,7 @@ use mathlib.Core.Bool.{Bool, true, false, _||_}
 use mathlib.Core.List.{List, [], _∷_, _++_}
 use lib.ListN.{getD}
 use lib.Dec.{eqb}
-use Rattle.instruction.specs.Table.{Separator, Place, reg, num, mark, Form, R, I, Shift, Load, Store, Branch, Jump, System}
+use Rattle.instruction.specs.Table.{Separator, a-comma, an-opening, a-closing, Place, reg, num, mark, Form, R, I, Shift, Load, Store, Branch, Jump, System}
 use Rattle.instruction.specs.Operands.{separatorByte, separatorRefusal}
 use Rattle.instruction.specs.declared.form.Mark.{Mark}
 use Rattle.instruction.specs.declared.form.Mark.the-variants.{Nothing, Is}
@@ -27,8 +27,11 @@ digitsFor System = 0
 unfoldable pub isNumber : ℕ → Bool
 isNumber d = eqb d 2 || eqb d 5
 
+abbrev markFor : Separator → Mark
+markFor m = Is (separatorByte m) (separatorRefusal m)
+
 unfoldable pub markOf : ℕ → Mark
-markOf d = getD (Nothing ∷ Is 44 19 ∷ Is 40 20 ∷ Is 41 21 ∷ []) d Nothing
+markOf d = getD (Nothing ∷ markFor a-comma ∷ markFor an-opening ∷ markFor a-closing ∷ []) d Nothing
 
 -- A place for a number, or for a register.
 pub data OperandPlace : Bool → Place → Type 0 where

@@ -658,7 +658,8 @@ fn unused_below(opcode: u32) -> u32
     }
 }
 
-fn wide(x: u8) -> u32
+// A byte as a number of 32 bits.
+pub fn wide(x: u8) -> u32
     ensures { λ r. ⌜ r ≡ x ⌝ }
 {
     x as u32

@@ -10,9 +10,9 @@ use Rattle.text_lexical.specs.Numbers.{meantBy, signedDecimal}
 use Rattle.text_lexical.specs.Contracts.{indexOf, wholeMeant, wholeFor}
 use Rattle.text_lexical.specs.declared.register.Register.{Register}
 use Rattle.text_lexical.specs.declared.number.Whole.{Whole}
-use Rattle.instruction.specs.Table.{Form, places}
+use Rattle.instruction.specs.Table.{a-comma, an-opening, a-closing, Form, places}
 use Rattle.instruction.specs.Operands.{Instruction as Meant}
-use Rattle.instruction.specs.Text.{registerText, operandsText}
+use Rattle.instruction.specs.Text.{registerText, separatorText, operandsText}
 use Rattle.instruction.specs.Words.{fields, instructionOf}
 use Rattle.instruction.specs.Contracts.{rowAt, partsOf, instructionMeant}
 use Rattle.instruction_codec.specs.declared.encoder.Decoded.{Decoded}
@@ -53,14 +53,14 @@ pub record Signed (modulus field : ℕ) (z : ℤ) : Type 0 where
 
 -- A register with a comma and a space after it; and with the space before the operands.
 abbrev pub nextText : Register → List ℕ
-nextText r = registerText (indexOf r) ++ (44 ∷ 32 ∷ [])
+nextText r = registerText (indexOf r) ++ separatorText a-comma
 
 abbrev pub firstText : Register → List ℕ
 firstText r = 32 ∷ nextText r
 
 -- A register in brackets.
 abbrev pub baseText : Register → List ℕ
-baseText r = 40 ∷ (registerText (indexOf r) ++ (41 ∷ []))
+baseText r = separatorText an-opening ++ (registerText (indexOf r) ++ separatorText a-closing)
 
 -- The mnemonic of a row with one register, and with two; and a number with a register in brackets.
 abbrev pub startText : ℕ → Register → List ℕ

@@ -22,12 +22,6 @@ use instruction::opcode::STORE;
 use text_lexical::number::Whole;
 use text_lexical::register::Register;
 
-fn wide(x: u8) -> u32
-    ensures { λ r. ⌜ r ≡ x ⌝ }
-{
-    x as u32
-}
-
 // The low bits of a number, as many as `most` has ones.
 fn reduced(number: Whole, most: u64) -> u32
     requires { ⌜ Power (suc most) ⌝ }
@@ -40,7 +34,7 @@ fn reduced(number: Whole, most: u64) -> u32
 fn number_of(register: Register) -> u32
     ensures { λ r. ⌜ r ≡ indexOf register ⌝ ∗ ⌜ r < 16 ⌝ }
 {
-    wide(register.index())
+    instruction::opcode::wide(register.index())
 }
 
 // The opcode of a row, with room above it.
@@ -48,7 +42,7 @@ fn opcode_of(row: usize, opcodes: &[u8; 50]) -> u32
     requires { ⌜ row < 50 ⌝ ∗ ⌜ now opcodes ≡ opcodeNumbers ⌝ }
     ensures { λ r. ⌜ r ≡ rowAt row .opcode ⌝ ∗ ⌜ r < 0x80 ⌝ }
 {
-    wide(opcodes[row])
+    instruction::opcode::wide(opcodes[row])
 }
 
 // Two registers and a field of at most seventeen bits, each at its bit; there is room for an opcode.

@@ -86,7 +86,10 @@ pub struct Tally {
 }
 
 impl Tally {
-    pub fn new() -> Tally {
+    // Nothing is counted as yet.
+    pub fn new() -> Tally
+        ensures { λ r. ⌜ r ≡ record { records = 0; differences = 0; assembled = 0; listed = 0; refusals = record { counts = replicate 33 0 } } ⌝ }
+    {
         Tally {
             records: 0,
             differences: 0,

@@ -77,6 +77,9 @@ fn word(text: &[u8], at: usize) -> Scan
     }
 }
 
+// A Number is within i64: below 2^63, and with `-` at most that.
+const LIMIT: u64 = 9223372036854775808;
+
 // Decimal digits at `at`, all of which make the token.
 fn decimal(text: &[u8], at: usize) -> Scan
     requires { ⌜ IsDecimal present (now text) at ⌝ }
@@ -88,7 +91,7 @@ fn decimal(text: &[u8], at: usize) -> Scan
     match value {
         Value::TooLarge => Scan::Bad,
         Value::Fits(magnitude) => {
-            if magnitude < 9223372036854775808 {
+            if magnitude < LIMIT {
                 found(Kind::Number(magnitude), at, end)
             } else {
                 Scan::Bad
@@ -112,7 +115,7 @@ fn minus(text: &[u8], at: usize) -> Scan
     match value {
         Value::TooLarge => Scan::Bad,
         Value::Fits(magnitude) => {
-            if magnitude <= 9223372036854775808 {
+            if magnitude <= LIMIT {
                 found(Kind::Negative(magnitude), at, end)
             } else {
                 Scan::Bad

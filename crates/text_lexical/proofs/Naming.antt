@@ -14,7 +14,7 @@ use borrow.Author.Tests.{ne-eqb, eqb-true, leb-true, ltb-true}
 use Rattle.text_lexical.specs.Bytes.{bytes, between, letter, digit, nameStart, namePart, every, same, run, find, each}
 use Rattle.text_lexical.specs.Names.{Name, name, named, numbered, conventional, present}
 use Rattle.text_lexical.specs.Contracts.{indexOf, nameMeant, nameNumber, registerNumber}
-use Rattle.text_lexical.specs.Words.{part, wordEnd, wordAt, upTo, RegisterWordIs}
+use Rattle.text_lexical.specs.Words.{part, wordEnd, wordAt, upTo, longest, RegisterWordIs}
 use Rattle.text_lexical.specs.declared.name.RegisterName.{RegisterName}
 use Rattle.text_lexical.specs.declared.name.RegisterName.the-variants.{Is as Named, NoSuch, Other as NoName}
 use Rattle.text_lexical.specs.declared.name.RegisterWord.the-variants.{Other}
@@ -234,6 +234,11 @@ named-parts u o h = go (named present u) refl h
         let (p, q) = found (λ x. same (x .spelling) u) (λ x. every namePart (x .spelling)) present n e all-parts in
         rw (same-eq (n .spelling) u p) at q
 
+-- The longest of the present names has four bytes.
+pub longest-present : longest present ≡ 4
+unfolding longest present numbered conventional name bytes
+longest-present = refl
+
 module _ (s : List ℕ) (at : ℕ) (l : at + 4 < length s) where
   -- A word that has two bytes at least goes on after them.
   two-or-fewer : (run namePart (drop at s) ≡ 2 + run namePart (drop (at + 2) s)) ⊎ (run namePart (drop at s) < 2)
@@ -269,6 +274,6 @@ module _ (s : List ℕ) (at : ℕ) (l : at + 4 < length s) where
     named-word (Named r) e =
         let y = run-past namePart (end - at) (drop at s) (omega (arith, length-drop at s, length-drop (at + 2) s, run-le namePart (drop (at + 2) s)))
         (named-parts (part s at (end - at)) (some (indexOf r)) (sym e)) in
-        (omega arith, omega arith, ⊎-elim (λ w. omega arith) (λ w. absurd (omega arith)) two-or-fewer, sym e)
+        (rw longest-present l, omega arith, ⊎-elim (λ w. omega arith) (λ w. absurd (omega arith)) two-or-fewer, sym e)
     named-word NoSuch e = λ l n. other-word n (λ k. let y : _≡_ {A = ℕ} 0 1 = cc in omega arith)
     named-word NoName e = λ l n. other-word n (λ k. let y : _≡_ {A = ℕ} 0 1 = cc in omega arith)

@@ -1,8 +1,8 @@
 -- The word at a place of a text: where it ends, and its key. A word's bytes are parts of a name.
-use Prim.Native.Nat.{ℕ, _+_, _-_, _*_, _^_, _≤_, _<_}
+use Prim.Native.Nat.{ℕ, _+_, _-_, _*_, _^_, _≤_, _<_, max}
 use mathlib.Core.Path.{_≡_}
 use mathlib.Core.Option.{some}
-use mathlib.Core.List.{List, map}
+use mathlib.Core.List.{List, [], _∷_, map}
 use lib.ListN.{length, take, drop}
 use Rattle.text_lexical.specs.Bytes.{namePart, lower, run}
 use Rattle.text_lexical.specs.Names.{Name, named}
@@ -44,8 +44,13 @@ upTo (Named r) end = Is r end
 upTo NoSuch end = Other
 upTo NoName end = Other
 
+-- How many bytes the longest name has.
+unfoldable pub longest : List Name → ℕ
+longest [] = 0
+longest (n ∷ ns) = max (length (n .spelling)) (longest ns)
+
 -- The register that the word at a place names, and its end; or it names none. Nothing is found where not so many bytes follow that the end of
 -- the longest name would be seen.
 abbrev pub RegisterWordIs : List Name → List ℕ → ℕ → RegisterWord → Type 0
-RegisterWordIs names s at (Is r end) = (at + 4 < length s) × (at < end) × (end ≡ wordEnd s at) × (nameNumber (named names (part s at (end - at))) ≡ some (some (indexOf r)))
-RegisterWordIs names s at Other = at + 4 < length s → (n : ℕ) → nameNumber (named names (wordAt s at)) ≡ some (some n) → ⊥
+RegisterWordIs names s at (Is r end) = (at + longest names < length s) × (at < end) × (end ≡ wordEnd s at) × (nameNumber (named names (part s at (end - at))) ≡ some (some (indexOf r)))
+RegisterWordIs names s at Other = at + longest names < length s → (n : ℕ) → nameNumber (named names (wordAt s at)) ≡ some (some n) → ⊥

@@ -7,7 +7,7 @@ mod stdin;
 use reply::Reply;
 
 fn main() {
-    let mut out = [0u8; 360536];
+    let mut out = [0u8; report::TEXT_ROOM];
     match reply::answer_input(&mut out) {
         Reply::Output(length) => print(&out[..length]),
         Reply::Error(length) => tell(&out[..length]),

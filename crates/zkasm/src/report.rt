@@ -5,10 +5,18 @@ ghost use lib.ListN.{length};
 ghost use Rattle.image.specs.Listing.{textOf, written, listing};
 ghost use Rattle.zkasm.specs.Zkasm.{most-input, image-room, text-room, refusalText, programOutput};
 ghost use Rattle.zkasm.specs.Contracts.{AssemblesInput, Prints};
+use crate::stdin::MOST_INPUT;
+use crate::stdin::ROOM;
 use image::limits::HEADER_SIZE;
 use image_assembler::assembler::Assembled;
 use image_labels::label::Label;
 use image_listing::disassembler::Listing;
+
+// Room for the image of every input: it has a line more at most than bytes.
+const IMAGE_ROOM: usize = HEADER_SIZE + 4 * ROOM;
+
+// Room for its text: three settings and as many words, of at most 22 bytes a line.
+pub const TEXT_ROOM: usize = 22 * (3 + ROOM);
 
 // `refused N line L`
 fn write_refusal(out: &mut [u8], number: u8, line: usize) -> usize
@@ -78,9 +86,9 @@ pub fn report(input: &[u8], out: &mut [u8]) -> usize
     requires { ⌜ text-room ≤ length (now out) ⌝ }
     ensures { λ r. ⌜ Prints (programOutput (now (input .entry))) (now (out .entry)) (now (out .exit)) r ⌝ }
 {
-    if 16384 < input.len() {
+    if MOST_INPUT < input.len() {
         return write_refusal(out, 1, 0);
     }
-    let mut image = [0u8; 65572];
+    let mut image = [0u8; IMAGE_ROOM];
     report_source(input, &mut image, out)
 }

@@ -6,8 +6,11 @@ ghost use Rattle.zkasm.specs.Stdin.{input-room, deliveryOf, countOf, ste
 ghost use Rattle.zkasm.specs.declared.stdin.Step.the-variants.{Done};
 ghost use Rattle.zkasm.specs.Contracts.{Delivers, ReadsPiece, Received};
 
-// One byte more than an input may have, so that a longer one is seen.
-const ROOM: usize = 16385;
+// The bytes that an input may have.
+pub const MOST_INPUT: usize = 16384;
+
+// One byte more, so that a longer input is seen.
+pub const ROOM: usize = MOST_INPUT + 1;
 
 // The number of times that an interrupted read is tried again.
 const TRIES: usize = 100;

@@ -7,9 +7,12 @@ use borrow.Author.Needs.{needs}
 use borrow.Author.Tests.{not-true, not-false}
 use Rattle.text_lexical.specs.Bytes.{namePart, run}
 use Rattle.text_lexical.proofs.Strings.{run-no}
-use Rattle.text_lexical.proofs.Naming.{two-at, three-at, four-at, part-next, named-word, long-word}
+use Rattle.text_lexical.proofs.Naming.{two-at, three-at, four-at, part-next, longest-present, named-word, long-word}
 use Rattle.text_lexical.proofs.name.register_word.Statement.{statement}
 use Rattle.text_lexical.proofs.name.register_word.Tie as tie
+
+returns : tie.Need-returns
+returns c h n e = absurd (omega (arith, longest-present, c .if1 .taken))
 
 returns-2 : tie.Need-returns-2
 returns-2 c =
@@ -63,7 +66,7 @@ returns-5 c =
     (omega (arith, fourth t, part-next (a .text .now) (a .at) 4 (omega arith) (sym (c .before .is-name-part3 .ensures) ∙ not-false _ (c .if4 .left))))
 
 pub register-word-spec : {M : Type 1} → statement M
-register-word-spec = tie.close (tie.spec (λ c. search needs) (λ c. search needs)
+register-word-spec = tie.close (tie.spec (λ c. search needs) returns
     (λ c. search needs) (λ c. search needs) (λ c. search needs) (λ c. search needs) (λ c. search needs)
     (λ c κs. search needs) (λ c κs. search needs) (λ c. search needs) (λ c κs. search needs)
     returns-2
