@@ -9,5 +9,4 @@ returns : tie.Need-returns
 returns c = c .encode .ensures ∙ ap wordOf (c .before .from-parts .ensures .1)
 
 pub word-of-spec : {M : Type 1} → statement M
-word-of-spec = tie.close
-    (tie.spec (search needs) (search needs) returns)
+word-of-spec = tie.close (tie.spec (λ c κs. search needs) (λ c κs. search needs) returns)
