@@ -18,5 +18,5 @@ returns-3 c = handed-as (c .before .before .assembled3 .given .1)
 pub write-assembled-spec : {M : Type 1} → statement M
 write-assembled-spec =
     tie.close
-    (tie.spec (search needs) (search needs) (search needs) (search needs) (search needs) (search needs)
-    (search needs) returns returns-2 returns-3)
+    (tie.spec (λ c. search needs) (λ c. search needs) (λ c. search needs) (λ c. search needs) (λ c. search needs)
+    (λ c. search needs) (λ c. search needs) returns returns-2 returns-3)

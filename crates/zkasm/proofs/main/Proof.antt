@@ -29,6 +29,6 @@ slice-aggregate-tell c = sym (length-take-le _ _ (error (c .before .before)))
 pub main-spec : {M : Type 1} → statement M
 main-spec =
     tie.close
-    (tie.spec (search needs) (search needs) (λ c. search needs) array-share-prefix-out slice-aggregate-print
-    (search needs) (λ c. search needs) array-share-prefix-out-2 slice-aggregate-tell (search needs) (search needs)
-    (search needs))
+    (tie.spec (λ c. search needs) (λ c κs. search needs) (λ c. search needs) array-share-prefix-out
+    slice-aggregate-print (λ c κs. search needs) (λ c. search needs) array-share-prefix-out-2 slice-aggregate-tell
+    (λ c κs. search needs) (λ c. search needs) (λ c. search needs))

@@ -14,4 +14,4 @@ returns-2 c = rw (c .before .fill .given .1)
 
 pub answered-spec : {M : Type 1} → statement M
 answered-spec = tie.close
-    (tie.spec enum-told (search needs) returns returns-2)
+    (tie.spec enum-told (λ c. search needs) returns returns-2)

@@ -21,4 +21,5 @@ returns-2 c =
 pub finish-spec : {M : Type 1} → statement M
 finish-spec =
     tie.close
-    (tie.spec (search needs) (search needs) write-image-requires (search needs) returns (search needs) returns-2)
+    (tie.spec (λ c. search needs) (λ c. search needs) write-image-requires (λ c κs. search needs) returns
+    (λ c. search needs) returns-2)

@@ -51,4 +51,5 @@ returns-3 c =
 pub code-line-spec : {M : Type 1} → statement M
 code-line-spec =
     tie.close
-    (tie.spec (search needs) (search needs) word-of-requires (search needs) returns returns-2 returns-3)
+    (tie.spec (λ c κs. search needs) (λ c. search needs) word-of-requires (λ c. search needs) returns returns-2
+    returns-3)

@@ -65,5 +65,5 @@ loop-again c =
 pub second-pass-spec : {M : Type 1} → statement M
 second-pass-spec =
     tie.close
-    (tie.spec Inv-loop μ-loop (search needs) loop-holds code-line-requires write-coded-requires same-length returns
-    (λ c. omega arith) loop-less loop-again)
+    (tie.spec Inv-loop μ-loop (λ c κs. search needs) loop-holds code-line-requires write-coded-requires same-length
+    returns (λ c. omega arith) loop-less loop-again)

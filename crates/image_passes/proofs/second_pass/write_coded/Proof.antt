@@ -46,4 +46,4 @@ returns-2 c =
 pub write-coded-spec : {M : Type 1} → statement M
 write-coded-spec =
     tie.close
-    (tie.spec enum-told (search needs) write-u32-requires returns (search needs) returns-2)
+    (tie.spec enum-told (λ c. search needs) write-u32-requires returns (λ c. search needs) returns-2)

@@ -66,5 +66,5 @@ returns-2 c =
 pub write-image-spec : {M : Type 1} → statement M
 write-image-spec =
     tie.close
-    (tie.spec mul-needed add-needed returns (search needs) cast-write-header mul-write-header write-header-requires
-    second-pass-requires same-length returns-2)
+    (tie.spec mul-needed add-needed returns (λ c κs. search needs) cast-write-header mul-write-header
+    write-header-requires second-pass-requires same-length returns-2)

@@ -9,4 +9,4 @@ unfolding answerGiven
 returns c = rw (c .wide3 .ensures, c .before .wide2 .ensures, c .before .before .wide .ensures)
 
 pub accepted-spec : {M : Type 1} → statement M
-accepted-spec = tie.close (tie.spec (search needs) (search needs) (search needs) returns)
+accepted-spec = tie.close (tie.spec (λ c κs. search needs) (λ c κs. search needs) (λ c κs. search needs) returns)

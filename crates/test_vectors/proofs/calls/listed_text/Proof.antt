@@ -23,5 +23,5 @@ returns-4 c = rw (c .before .listing4 .given .1)
 pub listed-text-spec : {M : Type 1} → statement M
 listed-text-spec =
     tie.close
-    (tie.spec (search needs) (search needs) (search needs) (search needs) (search needs) (search needs) returns
-    returns-2 returns-3 returns-4)
+    (tie.spec (λ c. search needs) (λ c. search needs) (λ c κs. search needs) (λ c. search needs)
+    (λ c κs. search needs) (λ c. search needs) returns returns-2 returns-3 returns-4)

@@ -14,4 +14,4 @@ returns-2 c = rw (c .before .before .opened2 .given .1) (c .header-of .ensures)
 
 pub opened-header-spec : {M : Type 1} → statement M
 opened-header-spec =
-    tie.close (tie.spec (search needs) (search needs) (search needs) (search needs) (search needs) returns returns-2)
+    tie.close (tie.spec (λ c. search needs) (λ c κs. search needs) (λ c κs. search needs) (λ c. search needs) (λ c κs. search needs) returns returns-2)

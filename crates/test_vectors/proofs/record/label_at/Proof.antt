@@ -10,4 +10,4 @@ unfolding labelAt behind
 returns c = rw (c .number-at3 .ensures, c .before .number-at2 .ensures, c .before .before .number-at .ensures, c .before .before .before .wrapping-add-usize .ensures)
 
 pub label-at-spec : {M : Type 1} → statement M
-label-at-spec = tie.close (tie.spec (search needs) (search needs) (search needs) (search needs) returns)
+label-at-spec = tie.close (tie.spec (λ c κs. search needs) (λ c κs. search needs) (λ c κs. search needs) (λ c κs. search needs) returns)

@@ -10,4 +10,4 @@ unfolding fillerAt
 returns c = refl
 
 pub filler-spec : {M : Type 1} → statement M
-filler-spec = tie.close (tie.spec (search needs) (search needs) returns)
+filler-spec = tie.close (tie.spec (λ c. search needs) (λ c. search needs) returns)

@@ -66,5 +66,5 @@ returns-4 c =
 pub holds-spec : {M : Type 1} → statement M
 holds-spec =
     tie.close
-    (tie.spec Inv-loop μ-loop returns returns-2 loop-holds (search needs) (search needs) returns-3 (search needs)
-    (search needs) loop-again returns-4)
+    (tie.spec Inv-loop μ-loop returns returns-2 loop-holds (λ c. search needs) (λ c κs. search needs) returns-3
+    (λ c. search needs) (λ c. search needs) loop-again returns-4)

@@ -14,4 +14,4 @@ unfolding bufferByte
 returns-2 c = rw (bufferByte, le-ltb _ _ (c .before .if1 .left)) (c .filler .ensures)
 
 pub wanted-at-spec : {M : Type 1} → statement M
-wanted-at-spec = tie.close (tie.spec (search needs) (search needs) returns returns-2)
+wanted-at-spec = tie.close (tie.spec (λ c. search needs) (λ c κs. search needs) returns returns-2)

@@ -13,4 +13,4 @@ unfolding entryAt
 returns-2 c = rw (c .if1 .left)
 
 pub entry-at-spec : {M : Type 1} → statement M
-entry-at-spec = tie.close (tie.spec (search needs) returns returns-2)
+entry-at-spec = tie.close (tie.spec (λ c κs. search needs) returns returns-2)

@@ -67,6 +67,7 @@ returns-3 c =
 pub answer-input-spec : {M : Type 1} → statement M
 answer-input-spec =
     tie.close
-    (tie.spec (search needs) (search needs) (search needs) (search needs) array-share-prefix-input
-    slice-aggregate-report (search needs) (search needs) (search needs) (search needs) (search needs) (search needs)
-    (search needs) (search needs) returns (search needs) returns-2 (search needs) returns-3)
+    (tie.spec (λ c κs. search needs) (λ c. search needs) (λ c κs. search needs) (λ c. search needs)
+    array-share-prefix-input slice-aggregate-report (λ c κs. search needs) (λ c. search needs) (λ c. search needs)
+    (λ c κs. search needs) (λ c. search needs) (λ c. search needs) (λ c κs. search needs) (λ c. search needs) returns
+    (λ c. search needs) returns-2 (λ c. search needs) returns-3)

@@ -13,4 +13,5 @@ returns c =
 pub report-spec : {M : Type 1} → statement M
 report-spec =
     tie.close
-    (tie.spec (search needs) (search needs) returns (search needs) (search needs) (search needs) (λ c. search needs))
+    (tie.spec (λ c κs. search needs) (λ c. search needs) returns (λ c. search needs) (λ c κs. search needs)
+    (λ c. search needs) (λ c. search needs))

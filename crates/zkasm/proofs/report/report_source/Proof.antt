@@ -87,6 +87,7 @@ returns-3 c =
 pub report-source-spec : {M : Type 1} → statement M
 report-source-spec =
     tie.close
-    (tie.spec (search needs) (search needs) (search needs) (search needs) mul-write-listing add-write-listing
-    slice-reshare-prefix-write-listing slice-aggregate-write-listing write-listing-requires (search needs)
-    (search needs) (search needs) returns (search needs) (search needs) returns-2 (search needs) returns-3)
+    (tie.spec (λ c κs. search needs) (λ c. search needs) (λ c κs. search needs) (λ c. search needs) mul-write-listing
+    add-write-listing slice-reshare-prefix-write-listing slice-aggregate-write-listing write-listing-requires
+    (λ c. search needs) (λ c. search needs) (λ c. search needs) returns (λ c. search needs) (λ c. search needs)
+    returns-2 (λ c. search needs) returns-3)

@@ -41,4 +41,4 @@ returns-2 c =
     no-refusal (s .args .image .now) (s .args .out .now) (s .pre .0) (l .list .result) (c .match .keys2) (l .list .ensures .answer)
 
 pub write-listing-spec : {M : Type 1} → statement M
-write-listing-spec = tie.close (tie.spec (search needs) (search needs) (search needs) returns (search needs) returns-2)
+write-listing-spec = tie.close (tie.spec (λ c κs. search needs) (λ c. search needs) (λ c. search needs) returns (λ c. search needs) returns-2)

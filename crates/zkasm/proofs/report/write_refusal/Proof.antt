@@ -91,5 +91,6 @@ returns c =
 pub write-refusal-spec : {M : Type 1} → statement M
 write-refusal-spec =
     tie.close
-    (tie.spec (search needs) (search needs) write-decimal-requires (search needs) write-bytes-requires-2
-    write-decimal-requires-2 (search needs) write-bytes-requires-3 (search needs) returns)
+    (tie.spec (λ c. search needs) (λ c κs. search needs) write-decimal-requires (λ c. search needs)
+    write-bytes-requires-2 write-decimal-requires-2 (λ c. search needs) write-bytes-requires-3 (λ c. search needs)
+    returns)

@@ -81,5 +81,5 @@ returns c =
 pub read-input-spec : {M : Type 1} → statement M
 read-input-spec =
     tie.close
-    (tie.spec Inv-loop μ-loop (search needs) loop-holds slice-aggregate-read-piece read-piece-requires
-    step-after-requires (search needs) loop-less loop-again (search needs) same-length returns)
+    (tie.spec Inv-loop μ-loop (λ c κs. search needs) loop-holds slice-aggregate-read-piece read-piece-requires
+    step-after-requires (λ c. search needs) loop-less loop-again (λ c. search needs) same-length returns)

@@ -86,6 +86,6 @@ returns-2 c =
 pub read-piece-spec : {M : Type 1} → statement M
 read-piece-spec =
     tie.close
-    (tie.spec (search needs) (search needs) slice-aggregate-read-some read-some-requires (search needs)
-    slice-reshare-prefix-write-bytes slice-aggregate-write-bytes write-bytes-requires (search needs) (search needs)
-    returns (search needs) returns-2)
+    (tie.spec (λ c. search needs) (λ c. search needs) slice-aggregate-read-some read-some-requires
+    (λ c. search needs) slice-reshare-prefix-write-bytes slice-aggregate-write-bytes write-bytes-requires
+    (λ c. search needs) (λ c. search needs) returns (λ c. search needs) returns-2)

@@ -70,5 +70,5 @@ returns-6 c = rw (c .enum-told3 .given .1)
 pub step-after-spec : {M : Type 1} → statement M
 step-after-spec =
     tie.close
-    (tie.spec (search needs) add-filled returns (search needs) (search needs) (search needs) (search needs) returns-2
-    returns-3 returns-4 returns-5 returns-6)
+    (tie.spec (λ c. search needs) add-filled returns (λ c. search needs) (λ c. search needs) (λ c. search needs)
+    (λ c. search needs) returns-2 returns-3 returns-4 returns-5 returns-6)

@@ -16,4 +16,4 @@ unfolding sameText
 returns-2 c = rw (sameText, ne-eqb _ _ (c .if1 .left))
 
 pub has-spec : {M : Type 1} → statement M
-has-spec = tie.close (tie.spec (search needs) (search needs) (search needs) returns returns-2)
+has-spec = tie.close (tie.spec (λ c κs. search needs) (λ c. search needs) (λ c κs. search needs) returns returns-2)

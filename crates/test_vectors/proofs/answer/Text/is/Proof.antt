@@ -7,4 +7,4 @@ returns : tie.Need-returns
 returns c = rw (← c .before .before .values .ensures) (c .has .ensures)
 
 pub is-spec : {M : Type 1} → statement M
-is-spec = tie.close (tie.spec (search needs) (search needs) returns)
+is-spec = tie.close (tie.spec (λ c κs. search needs) (λ c κs. search needs) returns)
