@@ -5,7 +5,7 @@ ghost use Rattle.text_lexical.specs.Bytes.{same as sameSpelling};
 ghost use Rattle.text_lexical.specs.Promised.{is_of};
 
 // Byte classes that `run_end` can skip.
-#[derive(Drop)]
+#[derive(Clone, Copy)]
 pub enum Class {
     NamePart,
     Blank,

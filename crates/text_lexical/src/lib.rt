@@ -1,4 +1,6 @@
 // The lower half of the text layer: bytes, numbers and register names.
+#![tactic(auto)]
+
 pub mod bytes;
 pub mod name;
 pub mod number;

@@ -10,13 +10,13 @@ use crate::bytes::Class;
 use crate::register::Register;
 
 // The key of a word, and its end.
-#[derive(Drop)]
+#[derive(Clone, Copy)]
 pub struct Word {
     pub key: u64,
     pub end: usize,
 }
 
-#[derive(Drop)]
+#[derive(Clone, Copy)]
 pub enum RegisterName {
     Is(Register),
     // a name of no register
@@ -26,7 +26,7 @@ pub enum RegisterName {
 }
 
 // The register that the word at a place names, and the word's end.
-#[derive(Drop)]
+#[derive(Clone, Copy)]
 pub enum RegisterWord {
     Is { register: Register, end: usize },
     // The word names no register, or it stands too near the text's end for this look-up.
@@ -174,7 +174,7 @@ const KEY_BYTES: usize = 7;
 const BYTE: u64 = 256;
 
 // Bytes packed so far: their number, the first byte lowest, and what the next byte counts. Passed by value, so that it stays in registers.
-#[derive(Drop)]
+#[derive(Clone, Copy)]
 struct Packed {
     sum: u64,
     scale: u64,

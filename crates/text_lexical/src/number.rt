@@ -5,28 +5,28 @@ ghost use Rattle.text_lexical.specs.Numbers.{digit_value};
 ghost use Rattle.text_lexical.specs.Promised.{base_of, is_digit_of, digit_rank, digits_at, Capped, whole_meant, Reduced};
 
 // The radix by which digits are read.
-#[derive(Drop)]
+#[derive(Clone, Copy)]
 pub enum Radix {
     Binary,
     Decimal,
     Hex,
 }
 
-#[derive(Drop)]
+#[derive(Clone, Copy)]
 pub enum Value {
     Fits(u64),
     TooLarge,
 }
 
 // Digits from a place on: their value, and the place after them.
-#[derive(Drop)]
+#[derive(Clone, Copy)]
 pub struct Digits {
     pub value: Value,
     pub end: usize,
 }
 
 // A whole number by its sign and its magnitude; -0 is 0.
-#[derive(Drop)]
+#[derive(Clone, Copy)]
 pub struct Whole {
     pub negative: bool,
     pub magnitude: u64,

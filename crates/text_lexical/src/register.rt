@@ -2,7 +2,7 @@
 ghost use Rattle.std.specs.Prelude.{◌≡◌, min};
 ghost use Rattle.text_lexical.specs.Promised.{index_of};
 
-#[derive(Drop)]
+#[derive(Clone, Copy)]
 pub enum Register {
     R0,
     R1,

@@ -3,36 +3,35 @@ use mathlib.Core.Path.{◌≡◌, refl, sym, ◌∙◌}
 use Prim.Native.Nat.{◌≤◌, ◌+◌, ◌-◌}
 use native.Mathlib.Omega.{arith}
 use lib.ListN.{length, drop}
-use borrow.Author.Tests.{not-false}
 use Rattle.text_lexical.specs.Bytes.{run, ascii}
 use Rattle.text_lexical.proofs.Strings.{run-block}
 use Rattle.text_lexical.proofs.bytes.ascii_end.Statement.{statement}
 use Rattle.text_lexical.proofs.bytes.ascii_end.Tie as tie
 
-abbrev invariant-loop : tie.invariant-loop
+abbrev invariant-loop : tie.invariant-loop-i
 invariant-loop s at i₀ i = (i ≤ length s) × (i + run ascii (drop i s) ≡ at + run ascii (drop at s))
 
-abbrev decreases-loop : tie.decreases-loop
+abbrev decreases-loop : tie.decreases-loop-i
 decreases-loop s at i₀ i = length s - i
 
-loop-holds : tie.Need-loop-init invariant-loop decreases-loop
+loop-holds : tie.Need-loop-i-init invariant-loop decreases-loop
 loop-holds c = (omega arith, refl)
 
-returns : tie.Need-returns invariant-loop decreases-loop
-returns c = c.run_end.ensures ∙ c.before.before.before.before.loop.invariant.1
+returns : tie.Need-returns-then-not-ascii_block invariant-loop decreases-loop
+returns c = c.run_end.ensures ∙ c.before.before.before.before.loop-i.invariant.1
 
-loop-again : tie.Need-loop-preserved invariant-loop decreases-loop
+loop-again : tie.Need-loop-i-preserved invariant-loop decreases-loop
 loop-again c =
     let b = c.before.before.before in
     let a = b.before.before.args in
-    let m = run-block ascii 32 a.text.now b.loop.i (omega arith) (sym c.before.ascii-block.ensures ∙ not-false _ c.if1.false) in
-    (omega arith, omega (arith, b.loop.invariant.1, m))
+    let m = run-block ascii 32 a.text.now b.loop-i.i (omega arith) (sym c.before.ascii_block.ensures ∙ c.if-not-ascii_block.false) in
+    (omega arith, omega (arith, b.loop-i.invariant.1, m))
 
-returns-2 : tie.Need-returns-2 invariant-loop decreases-loop
-returns-2 c = c.run-end2.ensures ∙ c.before.before.loop.invariant.1
+returns-2 : tie.Need-returns invariant-loop decreases-loop
+returns-2 c = c.run_end-2.ensures ∙ c.before.before.loop-i.invariant.1
 
-pub ascii-end-spec : {M : Type 1} → statement M
-ascii-end-spec =
+pub ascii_end_spec : {M : Type 1} → statement M
+ascii_end_spec =
     tie.close (tie.spec invariant-loop decreases-loop loop-holds (λ c. omega arith) (λ c κs. omega arith) (λ c κs. omega arith)
     returns
     (λ c. omega arith) (λ c. omega arith)

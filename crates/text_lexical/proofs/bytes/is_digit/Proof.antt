@@ -8,5 +8,5 @@ returns : tie.Need-returns
 unfolding digit
 returns c = c.within.ensures
 
-pub is-digit-spec : {M : Type 1} → statement M
-is-digit-spec = tie.close (tie.spec (λ c κs. search rules) returns)
+pub is_digit_spec : {M : Type 1} → statement M
+is_digit_spec = tie.close (tie.spec (λ c κs. search rules) returns)

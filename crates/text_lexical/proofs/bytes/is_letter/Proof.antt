@@ -4,13 +4,13 @@ use Rattle.text_lexical.specs.Bytes.{letter}
 use Rattle.text_lexical.proofs.bytes.is_letter.Statement.{statement}
 use Rattle.text_lexical.proofs.bytes.is_letter.Tie as tie
 
-returns : tie.Need-returns
+returns : tie.Need-returns-then-within
 unfolding letter
-returns c = rw (← c.before.within.ensures, c.if1.true)
+returns c = rw (← c.before.within.ensures, c.if-within.true)
 
-returns-2 : tie.Need-returns-2
+returns-2 : tie.Need-returns-else-within
 unfolding letter
-returns-2 c = rw (← c.before.before.within.ensures, c.before.if1.false) c.within2.ensures
+returns-2 c = rw (← c.before.before.within.ensures, c.before.if-within.false) c.within-else-within.ensures
 
-pub is-letter-spec : {M : Type 1} → statement M
-is-letter-spec = tie.close (tie.spec (λ c κs. search rules) (λ c κs. search rules) returns returns-2)
+pub is_letter_spec : {M : Type 1} → statement M
+is_letter_spec = tie.close (tie.spec (λ c κs. search rules) (λ c κs. search rules) returns returns-2)

@@ -5,21 +5,21 @@ use Rattle.text_lexical.specs.Bytes.{edge, inside, margin}
 use Rattle.text_lexical.proofs.bytes.is_margin.Statement.{statement}
 use Rattle.text_lexical.proofs.bytes.is_margin.Tie as tie
 
-returns : tie.Need-returns
+returns : tie.Need-returns-then-b-eq10
 unfolding margin inside
-returns c = rw (eq-eqb c.before.args.b 10 c.if1.true)
+returns c = rw (eq-eqb c.before.args.b 10 c.if-b-eq10.true)
 
-returns-2 : tie.Need-returns-2
+returns-2 : tie.Need-returns-then-within
 unfolding margin inside edge
 returns-2 c =
     let k = c.before.before in
-    rw (ne_eqb k.before.args.b 10 k.if1.false, ← c.before.within.ensures, c.if2.true)
+    rw (ne_eqb k.before.args.b 10 k.if-b-eq10.false, ← c.before.within.ensures, c.if-within.true)
 
-returns-3 : tie.Need-returns-3
+returns-3 : tie.Need-returns-else-within
 unfolding margin inside edge
 returns-3 c =
     let k = c.before.before in
-    rw (ne_eqb k.before.args.b 10 k.if1.false, ← c.before.within.ensures, c.if2.false)
+    rw (ne_eqb k.before.args.b 10 k.if-b-eq10.false, ← c.before.within.ensures, c.if-within.false)
 
-pub is-margin-spec : {M : Type 1} → statement M
-is-margin-spec = tie.close (tie.spec returns (λ c κs. search rules) returns-2 returns-3)
+pub is_margin_spec : {M : Type 1} → statement M
+is_margin_spec = tie.close (tie.spec returns (λ c κs. search rules) returns-2 returns-3)

@@ -4,13 +4,13 @@ use Rattle.text_lexical.specs.Bytes.{name_start}
 use Rattle.text_lexical.proofs.bytes.is_name_start.Statement.{statement}
 use Rattle.text_lexical.proofs.bytes.is_name_start.Tie as tie
 
-returns : tie.Need-returns
+returns : tie.Need-returns-then-is_letter
 unfolding name_start
-returns c = rw (← c.before.is-letter.ensures, c.if1.true)
+returns c = rw (← c.before.is_letter.ensures, c.if-is_letter.true)
 
-returns-2 : tie.Need-returns-2
+returns-2 : tie.Need-returns-else-is_letter
 unfolding name_start
-returns-2 c = rw (← c.before.is-letter.ensures, c.if1.false)
+returns-2 c = rw (← c.before.is_letter.ensures, c.if-is_letter.false)
 
-pub is-name-start-spec : {M : Type 1} → statement M
-is-name-start-spec = tie.close (tie.spec (λ c κs. search rules) returns returns-2)
+pub is_name_start_spec : {M : Type 1} → statement M
+is_name_start_spec = tie.close (tie.spec (λ c κs. search rules) returns returns-2)

@@ -4,13 +4,13 @@ use Rattle.text_lexical.specs.Bytes.{between}
 use Rattle.text_lexical.proofs.bytes.within.Statement.{statement}
 use Rattle.text_lexical.proofs.bytes.within.Tie as tie
 
-returns : tie.Need-returns
+returns : tie.Need-returns-then-lo-b
 unfolding between
-returns c = rw (le-leb c.before.args.lo c.before.args.b c.if1.true)
+returns c = rw (le-leb c.before.args.lo c.before.args.b c.if-lo-b.true)
 
-returns-2 : tie.Need-returns-2
+returns-2 : tie.Need-returns-else-lo-b
 unfolding between
-returns-2 c = rw (lt-leb c.before.args.lo c.before.args.b c.if1.false)
+returns-2 c = rw (lt-leb c.before.args.lo c.before.args.b c.if-lo-b.false)
 
-pub within-spec : {M : Type 1} → statement M
-within-spec = tie.close (tie.spec returns returns-2)
+pub within_spec : {M : Type 1} → statement M
+within_spec = tie.close (tie.spec returns returns-2)

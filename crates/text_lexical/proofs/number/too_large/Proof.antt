@@ -4,7 +4,7 @@ use Rattle.text_lexical.proofs.number.too_large.Statement.{statement}
 use Rattle.text_lexical.proofs.number.too_large.Tie as tie
 
 returns : tie.Need-returns
-returns c = rw c.digits-end.ensures
+returns c = rw c.digits_end-end.ensures
 
-pub too-large-spec : {M : Type 1} → statement M
-too-large-spec = tie.close (tie.spec (λ c κs. search rules) returns)
+pub too_large_spec : {M : Type 1} → statement M
+too_large_spec = tie.close (tie.spec (λ c κs. search rules) returns)
