@@ -31,8 +31,8 @@ pub fn write_u32(out: &mut [u8], at: usize, value: u32) -> usize
 
 // How many digits a number has.
 pub fn decimal_length(n: u64) -> usize
-    ensures fact_1 { result ≡ length (decimal n) }
-    ensures fact_2 { result ≤ 20 }
+    ensures value { result ≡ length (decimal n) }
+    ensures bound { result ≤ 20 }
 {
     let mut rest = n;
     let mut length: usize = 1;
