@@ -66,8 +66,8 @@ fn finish(
     forms: &[u8; 50],
     slots: &[u8; 293],
 ) -> Assembled
-    requires fact_1 { Finishable present source.now outcome.verdict }
-    requires fact_2 { Tables mnemonics.now forms.now slots.now }
+    requires finishable { Finishable present source.now outcome.verdict }
+    requires tables { Tables mnemonics.now forms.now slots.now }
     ensures { Finishes present source.now outcome.labels image.old image.new result outcome.verdict }
 {
     let labels = outcome.labels;
@@ -101,8 +101,8 @@ fn walk(
     forms: &[u8; 50],
     slots: &[u8; 293],
 ) -> Outcome
-    requires fact_1 { Tables mnemonics.now forms.now slots.now }
-    requires fact_2 { Starts source.now roots.old }
+    requires tables { Tables mnemonics.now forms.now slots.now }
+    requires starts { Starts source.now roots.old }
     ensures { Walks present source.now table.old table.new roots.new result }
 {
     let mut next = image_passes::first_pass::begin(source);
@@ -127,8 +127,8 @@ fn rooted(
     forms: &[u8; 50],
     slots: &[u8; 293],
 ) -> Assembled
-    requires fact_1 { Tables mnemonics.now forms.now slots.now }
-    requires fact_2 { Starts source.now roots.old }
+    requires tables { Tables mnemonics.now forms.now slots.now }
+    requires starts { Starts source.now roots.old }
     ensures { Assembles present source.now table.old image.old table.new image.new result }
 {
     let outcome = walk(source, table, roots, mnemonics, forms, slots);

@@ -39,8 +39,8 @@ pub fn find(
     start: usize,
     length: usize,
 ) -> Found
-    requires fact_1 { Tree source.now table.now roots.now count }
-    requires fact_2 { Enterable source.now count (span start «length») }
+    requires tree { Tree source.now table.now roots.now count }
+    requires enterable { Enterable source.now count (span start «length») }
     ensures { Finding source.now table.now roots.now count start «length» result }
 {
     let mut search = crate::tree::begin(source, roots, count, start, length);
@@ -53,8 +53,8 @@ pub fn find(
 
 // An entry stored at a place, where there is room; whether there was.
 fn append(table: &mut [Label], at: usize, entry: Label) -> bool
-    ensures fact_1 { result ≡ ltb at (length table.old) }
-    ensures fact_2 { table.new ≡ set table.old at entry }
+    ensures value { result ≡ ltb at (length table.old) }
+    ensures stored { table.new ≡ set table.old at entry }
 {
     if table.len() <= at {
         return false;
@@ -79,10 +79,10 @@ pub fn enter(
     count: usize,
     label: Label,
 ) -> Entered
-    requires fact_1 { Tree source.now table.old roots.old count }
-    requires fact_2 { Enterable source.now count label }
-    ensures fact_1 { Enters source.now (unlinked count table.old) count label (unlinked (count_after count result) table.new) result }
-    ensures fact_2 { TreeAfter source.now table.old roots.old count label table.new roots.new result }
+    requires tree { Tree source.now table.old roots.old count }
+    requires enterable { Enterable source.now count label }
+    ensures enters { Enters source.now (unlinked count table.old) count label (unlinked (count_after count result) table.new) result }
+    ensures tree_after { TreeAfter source.now table.old roots.old count label table.new roots.new result }
 {
     let found = find(source, table, roots, count, label.start, label.length);
     let bare = match found {

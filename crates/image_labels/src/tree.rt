@@ -94,9 +94,9 @@ fn child_bits(to: usize, branch: u64) -> usize
 
 // An entry with a child at a branch where it had none.
 fn linked(entry: Label, branch: u64, to: usize) -> Label
-    requires fact_1 { entry.start / 4398046511104 ≤ 1048576 }
-    requires fact_2 { entry.address / 4398046511104 ≤ 1048576 }
-    requires fact_3 { to < 2097152 }
+    requires upper_start_fits { entry.start / 4398046511104 ≤ 1048576 }
+    requires upper_address_fits { entry.address / 4398046511104 ≤ 1048576 }
+    requires child_fits { to < 2097152 }
     ensures { result ≡ linkedOf entry branch to }
 {
     let start = entry.start;
@@ -134,8 +134,8 @@ fn mix(hash: Digest, bytes: u64) -> Digest
 // The three bytes from `at` on as one number.
 fn three_bytes(source: &[u8], at: usize) -> u64
     requires { at + 3 ≤ length source.now }
-    ensures fact_1 { result ≡ three_at source.now at }
-    ensures fact_2 { result < 16777216 }
+    ensures value { result ≡ three_at source.now at }
+    ensures bound { result < 16777216 }
 {
     source[at] as u64 + 256 * (source[at + 1] as u64) + 65536 * (source[at + 2] as u64)
 }
@@ -204,8 +204,8 @@ fn advance(source: &[u8], label: Label, path: PathBits) -> PathBits
 
 // Whether two labels are spelled alike.
 fn same_spelling(source: &[u8], a: Label, b: Label) -> bool
-    requires fact_1 { InText source.now a }
-    requires fact_2 { InText source.now b }
+    requires a_in_text { InText source.now a }
+    requires b_in_text { InText source.now b }
     ensures { result ≡ same (spelled source.now a) (spelled source.now b) }
 {
     let a_start = a.start;
@@ -217,8 +217,8 @@ fn same_spelling(source: &[u8], a: Label, b: Label) -> bool
 
 // Whether an entry is of a label's spelling, given what the label's own entry holds for its length.
 fn hits(source: &[u8], at: Label, key: usize, label: Label) -> bool
-    requires fact_1 { InText source.now (plain_of at) }
-    requires fact_2 { InText source.now label }
+    requires entry_in_text { InText source.now (plain_of at) }
+    requires label_in_text { InText source.now label }
     ensures { result ≡ hitsOf source.now at key (spelled source.now label) }
 {
     if at.length != key {
@@ -253,10 +253,10 @@ fn started(
 
 // The place of a hash among so many: 32 bits of it, in proportion.
 fn slot(hash: Digest, places: usize) -> usize
-    requires fact_1 { 0 < places }
-    requires fact_2 { places ≤ 65536 }
-    ensures fact_1 { result ≡ slot_of hash places }
-    ensures fact_2 { result < places }
+    requires some_place { 0 < places }
+    requires places_few { places ≤ 65536 }
+    ensures value { result ≡ slot_of hash places }
+    ensures at_most { result < places }
 {
     (hash.first % 4294967296) as usize * places / 4294967296
 }
@@ -269,8 +269,8 @@ pub(crate) fn begin(
     start: usize,
     length: usize,
 ) -> Search
-    requires fact_1 { Enterable source.now count (span start «length») }
-    requires fact_2 { Rootable roots.now }
+    requires enterable { Enterable source.now count (span start «length») }
+    requires rootable { Rootable roots.now }
     ensures { result ≡ begun source.now roots.now count (span start «length») }
 {
     let label = Label {
@@ -300,8 +300,8 @@ pub(crate) fn begin(
 
 // An empty bucket gets a root: the label that is entered after `count` others.
 pub(crate) fn set_root(roots: &mut [u32], bucket: usize, count: usize)
-    requires fact_1 { bucket < length roots.old }
-    requires fact_2 { count ≤ 1048576 }
+    requires bucket_in_roots { bucket < length roots.old }
+    requires count_fits { count ≤ 1048576 }
     ensures { roots.new ≡ with_root_at roots.old count bucket }
 {
     if roots[bucket] == 0 {

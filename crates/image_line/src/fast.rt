@@ -146,8 +146,8 @@ fn read_tail(source: &[u8], from: usize, form: u8) -> Tail
 // Whether the word from `at` to `end` is a label: a colon follows it at once, and it is no register's name, as no word is that is longer than
 // the longest of these.
 fn is_label(source: &[u8], at: usize, end: usize) -> bool
-    requires fact_1 { at < end }
-    requires fact_2 { end ≤ length source.now }
+    requires within_line { at < end }
+    requires end_in_text { end ≤ length source.now }
     ensures { result ≡ is_label present source.now at end }
 {
     if source.len() <= end {
@@ -207,8 +207,8 @@ pub(crate) fn read_fast(
     forms: &[u8; 50],
     slots: &[u8; 293],
 ) -> Fast
-    requires fact_1 { StartsAt source.now start }
-    requires fact_2 { Tables mnemonics.now forms.now slots.now }
+    requires starts { StartsAt source.now start }
+    requires tables { Tables mnemonics.now forms.now slots.now }
     ensures { FastIs present source.now start result }
 {
     match first_word(source, start) {

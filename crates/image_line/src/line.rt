@@ -39,8 +39,8 @@ pub fn read_line(
     forms: &[u8; 50],
     slots: &[u8; 293],
 ) -> Read
-    requires fact_1 { at ≤ length source.now }
-    requires fact_2 { Tables mnemonics.now forms.now slots.now }
+    requires in_text { at ≤ length source.now }
+    requires tables { Tables mnemonics.now forms.now slots.now }
     ensures { LineIs present source.now at (context_for config) result }
 {
     let start = text_lexical::bytes::run_end(source, at, Class::Margin);

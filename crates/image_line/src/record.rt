@@ -83,9 +83,9 @@ fn read_instruction(
     forms: &[u8; 50],
     slots: &[u8; 293],
 ) -> Effect
-    requires fact_1 { Recorded source.now line }
-    requires fact_2 { at ≤ 2 }
-    requires fact_3 { Tables mnemonics.now forms.now slots.now }
+    requires recorded { Recorded source.now line }
+    requires place_in_range { at ≤ 2 }
+    requires tables { Tables mnemonics.now forms.now slots.now }
     ensures { EffectIs result (coding (read_instruction (behind at (record_meant source.now line)))) }
 {
     match instruction_operands::assembler::parse_instruction(
@@ -115,9 +115,9 @@ fn after_label(
     forms: &[u8; 50],
     slots: &[u8; 293],
 ) -> Effect
-    requires fact_1 { Recorded source.now line }
-    requires fact_2 { 2 ≤ line.count }
-    requires fact_3 { Tables mnemonics.now forms.now slots.now }
+    requires recorded { Recorded source.now line }
+    requires two_tokens { 2 ≤ line.count }
+    requires tables { Tables mnemonics.now forms.now slots.now }
     ensures { EffectIs result (after_label (behind 2 (record_meant source.now line))) }
 {
     if line.count == 2 {
@@ -134,8 +134,8 @@ fn read_label(
     forms: &[u8; 50],
     slots: &[u8; 293],
 ) -> Read
-    requires fact_1 { Labelled source.now line }
-    requires fact_2 { Tables mnemonics.now forms.now slots.now }
+    requires labelled { Labelled source.now line }
+    requires tables { Tables mnemonics.now forms.now slots.now }
     ensures { (c : Context) → RecordIs source.now line (get_or line.tokens 0 filler).start c result }
 {
     let tokens = line.tokens;
@@ -158,8 +158,8 @@ pub(crate) fn read_record(
     forms: &[u8; 50],
     slots: &[u8; 293],
 ) -> Read
-    requires fact_1 { StartsAt source.now start }
-    requires fact_2 { Tables mnemonics.now forms.now slots.now }
+    requires starts { StartsAt source.now start }
+    requires tables { Tables mnemonics.now forms.now slots.now }
     ensures { LineIs present source.now start (context_for config) result }
 {
     let line = text::parser::tokenize(source, start);

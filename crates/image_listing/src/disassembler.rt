@@ -62,11 +62,11 @@ fn is_usual(header: ProgramHeader) -> bool
 
 // The length of a word's line: 30, 31.
 fn word_length(word: u32, mnemonics: &[u64; 50], opcodes: &[u8; 50], forms: &[u8; 50]) -> WordLength
-    requires fact_1 { mnemonics.now ≡ mnemonic_keys }
-    requires fact_2 { opcodes.now ≡ opcode_numbers }
-    requires fact_3 { forms.now ≡ form_numbers }
-    ensures fact_1 { length_meant result ≡ line_length (instruction_of word) }
-    ensures fact_2 { ((n : ℕ) → result ≡ WordLength.Is n → n ≤ 40) }
+    requires mnemonics_are { mnemonics.now ≡ mnemonic_keys }
+    requires opcodes_are { opcodes.now ≡ opcode_numbers }
+    requires forms_are { forms.now ≡ form_numbers }
+    ensures value { length_meant result ≡ line_length (instruction_of word) }
+    ensures bound { ((n : ℕ) → result ≡ WordLength.Is n → n ≤ 40) }
 {
     match instruction_codec::encoder::decode(word, opcodes, forms) {
         Decoded::Refused(n) => WordLength::Refused(n),
@@ -83,10 +83,10 @@ fn words_length(
     opcodes: &[u8; 50],
     forms: &[u8; 50],
 ) -> Measured
-    requires fact_1 { WholeWords coded.now }
-    requires fact_2 { mnemonics.now ≡ mnemonic_keys }
-    requires fact_3 { opcodes.now ≡ opcode_numbers }
-    requires fact_4 { forms.now ≡ form_numbers }
+    requires whole_words { WholeWords coded.now }
+    requires mnemonics_are { mnemonics.now ≡ mnemonic_keys }
+    requires opcodes_are { opcodes.now ≡ opcode_numbers }
+    requires forms_are { forms.now ≡ form_numbers }
     ensures { Measures (words_of (drop 32 coded.now)) result }
 {
     let mut length = 0;
@@ -120,8 +120,8 @@ fn setting_length(key: usize, value: u8) -> usize
 }
 
 fn settings_length(config: Config) -> usize
-    ensures fact_1 { result ≡ length (settings_text (settings_meant config)) }
-    ensures fact_2 { result ≤ 120 }
+    ensures value { result ≡ length (settings_text (settings_meant config)) }
+    ensures bound { result ≤ 120 }
 {
     let limb_bits = config.limb_bits;
     let data_limbs = config.data_limbs;
@@ -161,10 +161,10 @@ fn write_word(
     opcodes: &[u8; 50],
     forms: &[u8; 50],
 ) -> usize
-    requires fact_1 { at + length (word_text word) ≤ length text.old }
-    requires fact_2 { mnemonics.now ≡ mnemonic_keys }
-    requires fact_3 { opcodes.now ≡ opcode_numbers }
-    requires fact_4 { forms.now ≡ form_numbers }
+    requires room { at + length (word_text word) ≤ length text.old }
+    requires mnemonics_are { mnemonics.now ≡ mnemonic_keys }
+    requires opcodes_are { opcodes.now ≡ opcode_numbers }
+    requires forms_are { forms.now ≡ form_numbers }
     ensures { Written text.old at (word_text word) result text.new }
 {
     match instruction_codec::encoder::decode(word, opcodes, forms) {
@@ -191,11 +191,11 @@ fn write_words(
     opcodes: &[u8; 50],
     forms: &[u8; 50],
 ) -> usize
-    requires fact_1 { WholeWords coded.now }
-    requires fact_2 { from + length (flat_map word_text (words_of (drop 32 coded.now))) ≤ length text.old }
-    requires fact_3 { mnemonics.now ≡ mnemonic_keys }
-    requires fact_4 { opcodes.now ≡ opcode_numbers }
-    requires fact_5 { forms.now ≡ form_numbers }
+    requires whole_words { WholeWords coded.now }
+    requires room { from + length (flat_map word_text (words_of (drop 32 coded.now))) ≤ length text.old }
+    requires mnemonics_are { mnemonics.now ≡ mnemonic_keys }
+    requires opcodes_are { opcodes.now ≡ opcode_numbers }
+    requires forms_are { forms.now ≡ form_numbers }
     ensures { Written text.old from (flat_map word_text (words_of (drop 32 coded.now))) result text.new }
 {
     let mut place = from;

@@ -198,8 +198,8 @@ fn at_label(
 
 // What follows a line, by what it comes to, in a source of so many bytes: its refusal, the end, or the next line.
 fn after_line(size: usize, line: usize, labels: usize, rest: Rest) -> Next
-    requires fact_1 { size ≤ most_bytes }
-    requires fact_2 { line ≤ size + 1 }
+    requires size_fits { size ≤ most_bytes }
+    requires line_fits { line ≤ size + 1 }
     ensures { result ≡ line_after size line labels rest }
 {
     match rest {
@@ -227,8 +227,8 @@ fn scan(
     forms: &[u8; 50],
     slots: &[u8; 293],
 ) -> Pass
-    requires fact_1 { Scannable source.now from }
-    requires fact_2 { Tables mnemonics.now forms.now slots.now }
+    requires scannable { Scannable source.now from }
+    requires tables { Tables mnemonics.now forms.now slots.now }
     ensures { ReadsOn present source.now (From from) result }
 {
     let mut cursor = from;
@@ -263,8 +263,8 @@ pub fn read_on(
     forms: &[u8; 50],
     slots: &[u8; 293],
 ) -> Pass
-    requires fact_1 { ScannableNext source.now next }
-    requires fact_2 { Tables mnemonics.now forms.now slots.now }
+    requires scannable { ScannableNext source.now next }
+    requires tables { Tables mnemonics.now forms.now slots.now }
     ensures { ReadsOn present source.now next result }
 {
     match next {

@@ -39,8 +39,8 @@ struct CodedLine {
 
 // The word of an instruction by its row and operands.
 fn word_of(row: usize, operands: Operands, opcodes: &[u8; 50]) -> u32
-    requires fact_1 { row < 50 }
-    requires fact_2 { opcodes.now ≡ opcode_numbers }
+    requires row_in_table { row < 50 }
+    requires opcodes_are { opcodes.now ≡ opcode_numbers }
     ensures { result ≡ word_of (parts_meant (record { row = row; operands = operands })) }
 {
     let instruction = Instruction::from_parts(row, operands);
@@ -57,9 +57,9 @@ fn code_line(
     forms: &[u8; 50],
     slots: &[u8; 293],
 ) -> CodedLine
-    requires fact_1 { at ≤ length source.now }
-    requires fact_2 { Tables mnemonics.now forms.now slots.now }
-    requires fact_3 { opcodes.now ≡ opcode_numbers }
+    requires in_text { at ≤ length source.now }
+    requires tables { Tables mnemonics.now forms.now slots.now }
+    requires opcodes_are { opcodes.now ≡ opcode_numbers }
     ensures { CodesLine present source.now at (settings_meant config) result }
 {
     let read = image_line::line::read_line(source, at, config, mnemonics, forms, slots);
@@ -104,10 +104,10 @@ fn second_pass(
     forms: &[u8; 50],
     slots: &[u8; 293],
 ) -> usize
-    requires fact_1 { Readable present source.now }
-    requires fact_2 { 32 + length (code_bytes present source.now) ≤ length image.old }
-    requires fact_3 { Tables mnemonics.now forms.now slots.now }
-    requires fact_4 { opcodes.now ≡ opcode_numbers }
+    requires readable { Readable present source.now }
+    requires room { 32 + length (code_bytes present source.now) ≤ length image.old }
+    requires tables { Tables mnemonics.now forms.now slots.now }
+    requires opcodes_are { opcodes.now ≡ opcode_numbers }
     ensures { Written image.old 32 (code_bytes present source.now) result image.new }
 {
     let mut place = HEADER_SIZE;
@@ -136,8 +136,8 @@ pub fn write_image(
     forms: &[u8; 50],
     slots: &[u8; 293],
 ) -> Fill
-    requires fact_1 { Ready present source.now words (settings_meant config) }
-    requires fact_2 { Tables mnemonics.now forms.now slots.now }
+    requires ready { Ready present source.now words (settings_meant config) }
+    requires tables { Tables mnemonics.now forms.now slots.now }
     ensures { Fills present source.now words image.old image.new result }
 {
     let needed = HEADER_SIZE + 4 * words;

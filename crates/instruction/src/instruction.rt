@@ -297,8 +297,8 @@ impl Instruction {
     // The instruction of a row of the table with operands. Rows are named as in the table; the last of them is Ebreak's.
     pub fn from_parts(row: usize, operands: Operands) -> Instruction
         requires { row < 50 }
-        ensures fact_1 { parts_of result ≡ record { mnemonic = (row_at row).mnemonic; operands = keep (row_at row).form operands } }
-        ensures fact_2 { instruction_meant result ≡ parts_meant (record { row = row; operands = operands }) }
+        ensures value { parts_of result ≡ record { mnemonic = (row_at row).mnemonic; operands = keep (row_at row).form operands } }
+        ensures means { instruction_meant result ≡ parts_meant (record { row = row; operands = operands }) }
     {
         let first = operands.first;
         let second = operands.second;

@@ -362,8 +362,8 @@ pub enum Row {
 
 // The row whose mnemonic has a key.
 pub fn find_mnemonic(key: u64, mnemonics: &[u64; 50], slots: &[u8; 293]) -> Row
-    requires fact_1 { mnemonics.now ≡ mnemonic_keys }
-    requires fact_2 { slots.now ≡ slot_rows }
+    requires mnemonics_are { mnemonics.now ≡ mnemonic_keys }
+    requires slots_are { slots.now ≡ slot_rows }
     ensures { IsRow result (find (λ q. eqb (key_of q.mnemonic) key) table) }
 {
     let slot = (key % PLACES) as usize;
@@ -379,8 +379,8 @@ pub fn find_mnemonic(key: u64, mnemonics: &[u64; 50], slots: &[u8; 293]) -> Row
 // How many numbers below an opcode are no opcodes: the same for all opcodes among eight numbers. From 88 on there are no opcodes, and any
 // answer will do.
 fn unused_below(opcode: u32) -> u32
-    ensures fact_1 { result ≡ unused_below opcode }
-    ensures fact_2 { result ≤ opcode }
+    ensures value { result ≡ unused_below opcode }
+    ensures at_most { result ≤ opcode }
 {
     match opcode / 8 {
         0 => 0,

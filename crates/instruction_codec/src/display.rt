@@ -15,8 +15,8 @@ use text_lexical::register::Register;
 
 // A whole number takes its digits and, below 0, a sign; -0 is 0.
 fn number_length(number: Whole) -> usize
-    ensures fact_1 { result ≡ length (signed_decimal (whole_meant number)) }
-    ensures fact_2 { result ≤ 21 }
+    ensures value { result ≡ length (signed_decimal (whole_meant number)) }
+    ensures bound { result ≤ 21 }
 {
     let magnitude = number.magnitude;
     let digits = text_writer::writer::decimal_length(magnitude);
@@ -43,8 +43,8 @@ fn write_number(out: &mut [u8], at: usize, number: Whole) -> usize
 }
 
 fn register_length(register: Register) -> usize
-    ensures fact_1 { result ≡ length (register_text (index_of register)) }
-    ensures fact_2 { result ≤ 3 }
+    ensures value { result ≡ length (register_text (index_of register)) }
+    ensures bound { result ≤ 3 }
 {
     let index = register.index();
     1 + text_writer::writer::decimal_length(index as u64)
@@ -93,10 +93,10 @@ fn write_base(out: &mut [u8], at: usize, register: Register) -> usize
 
 // How long the mnemonic of a row is, by its key.
 pub fn mnemonic_length(row: usize, mnemonics: &[u64; 50]) -> usize
-    requires fact_1 { row < 50 }
-    requires fact_2 { mnemonics.now ≡ mnemonic_keys }
-    ensures fact_1 { result ≡ length (row_at row).mnemonic }
-    ensures fact_2 { result ≤ 7 }
+    requires row_in_table { row < 50 }
+    requires mnemonics_are { mnemonics.now ≡ mnemonic_keys }
+    ensures value { result ≡ length (row_at row).mnemonic }
+    ensures bound { result ≤ 7 }
 {
     let mut rest = mnemonics[row];
     let mut length: usize = 0;
@@ -109,9 +109,9 @@ pub fn mnemonic_length(row: usize, mnemonics: &[u64; 50]) -> usize
 
 // Writes the mnemonic of a row, the letters as they are taken off its key.
 pub fn write_mnemonic(out: &mut [u8], at: usize, row: usize, mnemonics: &[u64; 50]) -> usize
-    requires fact_1 { row < 50 }
-    requires fact_2 { mnemonics.now ≡ mnemonic_keys }
-    requires fact_3 { at + length (row_at row).mnemonic ≤ length out.old }
+    requires row_in_table { row < 50 }
+    requires mnemonics_are { mnemonics.now ≡ mnemonic_keys }
+    requires room { at + length (row_at row).mnemonic ≤ length out.old }
     ensures { Written out.old at (row_at row).mnemonic result out.new }
 {
     let mut rest = mnemonics[row];
@@ -132,9 +132,9 @@ fn write_start(
     mnemonics: &[u64; 50],
     first: Register,
 ) -> usize
-    requires fact_1 { row < 50 }
-    requires fact_2 { mnemonics.now ≡ mnemonic_keys }
-    requires fact_3 { at + length (start_text row first) ≤ length out.old }
+    requires row_in_table { row < 50 }
+    requires mnemonics_are { mnemonics.now ≡ mnemonic_keys }
+    requires room { at + length (start_text row first) ≤ length out.old }
     ensures { Written out.old at (start_text row first) result out.new }
 {
     let place = write_mnemonic(out, at, row, mnemonics);
@@ -150,9 +150,9 @@ fn write_two(
     first: Register,
     second: Register,
 ) -> usize
-    requires fact_1 { row < 50 }
-    requires fact_2 { mnemonics.now ≡ mnemonic_keys }
-    requires fact_3 { at + length (two_text row first second) ≤ length out.old }
+    requires row_in_table { row < 50 }
+    requires mnemonics_are { mnemonics.now ≡ mnemonic_keys }
+    requires room { at + length (two_text row first second) ≤ length out.old }
     ensures { Written out.old at (two_text row first second) result out.new }
 {
     let place = write_start(out, at, row, mnemonics, first);
@@ -176,10 +176,10 @@ pub fn r_type_length(
     rs1: Register,
     rs2: Register,
 ) -> usize
-    requires fact_1 { row < 50 }
-    requires fact_2 { mnemonics.now ≡ mnemonic_keys }
-    ensures fact_1 { result ≡ length (form_text R row (index_of rd ∷ index_of rs1 ∷ index_of rs2 ∷ []) none) }
-    ensures fact_2 { result ≤ 39 }
+    requires row_in_table { row < 50 }
+    requires mnemonics_are { mnemonics.now ≡ mnemonic_keys }
+    ensures value { result ≡ length (form_text R row (index_of rd ∷ index_of rs1 ∷ index_of rs2 ∷ []) none) }
+    ensures bound { result ≤ 39 }
 {
     let operands = 5 + register_length(rd) + register_length(rs1) + register_length(rs2);
     mnemonic_length(row, mnemonics) + operands
@@ -195,9 +195,9 @@ pub fn write_r_type(
     rs1: Register,
     rs2: Register,
 ) -> usize
-    requires fact_1 { row < 50 }
-    requires fact_2 { mnemonics.now ≡ mnemonic_keys }
-    requires fact_3 { at + length (form_text R row (index_of rd ∷ index_of rs1 ∷ index_of rs2 ∷ []) none) ≤ length out.old }
+    requires row_in_table { row < 50 }
+    requires mnemonics_are { mnemonics.now ≡ mnemonic_keys }
+    requires room { at + length (form_text R row (index_of rd ∷ index_of rs1 ∷ index_of rs2 ∷ []) none) ≤ length out.old }
     ensures { Written out.old at (form_text R row (index_of rd ∷ index_of rs1 ∷ index_of rs2 ∷ []) none) result out.new }
 {
     let place = write_two(out, at, row, mnemonics, rd, rs1);
@@ -212,10 +212,10 @@ pub fn i_type_length(
     second: Register,
     number: Whole,
 ) -> usize
-    requires fact_1 { row < 50 }
-    requires fact_2 { mnemonics.now ≡ mnemonic_keys }
-    ensures fact_1 { result ≡ length (form_text I row (index_of first ∷ index_of second ∷ []) (some (whole_meant number))) }
-    ensures fact_2 { result ≤ 39 }
+    requires row_in_table { row < 50 }
+    requires mnemonics_are { mnemonics.now ≡ mnemonic_keys }
+    ensures value { result ≡ length (form_text I row (index_of first ∷ index_of second ∷ []) (some (whole_meant number))) }
+    ensures bound { result ≤ 39 }
 {
     let operands = 5 + register_length(first) + register_length(second) + number_length(number);
     mnemonic_length(row, mnemonics) + operands
@@ -231,9 +231,9 @@ pub fn write_i_type(
     second: Register,
     number: Whole,
 ) -> usize
-    requires fact_1 { row < 50 }
-    requires fact_2 { mnemonics.now ≡ mnemonic_keys }
-    requires fact_3 { at + length (form_text I row (index_of first ∷ index_of second ∷ []) (some (whole_meant number))) ≤ length out.old }
+    requires row_in_table { row < 50 }
+    requires mnemonics_are { mnemonics.now ≡ mnemonic_keys }
+    requires room { at + length (form_text I row (index_of first ∷ index_of second ∷ []) (some (whole_meant number))) ≤ length out.old }
     ensures { Written out.old at (form_text I row (index_of first ∷ index_of second ∷ []) (some (whole_meant number))) result out.new }
 {
     let place = write_two(out, at, row, mnemonics, first, second);
@@ -250,9 +250,9 @@ pub fn write_memory(
     base: Register,
     number: Whole,
 ) -> usize
-    requires fact_1 { row < 50 }
-    requires fact_2 { mnemonics.now ≡ mnemonic_keys }
-    requires fact_3 { at + length (form_text Load row (index_of register ∷ index_of base ∷ []) (some (whole_meant number))) ≤ length out.old }
+    requires row_in_table { row < 50 }
+    requires mnemonics_are { mnemonics.now ≡ mnemonic_keys }
+    requires room { at + length (form_text Load row (index_of register ∷ index_of base ∷ []) (some (whole_meant number))) ≤ length out.old }
     ensures { Written out.old at (form_text Load row (index_of register ∷ index_of base ∷ []) (some (whole_meant number))) result out.new }
 {
     let place = write_start(out, at, row, mnemonics, register);
@@ -261,10 +261,10 @@ pub fn write_memory(
 
 // How long the text of a mnemonic and `rd, n` is.
 pub fn j_type_length(row: usize, mnemonics: &[u64; 50], rd: Register, offset: Whole) -> usize
-    requires fact_1 { row < 50 }
-    requires fact_2 { mnemonics.now ≡ mnemonic_keys }
-    ensures fact_1 { result ≡ length (form_text Jump row (index_of rd ∷ []) (some (whole_meant offset))) }
-    ensures fact_2 { result ≤ 39 }
+    requires row_in_table { row < 50 }
+    requires mnemonics_are { mnemonics.now ≡ mnemonic_keys }
+    ensures value { result ≡ length (form_text Jump row (index_of rd ∷ []) (some (whole_meant offset))) }
+    ensures bound { result ≤ 39 }
 {
     let operands = 3 + register_length(rd) + number_length(offset);
     mnemonic_length(row, mnemonics) + operands
@@ -279,9 +279,9 @@ pub fn write_j_type(
     rd: Register,
     offset: Whole,
 ) -> usize
-    requires fact_1 { row < 50 }
-    requires fact_2 { mnemonics.now ≡ mnemonic_keys }
-    requires fact_3 { at + length (form_text Jump row (index_of rd ∷ []) (some (whole_meant offset))) ≤ length out.old }
+    requires row_in_table { row < 50 }
+    requires mnemonics_are { mnemonics.now ≡ mnemonic_keys }
+    requires room { at + length (form_text Jump row (index_of rd ∷ []) (some (whole_meant offset))) ≤ length out.old }
     ensures { Written out.old at (form_text Jump row (index_of rd ∷ []) (some (whole_meant offset))) result out.new }
 {
     let place = write_start(out, at, row, mnemonics, rd);

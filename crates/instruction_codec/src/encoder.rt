@@ -19,26 +19,26 @@ use text_lexical::register::Register;
 // The low bits of a number, as many as `most` has ones.
 fn reduced(number: Whole, most: u64) -> u32
     requires { Power (suc most) }
-    ensures fact_1 { Reduced (suc most) (whole_meant number) result }
-    ensures fact_2 { result ≤ most }
+    ensures reduced { Reduced (suc most) (whole_meant number) result }
+    ensures at_most { result ≤ most }
 {
     number.residue(most) as u32
 }
 
 // A register's number, with room above it.
 fn number_of(register: Register) -> u32
-    ensures fact_1 { result ≡ index_of register }
-    ensures fact_2 { result < 16 }
+    ensures value { result ≡ index_of register }
+    ensures bound { result < 16 }
 {
     instruction::opcode::wide(register.index())
 }
 
 // The opcode of a row, with room above it.
 fn opcode_of(row: usize, opcodes: &[u8; 50]) -> u32
-    requires fact_1 { row < 50 }
-    requires fact_2 { opcodes.now ≡ opcode_numbers }
-    ensures fact_1 { result ≡ (row_at row).opcode }
-    ensures fact_2 { result < 0x80 }
+    requires row_in_table { row < 50 }
+    requires opcodes_are { opcodes.now ≡ opcode_numbers }
+    ensures value { result ≡ (row_at row).opcode }
+    ensures bound { result < 0x80 }
 {
     instruction::opcode::wide(opcodes[row])
 }
@@ -59,8 +59,8 @@ pub fn encode_r_type(
     rs1: Register,
     rs2: Register,
 ) -> u32
-    requires fact_1 { row < 50 }
-    requires fact_2 { opcodes.now ≡ opcode_numbers }
+    requires row_in_table { row < 50 }
+    requires opcodes_are { opcodes.now ≡ opcode_numbers }
     ensures { result ≡ form_word R row (index_of rd ∷ index_of rs1 ∷ index_of rs2 ∷ []) none }
 {
     opcode_of(row, opcodes) + spread(rd, rs1, number_of(rs2))
@@ -68,8 +68,8 @@ pub fn encode_r_type(
 
 // The word of `rd, rs1, n`. A load's `rd, n(rs1)` and a branch's `rs1, rs2, n` have the same.
 pub fn encode_i_type(row: usize, opcodes: &[u8; 50], rd: Register, rs1: Register, imm: Whole) -> u32
-    requires fact_1 { row < 50 }
-    requires fact_2 { opcodes.now ≡ opcode_numbers }
+    requires row_in_table { row < 50 }
+    requires opcodes_are { opcodes.now ≡ opcode_numbers }
     ensures { result ≡ form_word I row (index_of rd ∷ index_of rs1 ∷ []) (some (whole_meant imm)) }
 {
     opcode_of(row, opcodes) + spread(rd, rs1, reduced(imm, IMMEDIATE))
@@ -83,8 +83,8 @@ pub fn encode_shift(
     rs1: Register,
     shamt: Whole,
 ) -> u32
-    requires fact_1 { row < 50 }
-    requires fact_2 { opcodes.now ≡ opcode_numbers }
+    requires row_in_table { row < 50 }
+    requires opcodes_are { opcodes.now ≡ opcode_numbers }
     ensures { result ≡ form_word Shift row (index_of rd ∷ index_of rs1 ∷ []) (some (whole_meant shamt)) }
 {
     opcode_of(row, opcodes) + spread(rd, rs1, reduced(shamt, AMOUNT))
@@ -98,8 +98,8 @@ pub fn encode_s_type(
     rs2: Register,
     imm: Whole,
 ) -> u32
-    requires fact_1 { row < 50 }
-    requires fact_2 { opcodes.now ≡ opcode_numbers }
+    requires row_in_table { row < 50 }
+    requires opcodes_are { opcodes.now ≡ opcode_numbers }
     ensures { result ≡ form_word Store row (index_of rs2 ∷ index_of rs1 ∷ []) (some (whole_meant imm)) }
 {
     opcode_of(row, opcodes) + spread(rs1, rs2, reduced(imm, IMMEDIATE))
@@ -107,8 +107,8 @@ pub fn encode_s_type(
 
 // The word of `rd, n`.
 pub fn encode_j_type(row: usize, opcodes: &[u8; 50], rd: Register, offset: Whole) -> u32
-    requires fact_1 { row < 50 }
-    requires fact_2 { opcodes.now ≡ opcode_numbers }
+    requires row_in_table { row < 50 }
+    requires opcodes_are { opcodes.now ≡ opcode_numbers }
     ensures { result ≡ form_word Jump row (index_of rd ∷ []) (some (whole_meant offset)) }
 {
     opcode_of(row, opcodes) + number_of(rd) * LOW + reduced(offset, OFFSET) * HIGH
@@ -116,8 +116,8 @@ pub fn encode_j_type(row: usize, opcodes: &[u8; 50], rd: Register, offset: Whole
 
 // The word of an instruction without operands.
 pub fn encode_system(row: usize, opcodes: &[u8; 50]) -> u32
-    requires fact_1 { row < 50 }
-    requires fact_2 { opcodes.now ≡ opcode_numbers }
+    requires row_in_table { row < 50 }
+    requires opcodes_are { opcodes.now ≡ opcode_numbers }
     ensures { result ≡ form_word System row [] none }
 {
     opcode_of(row, opcodes)
@@ -150,10 +150,10 @@ fn register_at(word: u32, unit: u32) -> Register
 
 // The number that the bits of a field mean, from -`half` to `half` - 1.
 fn signed(field: u32, half: u32) -> Whole
-    requires fact_1 { field < half + half }
-    requires fact_2 { half ≤ 0x100000 }
-    ensures fact_1 { Signed (half + half) field (whole_meant result) }
-    ensures fact_2 { result ≡ whole_for (whole_meant result) }
+    requires field_fits { field < half + half }
+    requires half_fits { half ≤ 0x100000 }
+    ensures signed { Signed (half + half) field (whole_meant result) }
+    ensures sign { result ≡ whole_for (whole_meant result) }
 {
     if field < half {
         Whole {
@@ -169,8 +169,8 @@ fn signed(field: u32, half: u32) -> Whole
 }
 
 fn number_at(form: u8, word: u32) -> Whole
-    ensures fact_1 { number_for (places (form_at form)) (whole_meant result) ≡ number_in word (places (form_at form)) }
-    ensures fact_2 { result ≡ whole_for (whole_meant result) }
+    ensures value { number_for (places (form_at form)) (whole_meant result) ≡ number_in word (places (form_at form)) }
+    ensures sign { result ≡ whole_for (whole_meant result) }
 {
     match form {
         SHIFT => Whole {
@@ -184,8 +184,8 @@ fn number_at(form: u8, word: u32) -> Whole
 
 // The operands that a word holds.
 fn operands_of(form: u8, word: u32) -> Operands
-    ensures fact_1 { operands_meant (places (form_at form)) result ≡ record { registers = registers_in word (places (form_at form)); number = number_in word (places (form_at form)) } }
-    ensures fact_2 { result.number ≡ whole_for (whole_meant result.number) }
+    ensures value { operands_meant (places (form_at form)) result ≡ record { registers = registers_in word (places (form_at form)); number = number_in word (places (form_at form)) } }
+    ensures sign { result.number ≡ whole_for (whole_meant result.number) }
 {
     let low = register_at(word, LOW);
     let high = register_at(word, HIGH);
@@ -209,8 +209,8 @@ fn operands_of(form: u8, word: u32) -> Operands
 
 // The instruction of a word, or 30, or 31.
 pub fn decode(word: u32, opcodes: &[u8; 50], forms: &[u8; 50]) -> Decoded
-    requires fact_1 { opcodes.now ≡ opcode_numbers }
-    requires fact_2 { forms.now ≡ form_numbers }
+    requires opcodes_are { opcodes.now ≡ opcode_numbers }
+    requires forms_are { forms.now ≡ form_numbers }
     ensures { DecodesTo word result }
 {
     let Row::At(row) = instruction::opcode::find_opcode(word % LOW, opcodes) else {

@@ -14,8 +14,8 @@ use instruction_codec::display::{
 // How many bytes an instruction's text has. Each case is measured by its form, with the mnemonic that the table has in its row.
 pub fn instruction_length(instruction: Instruction, mnemonics: &[u64; 50]) -> usize
     requires { mnemonics.now ≡ mnemonic_keys }
-    ensures fact_1 { result ≡ length (instruction_text (instruction_meant instruction)) }
-    ensures fact_2 { result ≤ 39 }
+    ensures value { result ≡ length (instruction_text (instruction_meant instruction)) }
+    ensures bound { result ≤ 39 }
 {
     match instruction {
         // arithmetic
@@ -88,8 +88,8 @@ pub fn write_instruction(
     instruction: Instruction,
     mnemonics: &[u64; 50],
 ) -> usize
-    requires fact_1 { mnemonics.now ≡ mnemonic_keys }
-    requires fact_2 { at + length (instruction_text (instruction_meant instruction)) ≤ length out.old }
+    requires mnemonics_are { mnemonics.now ≡ mnemonic_keys }
+    requires room { at + length (instruction_text (instruction_meant instruction)) ≤ length out.old }
     ensures { Written out.old at (instruction_text (instruction_meant instruction)) result out.new }
 {
     match instruction {

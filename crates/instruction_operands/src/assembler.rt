@@ -79,8 +79,8 @@ fn read_operand(kind: Kind, numeric: bool) -> OperandToken
 
 // The place after the mark that follows an operand, if one does: 19, 20, 21.
 fn after_mark(tokens: [Token; KEPT], at: usize, mark: Mark) -> Passed
-    requires fact_1 { length tokens ≡ kept }
-    requires fact_2 { Within at mark }
+    requires tokens_kept { length tokens ≡ kept }
+    requires mark_within { Within at mark }
     ensures { MarkIs tokens at mark result }
 {
     match mark {
@@ -114,8 +114,8 @@ fn operand_count(form: u8) -> usize
 
 // The operands of a form, from the tokens after the one at `at`: from left to right, as the form describes them.
 fn parse_operands(form: u8, tokens: [Token; KEPT], at: usize) -> Operand
-    requires fact_1 { length tokens ≡ kept }
-    requires fact_2 { at ≤ 2 }
+    requires tokens_kept { length tokens ≡ kept }
+    requires place_in_range { at ≤ 2 }
     ensures { Reads (places (form_at form)) tokens at result }
 {
     let mut registers = [Register::R0; 3];
@@ -150,11 +150,11 @@ fn parse_operands(form: u8, tokens: [Token; KEPT], at: usize) -> Operand
 
 // The instruction of a row, by the operand tokens after the mnemonic at `at`: 16, then the operands.
 fn parse_row(row: usize, form: u8, line: Line, at: usize) -> Parsed
-    requires fact_1 { row < 50 }
-    requires fact_2 { form ≡ form_number (row_at row).form }
-    requires fact_3 { at < line.count }
-    requires fact_4 { at ≤ 2 }
-    requires fact_5 { length line.tokens ≡ kept }
+    requires row_in_table { row < 50 }
+    requires form_is { form ≡ form_number (row_at row).form }
+    requires token_there { at < line.count }
+    requires place_in_range { at ≤ 2 }
+    requires tokens_kept { length line.tokens ≡ kept }
     ensures { RowIs row line at result }
 {
     let count = line.count;
@@ -178,11 +178,11 @@ pub fn parse_instruction(
     forms: &[u8; 50],
     slots: &[u8; 293],
 ) -> Parsed
-    requires fact_1 { Kept source.now line }
-    requires fact_2 { at ≤ 2 }
-    requires fact_3 { mnemonics.now ≡ mnemonic_keys }
-    requires fact_4 { forms.now ≡ form_numbers }
-    requires fact_5 { slots.now ≡ slot_rows }
+    requires kept_line { Kept source.now line }
+    requires place_in_range { at ≤ 2 }
+    requires mnemonics_are { mnemonics.now ≡ mnemonic_keys }
+    requires forms_are { forms.now ≡ form_numbers }
+    requires slots_are { slots.now ≡ slot_rows }
     ensures { ParsedIs source.now line at result }
 {
     let tokens = line.tokens;

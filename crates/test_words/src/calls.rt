@@ -22,8 +22,8 @@ pub(crate) enum Line {
 
 // The instruction of the line that begins at `from`, its mnemonic the token at `place`.
 pub(crate) fn read(text: &[u8], from: usize, place: usize) -> Line
-    requires fact_1 { from ≤ length text.now }
-    requires fact_2 { place ≤ 2 }
+    requires in_text { from ≤ length text.now }
+    requires place_in_range { place ≤ 2 }
 {
     let start = text_lexical::bytes::run_end(text, from, Class::Margin);
     let line = text::parser::tokenize(text, start);

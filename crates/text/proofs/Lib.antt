@@ -8,4 +8,3 @@ pub mod Fronts
 pub mod Stepping
 pub mod Recording
 pub mod NameSets
-pub mod Within

@@ -11,7 +11,7 @@ use text_lexical::register::Register;
 
 // A number's kinds keep its magnitude, and `Negative` is one that is spelled with `-`, -0 too. The spelling of a name is the token's part of
 // the text.
-#[derive(Drop)]
+#[derive(Clone, Copy)]
 pub enum Kind {
     Identifier,
     Register(Register),
@@ -28,7 +28,7 @@ pub enum Kind {
     RParen,
 }
 
-#[derive(Drop)]
+#[derive(Clone, Copy)]
 pub struct Token {
     pub kind: Kind,
     pub start: usize,
@@ -36,7 +36,7 @@ pub struct Token {
 }
 
 // What stands at a place: a token and the place after it, no token, or nothing that is left to read, with the place where the line ends.
-#[derive(Drop)]
+#[derive(Clone, Copy)]
 pub enum Scan {
     Found { token: Token, next: usize },
     Bad,
@@ -44,7 +44,7 @@ pub enum Scan {
 }
 
 // Where reading a line ends: at the line's end, or at a comment; or something is left to read.
-#[derive(Drop)]
+#[derive(Clone, Copy)]
 pub enum Ending {
     Line(usize),
     Comment(usize),
@@ -67,8 +67,8 @@ fn found(kind: Kind, at: usize, end: usize) -> Scan
 
 // A word: a Register or an Identifier.
 fn word(text: &[u8], at: usize) -> Scan
-    requires fact_1 { at < length text.now }
-    requires fact_2 { name_start (get_or text.now at 0) ≡ true }
+    requires in_text { at < length text.now }
+    requires name_starts { name_start (get_or text.now at 0) ≡ true }
     ensures { result ≡ token_at present text.now at }
 {
     let end = text_lexical::bytes::run_end(text, at + 1, Class::NamePart);
@@ -104,8 +104,8 @@ fn decimal(text: &[u8], at: usize) -> Scan
 
 // `-` at `at`.
 fn minus(text: &[u8], at: usize) -> Scan
-    requires fact_1 { at < length text.now }
-    requires fact_2 { get_or text.now at 0 ≡ 45 }
+    requires in_text { at < length text.now }
+    requires minus_here { get_or text.now at 0 ≡ 45 }
     ensures { result ≡ token_at present text.now at }
 {
     let begin = at + 1;
@@ -158,8 +158,8 @@ fn prefixed(text: &[u8], at: usize, radix: Radix) -> Scan
 
 // A digit at `at`.
 fn digits(text: &[u8], at: usize) -> Scan
-    requires fact_1 { at < length text.now }
-    requires fact_2 { digit (get_or text.now at 0) ≡ true }
+    requires in_text { at < length text.now }
+    requires digit_here { digit (get_or text.now at 0) ≡ true }
     ensures { result ≡ token_at present text.now at }
 {
     let second = at + 1;
@@ -183,8 +183,8 @@ pub fn is_number_start(b: u8) -> bool
 
 // A number at `at`.
 pub fn number(text: &[u8], at: usize) -> Scan
-    requires fact_1 { at < length text.now }
-    requires fact_2 { number_start (get_or text.now at 0) ≡ true }
+    requires in_text { at < length text.now }
+    requires number_starts { number_start (get_or text.now at 0) ≡ true }
     ensures { result ≡ token_at present text.now at }
 {
     if text[at] == b'-' {
@@ -195,8 +195,8 @@ pub fn number(text: &[u8], at: usize) -> Scan
 
 // `.` at `at`.
 fn directive(text: &[u8], at: usize) -> Scan
-    requires fact_1 { at < length text.now }
-    requires fact_2 { get_or text.now at 0 ≡ 46 }
+    requires in_text { at < length text.now }
+    requires dot_here { get_or text.now at 0 ≡ 46 }
     ensures { result ≡ token_at present text.now at }
 {
     let second = at + 1;
@@ -228,9 +228,9 @@ pub fn ending_at(text: &[u8], at: usize) -> Ending
 
 // A byte that begins no token: reading the line ends here, or it is bad.
 fn end_or_bad(text: &[u8], at: usize) -> Scan
-    requires fact_1 { at < length text.now }
-    requires fact_2 { NoWord (get_or text.now at 0) }
-    requires fact_3 { mark (get_or text.now at 0) ≡ false }
+    requires in_text { at < length text.now }
+    requires no_word { NoWord (get_or text.now at 0) }
+    requires no_mark { mark (get_or text.now at 0) ≡ false }
     ensures { result ≡ scan_at present text.now at }
 {
     match ending_at(text, at) {
@@ -242,8 +242,8 @@ fn end_or_bad(text: &[u8], at: usize) -> Scan
 
 // A mark at `at`, or no token.
 fn mark_or_ending(text: &[u8], at: usize) -> Scan
-    requires fact_1 { at < length text.now }
-    requires fact_2 { NoWord (get_or text.now at 0) }
+    requires in_text { at < length text.now }
+    requires no_word { NoWord (get_or text.now at 0) }
     ensures { result ≡ scan_at present text.now at }
 {
     let end = at + 1;
@@ -271,8 +271,8 @@ pub fn is_mark(kind: Kind, byte: u8) -> bool
 
 // What stands at `at`.
 fn front(text: &[u8], at: usize) -> Scan
-    requires fact_1 { at < length text.now }
-    requires fact_2 { blank (get_or text.now at 0) ≡ false }
+    requires in_text { at < length text.now }
+    requires no_blank { blank (get_or text.now at 0) ≡ false }
     ensures { result ≡ scan_at present text.now at }
 {
     let b = text[at];

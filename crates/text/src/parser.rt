@@ -9,7 +9,7 @@ use crate::lexer::{Kind, Scan, Token};
 use text_lexical::number::Whole;
 
 // A number, or why there is none.
-#[derive(Drop)]
+#[derive(Clone, Copy)]
 pub enum Extracted {
     Number(Whole),
     Refused(u8),
@@ -37,7 +37,7 @@ pub fn extract_number(kind: Kind) -> Extracted
 pub const KEPT: usize = 9;
 
 // The record of a line: its first tokens, the count of all, and where the line ends; of a line with a bad token, only that.
-#[derive(Drop)]
+#[derive(Clone, Copy)]
 pub struct Line {
     pub tokens: [Token; KEPT],
     pub count: usize,

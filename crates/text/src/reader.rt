@@ -6,7 +6,7 @@ ghost use Rattle.text.specs.Promised.{scan_at, place_after, moved};
 
 use crate::lexer::Scan;
 
-#[derive(Drop)]
+#[derive(Clone, Copy)]
 struct Reader<'a> {
     // the whole text: where the line ends is found by reading, so no slice of the line is cut
     text: &'a [u8],

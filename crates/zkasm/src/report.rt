@@ -30,8 +30,8 @@ fn write_refusal(out: &mut [u8], number: u8, line: usize) -> usize
 
 // The text of an image that has one, and for which there is room.
 fn write_listing(image: &[u8], out: &mut [u8]) -> usize
-    requires fact_1 { listing image.now (length out.old) ≡ written (text_of image.now) }
-    requires fact_2 { length (text_of image.now) ≤ length out.old }
+    requires listed { listing image.now (length out.old) ≡ written (text_of image.now) }
+    requires text_room_in { length (text_of image.now) ≤ length out.old }
     ensures { Prints (text_of image.now) out.old out.new result }
 {
     match image_listing::disassembler::list(image, out) {
@@ -60,9 +60,9 @@ fn assemble(input: &[u8], image: &mut [u8]) -> Assembled
 
 // What is printed for an input that is not too long, by way of an image buffer.
 fn report_source(input: &[u8], image: &mut [u8], out: &mut [u8]) -> usize
-    requires fact_1 { length input.now ≤ most_input }
-    requires fact_2 { image_room ≤ length image.old }
-    requires fact_3 { text_room ≤ length out.old }
+    requires input_fits { length input.now ≤ most_input }
+    requires image_room_in { image_room ≤ length image.old }
+    requires text_room_in { text_room ≤ length out.old }
     ensures { Prints (program_output input.now) out.old out.new result }
 {
     match assemble(input, image) {

@@ -97,8 +97,8 @@ fn read_some(piece: &mut [u8]) -> Delivery
 // Reads once, as much as there is room for, and puts the piece after the bytes that came before. The call is lent a buffer of its
 // own, because nothing is known of the bytes that it leaves after the piece.
 fn read_piece(input: &mut [u8], filled: usize, piece: &mut [u8]) -> Delivery
-    requires fact_1 { filled < length input.old }
-    requires fact_2 { length piece.old ≡ length input.old }
+    requires room_left { filled < length input.old }
+    requires piece_as_long { length piece.old ≡ length input.old }
     ensures { ReadsPiece filled input.old piece.new input.new result }
 {
     let left = input.len() - filled;

@@ -31,10 +31,10 @@ others-none Colon b h = absurd (miss others 9 tt h)
 others-none LParen b h = absurd (miss others 10 tt h)
 others-none RParen b h = absurd (miss others 11 tt h)
 
-pub is-mark-spec : {M : Type 1} → statement M
-is-mark-spec = tie.close (tie.spec (λ c. search rules) (λ c. search rules) (λ c. search rules) (λ c. search rules)
-    (λ c. rw c.enum_told.given.1)
-    (λ c. rw c.enum-told2.given.1)
-    (λ c. rw c.enum-told3.given.1)
-    (λ c. rw c.enum-told4.given.1)
-    (λ c. others-none c.before.args.kind c.before.args.byte c.match.keys5))
+pub is_mark_spec : {M : Type 1} → statement M
+is_mark_spec = tie.close (tie.spec (λ c. search rules) (λ c. search rules) (λ c. search rules) (λ c. search rules)
+    (λ c. rw c.in-Comma.is)
+    (λ c. rw c.in-Colon.is)
+    (λ c. rw c.in-LParen.is)
+    (λ c. rw c.in-RParen.is)
+    (λ c. others-none c.before.args.kind c.before.args.byte c.in_default.in_default-own.keys5))

@@ -4,13 +4,13 @@ use Rattle.text.specs.Promised.{number_start}
 use Rattle.text.proofs.lexer.is_number_start.Statement.{statement}
 use Rattle.text.proofs.lexer.is_number_start.Tie as tie
 
-returns : tie.Need-returns
+returns : tie.Need-returns-then-is_digit
 unfolding number_start
-returns c = rw (← c.before.is_digit.ensures, c.if1.true)
+returns c = rw (← c.before.is_digit.ensures, c.if-is_digit.true)
 
-returns-2 : tie.Need-returns-2
+returns-2 : tie.Need-returns-else-is_digit
 unfolding number_start
-returns-2 c = rw (← c.before.is_digit.ensures, c.if1.false)
+returns-2 c = rw (← c.before.is_digit.ensures, c.if-is_digit.false)
 
-pub is-number-start-spec : {M : Type 1} → statement M
-is-number-start-spec = tie.close (tie.spec (λ c κs. search rules) returns returns-2)
+pub is_number_start_spec : {M : Type 1} → statement M
+is_number_start_spec = tie.close (tie.spec (λ c κs. search rules) returns returns-2)

@@ -9,19 +9,19 @@ front-requires : tie.Need-front-requires
 front-requires c κs =
     let r = c.before in
     let a = r.before.before.args in
-    (c.if1.true, past-blank a.text.now a.from r.run_end.result r.before.before.requires r.run_end.ensures c.if1.true)
+    (c.if-at-text.true, past-blank a.text.now a.from r.run_end-at.result r.before.before.requires r.run_end-at.ensures c.if-at-text.true)
 
-returns : tie.Need-returns
+returns : tie.Need-returns-then-at-text
 returns c =
     let r = c.before.before in
     let a = r.before.before.args in
-    blank_step present a.text.now a.from r.run_end.result c.front.result r.before.before.requires r.run_end.ensures c.before.if1.true c.front.ensures
+    blank_step present a.text.now a.from r.run_end-at.result c.front.result r.before.before.requires r.run_end-at.ensures c.before.if-at-text.true c.front.ensures
 
-returns-2 : tie.Need-returns-2
+returns-2 : tie.Need-returns
 returns-2 c =
     let r = c.before in
     let a = r.before.before.args in
-    blank-end present a.text.now a.from r.run_end.result r.before.before.requires r.run_end.ensures c.if1.false
+    blank-end present a.text.now a.from r.run_end-at.result r.before.before.requires r.run_end-at.ensures c.if-at-text.false
 
-pub next-token-spec : {M : Type 1} → statement M
-next-token-spec = tie.close (tie.spec (λ c κs. search rules) front-requires returns returns-2)
+pub next_token_spec : {M : Type 1} → statement M
+next_token_spec = tie.close (tie.spec (λ c κs. search rules) front-requires returns returns-2)

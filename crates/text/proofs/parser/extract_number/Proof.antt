@@ -15,9 +15,9 @@ use Rattle.text.specs.contracts.lexer.Kind as kind
 use Rattle.text.proofs.parser.extract_number.Statement.{statement}
 use Rattle.text.proofs.parser.extract_number.Tie as tie
 
-returns : tie.Need-returns
+returns : tie.Need-returns-in-Negative
 unfolding read_number
-returns c = rw c.before.kind4.given.1 (sym (ap Extract (whole-minus c.before.kind4.given.0.0)))
+returns c = rw c.in-Negative.is (sym (ap Extract (whole-minus c.in-Negative.magnitude)))
 
 -- The places in `Kind` of the kinds that the last arm is for.
 abbrev others : List ℕ
@@ -38,23 +38,23 @@ others-none Colon h = refl
 others-none LParen h = refl
 others-none RParen h = refl
 
-returns-2 : tie.Need-returns-2
-returns-2 c = others-none c.before.args.kind c.match.keys5
+returns-2 : tie.Need-returns-in_default
+returns-2 c = others-none c.before.args.kind c.in_default.in_default-own.keys5
 
-returns-3 : tie.Need-returns-3
+returns-3 : tie.Need-returns-in-Number
 unfolding read_number
-returns-3 c = rw c.before.kind.given.1
+returns-3 c = rw c.in-Number.kind-1-is
 
-returns-4 : tie.Need-returns-4
+returns-4 : tie.Need-returns-in-Number-2
 unfolding read_number
-returns-4 c = rw c.before.kind2.given.1
+returns-4 c = rw c.in-Number.kind-in-Hex-1-is
 
-returns-5 : tie.Need-returns-5
+returns-5 : tie.Need-returns-in-Number-3
 unfolding read_number
-returns-5 c = rw c.before.kind3.given.1
+returns-5 c = rw c.in-Number.kind-in-Binary-1-is
 
-pub extract-number-spec : {M : Type 1} → statement M
-extract-number-spec =
+pub extract_number_spec : {M : Type 1} → statement M
+extract_number_spec =
     tie.close
     (tie.spec (λ c. search rules) (λ c. search rules) (λ c. search rules) (λ c. search rules) returns returns-2
     returns-3 returns-4 returns-5)
