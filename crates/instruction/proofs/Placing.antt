@@ -1,6 +1,6 @@
 -- Where the places of a form put registers and number in a word: what is put there is read back, and a word is told by what is
 -- read from it. Nothing here depends on which forms there are; that the forms of the table are well laid is one computed test.
-use mathlib.Core.Path.{◌≡◌, refl, sym, ap, ◌∙◌}
+use mathlib.Core.Path.{subst, ◌≡◌, refl, sym, ap, ◌∙◌}
 use Prim.Native.Nat.{ℕ, zero, suc, ◌+◌, ◌*◌, ◌%◌, ◌^◌, ◌≤◌, ◌<◌}
 use native.Mathlib.Nat.{add_assoc, add-zero, lt_of_lt_of_le, mod-eq_of_lt}
 use native.Mathlib.Omega.{arith}
@@ -134,12 +134,17 @@ put_all (reg bit ∷ ps) (r ∷ rs) n x s e f =
     let (s, e, back) = put x bit 4 r true ps f.0 s e in
     let (hr, hn, hw) = put_all ps rs n (x + r * 2 ^ bit) s e f.1 in
     let (v, w) = back _ hw in
-    rw (← add_assoc) ((λ i. v i ∷ hr i), hn, w)
+    let P : ℕ → Type 0 = λ y. (registers_in y (reg bit ∷ ps) ≡ r ∷ rs) × (number_in y (reg bit ∷ ps) ≡ reduced_in (number_field (reg bit ∷ ps)) n)
+    × Within (reg bit ∷ ps) x y in
+    subst P (add_assoc x (r * 2 ^ bit) (fields ps rs n)) ((λ i. v i ∷ hr i), hn, w)
 put_all (num bit width signed ∷ ps) rs n x s e f =
     let (s, e, back) = put x bit width (reduced width n) signed ps (reduced-lt width n) s e in
     let (hr, hn, hw) = put_all ps rs n (x + reduced width n * 2 ^ bit) s e f in
     let (v, w) = back _ hw in
-    rw (← add_assoc) (hr, (λ i. some (meant_by signed width (v i))), w)
+    let P : ℕ → Type 0 = λ y. (registers_in y (num bit width signed ∷ ps) ≡ rs)
+    × (number_in y (num bit width signed ∷ ps) ≡ reduced_in (number_field (num bit width signed ∷ ps)) n)
+    × Within (num bit width signed ∷ ps) x y in
+    subst P (add_assoc x (reduced width n * 2 ^ bit) (fields ps rs n)) (hr, (λ i. some (meant_by signed width (v i))), w)
 put_all (mark m ∷ ps) rs n x s e f = put_all ps rs n x s e f
 
 -- ---- what is read tells the word

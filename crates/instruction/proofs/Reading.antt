@@ -11,7 +11,7 @@ use Rattle.text_lexical.specs.Bytes.{Result, value, refused, blank, lower, same,
 use Rattle.text_lexical.specs.Names.{Name, named}
 use Rattle.text_lexical.proofs.Tests.{by-test, both, and_both}
 use Rattle.text_lexical.proofs.Strings.{found}
-use Rattle.text.specs.Tokens.{Class, Register, Identifier, Number, Hex, Binary, Directive, Mark, Match, longest, Token, register, number, comma, colon, opening, closing, within, number_token, pattern_token, register_token, mark_token, token_of, Sized, sized, matched, front, infront, tokens_past, tokens}
+use Rattle.text.specs.Tokens.{Class, Register, Identifier, Number, Hex, Binary, Directive, Mark, Match, longest, Token, register, comma, colon, opening, closing, within, number_token, pattern_token, register_token, mark_token, token_of, Sized, sized, matched, front, infront, tokens_past, tokens}
 use Rattle.text.specs.Values.{read_number}
 use Rattle.text.specs.Lines.{Line, content, kept, line_of, record_of, read_line}
 use Rattle.text.specs.NameSets.{is_numbered, Naming}

@@ -7,7 +7,7 @@ ghost use Rattle.instruction.specs.Forms.{digits_for, is_number, mark_of};
 use crate::opcode::SYSTEM;
 
 // The mark that follows an operand: its byte, and the number of the refusal where something else stands there.
-#[derive(Drop)]
+#[derive(Clone, Copy)]
 pub enum Mark {
     Nothing,
     Is { byte: u8, refusal: u8 },

@@ -6,7 +6,7 @@ use crate::opcode;
 use text_lexical::number::Whole;
 use text_lexical::register::Register;
 
-#[derive(Drop)]
+#[derive(Clone, Copy)]
 pub enum Instruction {
     // arithmetic
     Add {
@@ -262,7 +262,7 @@ pub enum Instruction {
 }
 
 // Registers and number in operand order. What a form has no place for is not looked at.
-#[derive(Drop)]
+#[derive(Clone, Copy)]
 pub struct Operands {
     pub first: Register,
     pub second: Register,

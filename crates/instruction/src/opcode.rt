@@ -354,7 +354,7 @@ pub fn slots() -> [u8; 293]
     SLOTS
 }
 
-#[derive(Drop)]
+#[derive(Clone, Copy)]
 pub enum Row {
     At(usize),
     Missing,

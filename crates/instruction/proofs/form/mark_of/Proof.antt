@@ -14,12 +14,12 @@ none-marked (suc (suc zero)) a b c = absurd (b refl)
 none-marked (suc (suc (suc zero))) a b c = absurd (c refl)
 none-marked (suc (suc (suc (suc d)))) a b c = refl
 
-pub mark-of-spec : {M : Type 1} → statement M
+pub mark_of_spec : {M : Type 1} → statement M
 unfolding mark_of
-mark-of-spec =
+mark_of_spec =
     tie.close
     (tie.spec
-    (λ c. rw c.match.keys1)
-    (λ c. rw c.match.keys2)
-    (λ c. rw c.match.keys3)
-    (λ c. let r = c.match.rest in none-marked c.before.args.operand r.0.0.1 r.0.1 r.1))
+    (λ c. rw c.in-1.is)
+    (λ c. rw c.in-2.is)
+    (λ c. rw c.in-3.is)
+    (λ c. let r = c.in_default.in_default-own.rest in none-marked c.before.args.operand r.0.0.1 r.0.1 r.1))

@@ -27,12 +27,12 @@ table-has (suc (suc (suc (suc (suc (suc (suc form))))))) = refl
 past-forms : (n : ℕ) → (n < 7 → ⊥) → form_at n ≡ System
 past-forms n h = get_or-eq_default (R ∷ I ∷ Shift ∷ Load ∷ Store ∷ Branch ∷ Jump ∷ []) System {n = n} (omega arith)
 
-returns : tie.Need-returns
+returns : tie.Need-returns-then-form-lt-SYSTEM
 returns c = table-has c.before.args.form
 
-returns-2 : tie.Need-returns-2
+returns-2 : tie.Need-returns
 unfolding digits_for
 returns-2 c = rw (past-forms c.before.args.form (λ h. omega arith))
 
-pub operands-of-spec : {M : Type 1} → statement M
-operands-of-spec = tie.close (tie.spec (λ c. search rules) (λ c. search rules) returns returns-2)
+pub operands_of_spec : {M : Type 1} → statement M
+operands_of_spec = tie.close (tie.spec (λ c. search rules) (λ c. search rules) returns returns-2)

@@ -5,6 +5,6 @@ use Rattle.instruction.specs.Promised.{form_number, form_numbers}
 use Rattle.instruction.proofs.opcode.forms.Statement.{statement}
 use Rattle.instruction.proofs.opcode.forms.Tie as tie
 
-pub forms-spec : {M : Type 1} → statement M
+pub forms_spec : {M : Type 1} → statement M
 unfolding form_numbers form_number table row
-forms-spec = tie.close (tie.spec (λ c. refl))
+forms_spec = tie.close (tie.spec (λ c. refl))

@@ -7,6 +7,6 @@ use Rattle.instruction.specs.Promised.{mnemonic_keys}
 use Rattle.instruction.proofs.opcode.mnemonics.Statement.{statement}
 use Rattle.instruction.proofs.opcode.mnemonics.Tie as tie
 
-pub mnemonics-spec : {M : Type 1} → statement M
+pub mnemonics_spec : {M : Type 1} → statement M
 unfolding mnemonic_keys key_of packed table row bytes
-mnemonics-spec = tie.close (tie.spec (λ c. refl))
+mnemonics_spec = tie.close (tie.spec (λ c. refl))

@@ -5,6 +5,6 @@ use Rattle.instruction.specs.Promised.{opcode_numbers}
 use Rattle.instruction.proofs.opcode.opcodes.Statement.{statement}
 use Rattle.instruction.proofs.opcode.opcodes.Tie as tie
 
-pub opcodes-spec : {M : Type 1} → statement M
+pub opcodes_spec : {M : Type 1} → statement M
 unfolding opcode_numbers table row
-opcodes-spec = tie.close (tie.spec (λ c. refl))
+opcodes_spec = tie.close (tie.spec (λ c. refl))

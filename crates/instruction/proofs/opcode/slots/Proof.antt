@@ -7,6 +7,6 @@ use Rattle.instruction.specs.Promised.{mnemonic_keys, slot_row, slot_rows_from, 
 use Rattle.instruction.proofs.opcode.slots.Statement.{statement}
 use Rattle.instruction.proofs.opcode.slots.Tie as tie
 
-pub slots-spec : {M : Type 1} → statement M
+pub slots_spec : {M : Type 1} → statement M
 unfolding slot_rows slot_rows_from slot_row mnemonic_keys key_of packed table row bytes
-slots-spec = tie.close (tie.spec (λ c. refl))
+slots_spec = tie.close (tie.spec (λ c. refl))

@@ -4,19 +4,19 @@ use Rattle.instruction.proofs.Lookup.{unused-at, unused-above}
 use Rattle.instruction.proofs.opcode.unused_below.Statement.{statement}
 use Rattle.instruction.proofs.opcode.unused_below.Tie as tie
 
-pub unused-below-spec : {M : Type 1} → statement M
-unused-below-spec =
+pub unused_below_spec : {M : Type 1} → statement M
+unused_below_spec =
     tie.close
     (tie.spec
-    (λ c. unused-at _ 0 c.match.keys1 (omega (arith, c.match.keys1)))
-    (λ c. unused-at _ 1 c.match.keys2 (omega (arith, c.match.keys2)))
-    (λ c. unused-at _ 2 c.match.keys3 (omega (arith, c.match.keys3)))
-    (λ c. unused-at _ 3 c.match.keys4 (omega (arith, c.match.keys4)))
-    (λ c. unused-at _ 4 c.match.keys5 (omega (arith, c.match.keys5)))
-    (λ c. unused-at _ 5 c.match.keys6 (omega (arith, c.match.keys6)))
-    (λ c. unused-at _ 6 c.match.keys7 (omega (arith, c.match.keys7)))
-    (λ c. unused-at _ 7 c.match.keys8 (omega (arith, c.match.keys8)))
-    (λ c. unused-at _ 8 c.match.keys9 (omega (arith, c.match.keys9)))
-    (λ c. unused-at _ 9 c.match.keys10 (omega (arith, c.match.keys10)))
-    (λ c. unused-at _ 10 c.match.keys11 (omega (arith, c.match.keys11)))
-    (λ c. unused-above _ c.match.rest))
+    (λ c. unused-at _ 0 c.in-0.is (omega (arith, c.in-0.is)))
+    (λ c. unused-at _ 1 c.in-1.is (omega (arith, c.in-1.is)))
+    (λ c. unused-at _ 2 c.in-2.is (omega (arith, c.in-2.is)))
+    (λ c. unused-at _ 3 c.in-3.is (omega (arith, c.in-3.is)))
+    (λ c. unused-at _ 4 c.in-4.is (omega (arith, c.in-4.is)))
+    (λ c. unused-at _ 5 c.in-5.is (omega (arith, c.in-5.is)))
+    (λ c. unused-at _ 6 c.in-6.is (omega (arith, c.in-6.is)))
+    (λ c. unused-at _ 7 c.in-7.is (omega (arith, c.in-7.is)))
+    (λ c. unused-at _ 8 c.in-8.is (omega (arith, c.in-8.is)))
+    (λ c. unused-at _ 9 c.in-9.is (omega (arith, c.in-9.is)))
+    (λ c. unused-at _ 10 c.in-10.is (omega (arith, c.in-10.is)))
+    (λ c. unused-above _ c.in_default.in_default-own.rest))
