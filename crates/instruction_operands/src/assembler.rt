@@ -16,27 +16,27 @@ use text_lexical::number::Whole;
 use text_lexical::register::Register;
 
 // The row of an instruction's mnemonic and its operands, or why there is none.
-#[derive(Drop)]
+#[derive(Clone, Copy)]
 pub enum Parsed {
     Is { row: usize, operands: Operands },
     Refused(u8),
 }
 
 // Operands, or why there are none.
-#[derive(Drop)]
+#[derive(Clone, Copy)]
 enum Operand {
     Are(Operands),
     Refused(u8),
 }
 
-#[derive(Drop)]
+#[derive(Clone, Copy)]
 enum RegisterOperand {
     Is(Register),
     Refused(u8),
 }
 
 // The operand that a token is read as, or why it is none.
-#[derive(Drop)]
+#[derive(Clone, Copy)]
 enum OperandToken {
     Register(Register),
     Number(Whole),
@@ -44,7 +44,7 @@ enum OperandToken {
 }
 
 // The place after a mark, or why there is none.
-#[derive(Drop)]
+#[derive(Clone, Copy)]
 enum Passed {
     At(usize),
     Refused(u8),

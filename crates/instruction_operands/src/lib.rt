@@ -1,2 +1,4 @@
 // The instruction layer: a line's tokens read as an instruction.
+#![tactic(auto)]
+
 pub mod assembler;

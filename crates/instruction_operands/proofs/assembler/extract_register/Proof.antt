@@ -14,16 +14,16 @@ use Rattle.instruction.specs.Operands.{read_register}
 use Rattle.instruction_operands.proofs.assembler.extract_register.Statement.{statement}
 use Rattle.instruction_operands.proofs.assembler.extract_register.Tie as tie
 
-enum_told : tie.Need-enum-told
+enum_told : tie.Need-enum_told-1
 enum_told c = search rules
 
-returns : tie.Need-returns
+returns : tie.Need-returns-in-Register
 unfolding read_register
-returns c u = rw c.before.kind.given.1
+returns c u = rw c.in-Register.is
 
-returns-2 : tie.Need-returns-2
+returns-2 : tie.Need-returns-in-NoRegister
 unfolding read_register
-returns-2 c u = rw c.enum_told.given.1
+returns-2 c u = rw c.in-NoRegister.is
 
 -- The places in `Kind` of the kinds that the last arm is for.
 abbrev others : List ℕ
@@ -44,8 +44,8 @@ others-refused Colon u h = refl
 others-refused LParen u h = refl
 others-refused RParen u h = refl
 
-returns-3 : tie.Need-returns-3
-returns-3 c u = others-refused c.before.args.kind u c.match.keys3
+returns-3 : tie.Need-returns-in_default
+returns-3 c u = others-refused c.before.args.kind u c.in_default.in_default-own.keys3
 
-pub extract-register-spec : {M : Type 1} → statement M
-extract-register-spec = tie.close (tie.spec (λ c. search rules) enum_told returns returns-2 returns-3)
+pub extract_register_spec : {M : Type 1} → statement M
+extract_register_spec = tie.close (tie.spec (λ c. search rules) enum_told returns returns-2 returns-3)
