@@ -8,21 +8,21 @@ ghost use Rattle.instruction_operands.specs.Promised.{Kept};
 use text::lexer::Kind;
 use text::parser::{Extracted, Line};
 
-#[derive(Drop)]
+#[derive(Clone, Copy)]
 pub struct Config {
     pub limb_bits: u8,
     pub data_limbs: u8,
     pub addr_limbs: u8,
 }
 
-#[derive(Drop)]
+#[derive(Clone, Copy)]
 pub enum Checked {
     Good,
     Refused(u8),
 }
 
 // The settings behind a `.config` line.
-#[derive(Drop)]
+#[derive(Clone, Copy)]
 pub enum Configured {
     Is(Config),
     Refused(u8),

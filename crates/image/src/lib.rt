@@ -1,4 +1,6 @@
 // The image layer: settings, header and opening; the definitions of assembling and listing.
+#![tactic(auto)]
+
 pub mod config;
 pub mod limits;
 pub mod program;

@@ -8,7 +8,7 @@ ghost use Rattle.image.specs.Promised.{settings_meant, fault_meant, setting_byte
 use crate::config::{Checked, Config};
 use crate::limits::{HEADER_SIZE, MAGIC, VERSION};
 
-#[derive(Drop)]
+#[derive(Clone, Copy)]
 pub struct ProgramHeader {
     pub magic: u32,
     pub version: u32,
@@ -22,7 +22,7 @@ pub struct ProgramHeader {
 }
 
 // An image's header, and where its code ends, which begins after the header; its data fill the rest.
-#[derive(Drop)]
+#[derive(Clone, Copy)]
 pub enum Opened {
     Is {
         header: ProgramHeader,

@@ -6,19 +6,19 @@ use Rattle.image.proofs.Checks.{checked-fault, checked-good}
 use Rattle.image.proofs.config.validated.Statement.{statement}
 use Rattle.image.proofs.config.validated.Tie as tie
 
-enum_told : tie.Need-enum-told
+enum_told : tie.Need-enum_told-1
 enum_told c = search rules
 
-returns : tie.Need-returns
+returns : tie.Need-returns-in-Refused
 returns c =
-    let v = c.before.before.before in
-    sym (checked-fault (settings_meant v.before.args.config) c.before.n.given.0.0 (sym (rw c.before.n.given.1 at v.validate.ensures)))
+    let v = c.before in
+    sym (checked-fault (settings_meant v.before.args.config) c.in-Refused.n (sym (rw c.in-Refused.is at v.validate.ensures)))
 
-returns-2 : tie.Need-returns-2
+returns-2 : tie.Need-returns-in-Good
 returns-2 c =
-    let v = c.before.before in
-    sym (checked-good (settings_meant v.before.args.config) (sym (rw c.enum_told.given.1 at v.validate.ensures)))
+    let v = c.before in
+    sym (checked-good (settings_meant v.before.args.config) (sym (rw c.in-Good.is at v.validate.ensures)))
 
-pub validated-spec : {M : Type 1} → statement M
-validated-spec = tie.close
+pub validated_spec : {M : Type 1} → statement M
+validated_spec = tie.close
     (tie.spec (search rules) (search rules) enum_told returns returns-2)

@@ -10,53 +10,53 @@ use Rattle.image.proofs.Heads.{opening-short, opening-header, opening_code, open
 use Rattle.image.proofs.program.open.Statement.{statement}
 use Rattle.image.proofs.program.open.Tie as tie
 
-returns : tie.Need-returns
-returns c = sym (opening-short c.before.before.args.image.now c.if1.true)
+returns : tie.Need-returns-then-image-lt-HEADER_SIZE
+returns c = sym (opening-short c.before.before.args.image.now c.if-image-lt-HEADER_SIZE.true)
 
-enum_told : tie.Need-enum-told
+enum_told : tie.Need-enum_told-1
 enum_told c = search rules
 
 -- what the header that was read is refused for
 refused-for : (c : tie.After-validate) → header_fault (header_of c.before.before.before.before.args.image.now) ≡ fault_meant c.validate.result
-refused-for c = sym (c.validate.ensures ∙ ap header_fault c.before.read-header.ensures)
+refused-for c = sym (c.validate.ensures ∙ ap header_fault c.before.read_header-header.ensures)
 
-returns-2 : tie.Need-returns-2
+returns-2 : tie.Need-returns-then-header-ne0
 returns-2 c =
     let t = c.before.before in
-    let v = t.before.before in
+    let v = t.before in
     let r = v.before in
     let b = r.before.before.before.args.image.now in
-    let n = ap (λ (x : Header). x.code_size) r.read-header.ensures in
-    sym (opening_code b (omega arith) (rw t.enum_told.given.1 at (refused-for v)) (λ e. c.if2.true (ap (λ (m : ℕ). m % 4) n ∙ e)))
+    let n = ap (λ (x : Header). x.code_size) r.read_header-header.ensures in
+    sym (opening_code b (omega arith) (rw t.in-Good.is at (refused-for v)) (λ e. c.if-header-ne0.true (ap (λ (m : ℕ). m % 4) n ∙ e)))
 
-returns-3 : tie.Need-returns-3
+returns-3 : tie.Need-returns-then-image-code_end
 returns-3 c =
     let f = c.before.before.before in
     let t = f.before.before in
-    let v = t.before.before in
+    let v = t.before in
     let r = v.before in
     let b = r.before.before.before.args.image.now in
-    let n = ap (λ (x : Header). x.code_size) r.read-header.ensures in
-    let m = ap (λ (x : Header). x.data_size) r.read-header.ensures in
-    sym (opening-length b (omega arith) (rw t.enum_told.given.1 at (refused-for v)) (sym (ap (λ (m : ℕ). m % 4) n) ∙ f.if2.false) (λ e. c.if3.true (omega (arith, n, m, e))))
+    let n = ap (λ (x : Header). x.code_size) r.read_header-header.ensures in
+    let m = ap (λ (x : Header). x.data_size) r.read_header-header.ensures in
+    sym (opening-length b (omega arith) (rw t.in-Good.is at (refused-for v)) (sym (ap (λ (m : ℕ). m % 4) n) ∙ f.if-header-ne0.false) (λ e. c.if-image-code_end.true (omega (arith, n, m, e))))
 
-returns-4 : tie.Need-returns-4
+returns-4 : tie.Need-returns-in-Refused
 returns-4 c =
-    let n = c.before in
-    let v = n.before.before in
-    sym (opening-header v.before.before.before.before.args.image.now (omega arith) n.n.given.0.0 (rw n.n.given.1 at (refused-for v)))
+    let n = c in
+    let v = n.before in
+    sym (opening-header v.before.before.before.before.args.image.now (omega arith) n.in-Refused.n (rw n.in-Refused.is at (refused-for v)))
 
-returns-5 : tie.Need-returns-5
+returns-5 : tie.Need-returns-else-image-code_end
 returns-5 c =
     let f = c.before.before.before in
     let t = f.before.before in
-    let v = t.before.before in
+    let v = t.before in
     let r = v.before in
     let b = r.before.before.before.args.image.now in
-    let n = ap (λ (x : Header). x.code_size) r.read-header.ensures in
-    let m = ap (λ (x : Header). x.data_size) r.read-header.ensures in
-    opened-parts b r.read-header.result r.read-header.ensures
-    ∙ sym (opening-good b (omega arith) (rw t.enum_told.given.1 at (refused-for v)) (sym (ap (λ (m : ℕ). m % 4) n) ∙ f.if2.false) (omega (arith, n, m, c.if3.false)))
+    let n = ap (λ (x : Header). x.code_size) r.read_header-header.ensures in
+    let m = ap (λ (x : Header). x.data_size) r.read_header-header.ensures in
+    opened-parts b r.read_header-header.result r.read_header-header.ensures
+    ∙ sym (opening-good b (omega arith) (rw t.in-Good.is at (refused-for v)) (sym (ap (λ (m : ℕ). m % 4) n) ∙ f.if-header-ne0.false) (omega (arith, n, m, c.if-image-code_end.false)))
 
 pub open_spec : {M : Type 1} → statement M
 open_spec =

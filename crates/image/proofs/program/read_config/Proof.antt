@@ -16,7 +16,7 @@ returns c =
     let addr = number-one 10 b (omega arith) in
     λ i. settings (limb i) (limbs i) (addr i)
 
-pub read-config-spec : {M : Type 1} → statement M
-read-config-spec =
+pub read_config_spec : {M : Type 1} → statement M
+read_config_spec =
     tie.close
     (tie.spec (search rules) (search rules) (search rules) returns)

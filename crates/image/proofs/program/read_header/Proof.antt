@@ -15,18 +15,18 @@ returns c =
     let flag = number-one 11 b (omega arith) in
     λ i. record {
       magic = f.before.before.read_u32.ensures i;
-      version = f.before.read-u322.ensures i;
-      setup = f.read-config.ensures i;
+      version = f.before.read_u32-2.ensures i;
+      setup = f.read_config.ensures i;
       flags = flag i;
-      entry = e.read-u323.ensures i;
-      code_size = c.before.before.before.read-u324.ensures i;
-      data_size = c.before.before.read-u325.ensures i;
-      bss_size = c.before.read-u326.ensures i;
-      stack_size = c.read-u327.ensures i;
+      entry = e.read_u32-3.ensures i;
+      code_size = c.before.before.before.read_u32-4.ensures i;
+      data_size = c.before.before.read_u32-5.ensures i;
+      bss_size = c.before.read_u32-6.ensures i;
+      stack_size = c.read_u32-7.ensures i;
     }
 
-pub read-header-spec : {M : Type 1} → statement M
-read-header-spec =
+pub read_header_spec : {M : Type 1} → statement M
+read_header_spec =
     tie.close
     (tie.spec (search rules) (search rules) (search rules) (search rules) (search rules) (search rules)
     (search rules) (search rules) (search rules) returns)

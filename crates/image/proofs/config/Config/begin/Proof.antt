@@ -8,5 +8,5 @@ returns : tie.Need-returns
 unfolding begin
 returns c = refl
 
-pub begin-spec : {M : Type 1} → statement M
-begin-spec = tie.close (tie.spec returns)
+pub begin_spec : {M : Type 1} → statement M
+begin_spec = tie.close (tie.spec returns)
