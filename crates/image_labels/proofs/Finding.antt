@@ -222,7 +222,7 @@ pub record Seeking (s : List ℕ) (t : List Label) (roots : List ℕ) (n : ℕ) 
   pub entry-is : q.entry ≡ entry_for (spelled s l) l
   pub count-is : q.count ≡ n
   pub at_entry : q.more ≡ true → AtEntry s t roots n l q
-  pub is_known_lem : q.known ≡ true → (q.next < n) × (hit s (spelled s l) t q.next ≡ true)
+  pub is_known : q.known ≡ true → (q.next < n) × (hit s (spelled s l) t q.next ≡ true)
   pub is_lost : q.more ≡ false → q.known ≡ false → Lost s t roots n l q
 
 module _ (s : List ℕ) (t : List Label) (roots : List ℕ) (n : ℕ) (l : Label) (tree : Tree s t roots n) (ok : Enterable s n l) where
@@ -250,7 +250,7 @@ module _ (s : List ℕ) (t : List Label) (roots : List ℕ) (n : ℕ) (l : Label
         entry-is = refl;
         count-is = refl;
         at_entry = λ e. absurd (true≢false (sym e));
-        is_known_lem = λ e. absurd (true≢false (sym e));
+        is_known = λ e. absurd (true≢false (sym e));
         is_lost = λ _ _. none_there f refl refl;
       }
       go (suc i) f = record {
@@ -261,7 +261,7 @@ module _ (s : List ℕ) (t : List Label) (roots : List ℕ) (n : ℕ) (l : Label
           inside = tree.rooted (slot_of (hash_of u) (length roots)) i f;
           reached = subst (λ (m : ℕ). PathTo s u t root n m (first_path u)) f start;
         };
-        is_known_lem = λ e. absurd (true≢false (sym e));
+        is_known = λ e. absurd (true≢false (sym e));
         is_lost = λ e _. absurd (true≢false e);
       }
 
@@ -304,7 +304,7 @@ module _ (s : List ℕ) (t : List Label) (roots : List ℕ) (n : ℕ) (l : Label
             entry-is = k.entry-is;
             count-is = k.count-is;
             at_entry = λ f. absurd (true≢false (sym f));
-            is_known_lem = λ _. (inside, h);
+            is_known = λ _. (inside, h);
             is_lost = λ _ f. absurd (true≢false f);
           })
 
@@ -314,7 +314,7 @@ module _ (s : List ℕ) (t : List Label) (roots : List ℕ) (n : ℕ) (l : Label
             entry-is = k.entry-is;
             count-is = k.count-is;
             at_entry = λ g. absurd (true≢false (sym g));
-            is_known_lem = λ g. absurd (true≢false (sym g));
+            is_known = λ g. absurd (true≢false (sym g));
             is_lost = λ _ _. behind q.path inside (k.at_entry more).reached miss f (ap (λ (m : ℕ). linked e (branch_of q.path) (m + 1)) k.count-is);
           })
           passing miss (suc i) f = subst (Seeking s t roots n l) (sym (visited-on s q e (hit-here ∙ miss) i f)) (record {
@@ -325,7 +325,7 @@ module _ (s : List ℕ) (t : List Label) (roots : List ℕ) (n : ℕ) (l : Label
               inside = (tree.onward q.next inside (branch_of q.path) i f).1;
               reached = subst (λ (w : List ℕ). PathTo s u t root n (suc i) (advanced w q.path)) (sym spelled_is) (step (k.at_entry more).reached inside miss f);
             };
-            is_known_lem = λ g. absurd (true≢false (sym g));
+            is_known = λ g. absurd (true≢false (sym g));
             is_lost = λ g _. absurd (true≢false g);
           })
 
@@ -545,7 +545,7 @@ module _ (s : List ℕ) (t : List Label) (roots : List ℕ) (n start long a : �
         entry-is = entry-same;
         count-is = k.count-is;
         at_entry = λ more. record { inside = (k.at_entry more).inside; reached = (k.at_entry more).reached };
-        is_known_lem = k.is_known;
+        is_known = k.is_known;
         is_lost = λ more known. lost (k.is_lost more known);
       }
     where

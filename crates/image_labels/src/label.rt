@@ -5,7 +5,7 @@ ghost use Rattle.image_labels.specs.Tree.{unlinked, span, Tree, TreeAfter, Enter
 
 // Where a label's spelling stands in the source, and its address.
 #[repr(C)]
-#[derive(Drop)]
+#[derive(Clone, Copy)]
 pub struct Label {
     pub start: usize,
     pub length: usize,
@@ -14,7 +14,7 @@ pub struct Label {
 
 // Where a label that is not there would be entered: its entry, without an address, the entry that would lead to it and where that one
 // stands, and its bucket.
-#[derive(Drop)]
+#[derive(Clone, Copy)]
 pub struct Gap {
     pub(crate) bucket: usize,
     pub(crate) entry: Label,
@@ -23,7 +23,7 @@ pub struct Gap {
 }
 
 // The index of the label that has a spelling, or that none has it.
-#[derive(Drop)]
+#[derive(Clone, Copy)]
 pub enum Found {
     At(usize),
     Missing(Gap),
@@ -64,7 +64,7 @@ fn append(table: &mut [Label], at: usize, entry: Label) -> bool
 }
 
 // What entering a label comes to: a new label is stored, or it is refused as a duplicate (4) or for want of room (5).
-#[derive(Drop)]
+#[derive(Clone, Copy)]
 pub enum Entered {
     New,
     Duplicate,

@@ -14,7 +14,7 @@ const FIELD: usize = 2097152;
 // The upper one of two child numbers counts in units of this.
 const UPPER: usize = FIELD * FIELD;
 
-#[derive(Drop)]
+#[derive(Clone, Copy)]
 pub(crate) struct Digest {
     pub(crate) first: u64,
     pub(crate) second: u64,
@@ -25,7 +25,7 @@ const PATH_END: u64 = 4611686018427387904;
 
 // The path bits of a spelling, two for each child that it takes: `bits`, with a 1 after the last, then `rest` (none: 0), then those of
 // its bytes, of which `used` have been used up.
-#[derive(Drop)]
+#[derive(Clone, Copy)]
 pub(crate) struct PathBits {
     pub(crate) bits: u64,
     pub(crate) rest: u64,
@@ -34,7 +34,7 @@ pub(crate) struct PathBits {
 
 // A spelling that is looked for, from the root of a hash bucket on. `entry` is that of its label, after `count` others; `parent` is the
 // entry that is to lead to it, and stands at `last`: for a label that becomes a root, to which no entry leads, its own.
-#[derive(Drop)]
+#[derive(Clone, Copy)]
 pub(crate) struct Search {
     pub(crate) bucket: usize,
     pub(crate) more: bool,

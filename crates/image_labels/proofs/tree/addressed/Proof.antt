@@ -4,13 +4,13 @@ use Rattle.image_labels.specs.Tree.{addressed}
 use Rattle.image_labels.proofs.tree.addressed.Statement.{statement}
 use Rattle.image_labels.proofs.tree.addressed.Tie as tie
 
-returns : tie.Need-returns
+returns : tie.Need-returns-then-last-count
 unfolding addressed
-returns c = rw (addressed, eq-eqb _ _ c.if1.true)
+returns c = rw (addressed, eq-eqb _ _ c.if-last-count.true)
 
-returns-2 : tie.Need-returns-2
+returns-2 : tie.Need-returns
 unfolding addressed
-returns-2 c = rw (addressed, ne_eqb _ _ c.before.if1.false)
+returns-2 c = rw (addressed, ne_eqb _ _ c.before.if-last-count.false)
 
-pub addressed-spec : {M : Type 1} → statement M
-addressed-spec = tie.close (tie.spec returns returns-2)
+pub addressed_spec : {M : Type 1} → statement M
+addressed_spec = tie.close (tie.spec returns returns-2)

@@ -3,13 +3,13 @@ use Rattle.image_labels.specs.Tree.{found_of}
 use Rattle.image_labels.proofs.tree.found.Statement.{statement}
 use Rattle.image_labels.proofs.tree.found.Tie as tie
 
-returns : tie.Need-returns
+returns : tie.Need-returns-then-search
 unfolding found_of
-returns c = rw (found_of, c.if1.true)
+returns c = rw (found_of, c.if-search.true)
 
-returns-2 : tie.Need-returns-2
+returns-2 : tie.Need-returns
 unfolding found_of
-returns-2 c = rw (found_of, c.before.before.if1.false)
+returns-2 c = rw (found_of, c.before.before.if-search.false)
 
-pub found-spec : {M : Type 1} → statement M
-found-spec = tie.close (tie.spec returns returns-2)
+pub found_spec : {M : Type 1} → statement M
+found_spec = tie.close (tie.spec returns returns-2)

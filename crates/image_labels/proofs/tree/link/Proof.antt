@@ -5,12 +5,12 @@ use Rattle.image_labels.proofs.Hashing.{link-low, link-high}
 use Rattle.image_labels.proofs.tree.link.Statement.{statement}
 use Rattle.image_labels.proofs.tree.link.Tie as tie
 
-returns : tie.Need-returns
-returns c = let a = c.before.before.before.args in c.before.before.child-number.ensures ∙ sym (link-low a.entry a.branch c.if1.true)
+returns : tie.Need-returns-then-branch-lt2
+returns c = let a = c.before.before.before.args in c.before.before.child_number-by_start.ensures ∙ sym (link-low a.entry a.branch c.if-branch-lt2.true)
 
-returns-2 : tie.Need-returns-2
-returns-2 c = let a = c.before.before.before.args in c.before.child-number2.ensures ∙ sym (link-high a.entry a.branch c.if1.false)
+returns-2 : tie.Need-returns
+returns-2 c = let a = c.before.before.before.args in c.before.child_number-by_address.ensures ∙ sym (link-high a.entry a.branch c.if-branch-lt2.false)
 
-pub link-spec : {M : Type 1} → statement M
-link-spec = tie.close
+pub link_spec : {M : Type 1} → statement M
+link_spec = tie.close
     (tie.spec (search rules) (search rules) returns returns-2)

@@ -8,8 +8,8 @@ use Rattle.image_labels.proofs.tree.same_spelling.Tie as tie
 returns : tie.Need-returns
 returns c = c.same.ensures ∙ simp part-is
 
-pub same-spelling-spec : {M : Type 1} → statement M
-same-spelling-spec =
+pub same_spelling_spec : {M : Type 1} → statement M
+same_spelling_spec =
     tie.close
     (tie.spec (search rules) (search rules) (search rules) (search rules) (search rules) (search rules)
     (search rules) (search rules) (search rules) returns)

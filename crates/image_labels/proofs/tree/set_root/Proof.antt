@@ -5,15 +5,15 @@ use Rattle.image_labels.specs.Tree.{with_root_at}
 use Rattle.image_labels.proofs.tree.set_root.Statement.{statement}
 use Rattle.image_labels.proofs.tree.set_root.Tie as tie
 
-returns : tie.Need-returns
+returns : tie.Need-returns-then-roots-bucket-eq0
 unfolding with_root_at
-returns c = rw (with_root_at, eq-eqb _ 0 c.if1.true)
+returns c = rw (with_root_at, eq-eqb _ 0 c.if-roots-bucket-eq0.true)
 
-returns-2 : tie.Need-returns-2
+returns-2 : tie.Need-returns-else-roots-bucket-eq0
 unfolding with_root_at
-returns-2 c = rw (with_root_at, ne_eqb _ 0 c.if1.false)
+returns-2 c = rw (with_root_at, ne_eqb _ 0 c.if-roots-bucket-eq0.false)
 
-pub set-root-spec : {M : Type 1} → statement M
-set-root-spec = tie.close
+pub set_root_spec : {M : Type 1} → statement M
+set_root_spec = tie.close
     (tie.spec (search rules) (search rules) (search rules) (search rules) (search rules) (search rules)
     (search rules) returns returns-2)

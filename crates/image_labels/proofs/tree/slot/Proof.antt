@@ -6,12 +6,12 @@ use Rattle.image_labels.proofs.Hashing.{scaled_fits, slot-inside}
 use Rattle.image_labels.proofs.tree.slot.Statement.{statement}
 use Rattle.image_labels.proofs.tree.slot.Tie as tie
 
-mul-result : tie.Need-overflow-mul-result
+mul-result : tie.Need-overflow_mul-result
 mul-result c = let a = c.before.args in omega (arith, scaled_fits a.hash.first a.places, c.before.requires.1)
 
 returns : tie.Need-returns
 unfolding slot_of
 returns c = let a = c.before.args in (refl, slot-inside a.hash a.places c.before.requires.0)
 
-pub slot-spec : {M : Type 1} → statement M
-slot-spec = tie.close (tie.spec mul-result returns)
+pub slot_spec : {M : Type 1} → statement M
+slot_spec = tie.close (tie.spec mul-result returns)
