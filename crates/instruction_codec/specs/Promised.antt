@@ -1,5 +1,5 @@
 -- What decoded values mean in terms of the definitions, and what the functions that encode, decode and write promise.
-use Rattle.std.specs.Prelude.{ℕ, ◌+◌, ◌^◌, ◌≤◌, ◌≡◌, true, List, [], ◌∷◌, ◌++◌, ℤ}
+use Rattle.std.specs.Prelude.{ℕ, ◌+◌, ◌^◌, ◌≤◌, ◌≡◌, true, List, ◌∷◌, ◌++◌, ℤ}
 use Rattle.std.proofs.Math.Option.{Option}
 use Rattle.text_lexical.specs.Bytes.{Result, value, refused}
 use Rattle.text_lexical.specs.Numbers.{meant_by, signed_decimal}

@@ -123,7 +123,7 @@ pub fn encode_system(row: usize, opcodes: &[u8; 50]) -> u32
     opcode_of(row, opcodes)
 }
 
-#[derive(Drop)]
+#[derive(Clone, Copy)]
 pub enum Decoded {
     Is(Instruction),
     Refused(u8),

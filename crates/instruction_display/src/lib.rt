@@ -1,2 +1,4 @@
 // The instruction layer: the text of each of the fifty cases.
+#![tactic(auto)]
+
 pub mod display;

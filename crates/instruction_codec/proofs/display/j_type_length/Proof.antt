@@ -7,14 +7,14 @@ use Rattle.instruction_codec.proofs.display.j_type_length.Tie as tie
 
 returns : tie.Need-returns
 returns c =
-    let d = c.before.number-length.ensures in
-    let a = c.before.before.register-length.ensures in
+    let d = c.before.number_length.ensures in
+    let a = c.before.before.register_length.ensures in
     let s = c.before.before.before.args in
-    let m = c.mnemonic-length.ensures in
+    let m = c.mnemonic_length.ensures in
     (omega (arith, j-type-length s.row s.rd s.offset, m.0, a.0, d.0), omega (arith, m.1, a.1, d.1))
 
-pub j-type-length-spec : {M : Type 1} → statement M
-j-type-length-spec =
+pub j_type_length_spec : {M : Type 1} → statement M
+j_type_length_spec =
     tie.close
     (tie.spec (λ c κs. search rules) (λ c. search rules) (λ c κs. search rules) (λ c. search rules)
     (λ c κs. search rules) (λ c. search rules) returns)

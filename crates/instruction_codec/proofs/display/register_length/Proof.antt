@@ -14,11 +14,11 @@ use Rattle.instruction_codec.proofs.display.register_length.Tie as tie
 returns : tie.Need-returns
 unfolding register_text
 returns c =
-    let e = c.before.index.ensures in
+    let e = c.before.index-index.ensures in
     let n = index_of c.before.before.args.register in
-    let l : c.decimal-length.result ≡ length (decimal n) = c.decimal-length.ensures.0 ∙ ap (λ n. length (decimal n)) e in
+    let l : c.decimal_length.result ≡ length (decimal n) = c.decimal_length.ensures.0 ∙ ap (λ n. length (decimal n)) e in
     (omega (arith, l), omega (arith, l, decimal-length 1 n (omega (arith, register-below c.before.before.args.register))))
 
-pub register-length-spec : {M : Type 1} → statement M
-register-length-spec =
+pub register_length_spec : {M : Type 1} → statement M
+register_length_spec =
     tie.close (tie.spec (λ c κs. search rules) (λ c. search rules) (λ c κs. search rules) (λ c. search rules) returns)

@@ -16,16 +16,16 @@ use Rattle.instruction_codec.proofs.display.write_i_type.Tie as tie
 room : (c : tie.Start) → let a = c.args in a.at + length (two_text a.row a.first a.second ++ signed_decimal (whole_meant a.number)) ≤ length a.out.now
 room c = let a = c.args in rw (i-type-text a.row a.first a.second a.number) at c.requires.1.1
 
-write-two-requires : tie.Need-write-two-requires
+write-two-requires : tie.Need-write_two-place-requires
 write-two-requires c κs =
     let s = c.before.before in
     let a = s.args in
     (s.requires.0, (s.requires.1.0, room-before a.out.now a.at (two_text a.row a.first a.second) _ (room s)))
 
-write-number-requires : tie.Need-write-number-requires
+write-number-requires : tie.Need-write_number-requires
 write-number-requires c κs =
     let k = c.before.before.before in
-    room-behind k.write_two.ensures _ (room k.before.before.before)
+    room-behind k.write_two-place.ensures _ (room k.before.before.before)
 
 returns : tie.Need-returns
 returns c =
@@ -33,8 +33,8 @@ returns c =
     let s = k.before.before.before in
     let a = s.args in
     let r = room s in
-    rw (i-type-text a.row a.first a.second a.number) (written-append k.write_two.ensures (omega arith) c.before.before.write-number.ensures)
+    rw (i-type-text a.row a.first a.second a.number) (written-append k.write_two-place.ensures (omega arith) c.before.before.write_number.ensures)
 
-pub write-i-type-spec : {M : Type 1} → statement M
-write-i-type-spec =
+pub write_i_type_spec : {M : Type 1} → statement M
+write_i_type_spec =
     tie.close (tie.spec write-two-requires write-number-requires (λ c. search rules) returns)

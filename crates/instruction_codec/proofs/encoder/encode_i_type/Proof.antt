@@ -15,8 +15,8 @@ returns c =
     let n = c.before in
     let o = n.before in
     let a = o.before.args in
-    omega (arith, o.opcode-of.ensures.0, c.spread.ensures.0, word_number a.row (index_of a.rd) (index_of a.rs1) _ (whole_meant a.imm) n.reduced.ensures.0)
+    omega (arith, o.opcode_of.ensures.0, c.spread.ensures.0, word_number a.row (index_of a.rd) (index_of a.rs1) _ (whole_meant a.imm) n.reduced.ensures.0)
 
-pub encode-i-type-spec : {M : Type 1} → statement M
-encode-i-type-spec =
+pub encode_i_type_spec : {M : Type 1} → statement M
+encode_i_type_spec =
     tie.close (tie.spec (λ c κs. search rules) reduced-requires (λ c κs. search rules) (λ c. search rules) returns)

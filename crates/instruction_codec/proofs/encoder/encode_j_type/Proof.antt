@@ -14,10 +14,10 @@ returns : tie.Need-returns
 returns c =
     let n = c.before in
     let a = n.before.before.args in
-    omega (arith, n.before.opcode-of.ensures.0, n.number_of.ensures.0, word-jump a.row (index_of a.rd) 0 _ (whole_meant a.offset) c.reduced.ensures.0)
+    omega (arith, n.before.opcode_of.ensures.0, n.number_of.ensures.0, word-jump a.row (index_of a.rd) 0 _ (whole_meant a.offset) c.reduced.ensures.0)
 
-pub encode-j-type-spec : {M : Type 1} → statement M
-encode-j-type-spec =
+pub encode_j_type_spec : {M : Type 1} → statement M
+encode_j_type_spec =
     tie.close
     (tie.spec (λ c κs. search rules) (λ c κs. search rules) (λ c. search rules) (λ c. search rules) reduced-requires
     (λ c. search rules) (λ c. search rules) returns)

@@ -11,8 +11,8 @@ returns c =
     let n = c.before in
     let o = n.before in
     let a = o.before.args in
-    omega (arith, o.opcode-of.ensures.0, n.number_of.ensures.0, c.spread.ensures.0, word-registers a.row (index_of a.rd) (index_of a.rs1) (index_of a.rs2))
+    omega (arith, o.opcode_of.ensures.0, n.number_of.ensures.0, c.spread.ensures.0, word-registers a.row (index_of a.rd) (index_of a.rs1) (index_of a.rs2))
 
-pub encode-r-type-spec : {M : Type 1} → statement M
-encode-r-type-spec =
+pub encode_r_type_spec : {M : Type 1} → statement M
+encode_r_type_spec =
     tie.close (tie.spec (λ c κs. search rules) (λ c κs. search rules) (λ c κs. search rules) (λ c. search rules) returns)

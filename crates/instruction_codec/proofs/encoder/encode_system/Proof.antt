@@ -6,7 +6,7 @@ use Rattle.instruction_codec.proofs.encoder.encode_system.Statement.{statement}
 use Rattle.instruction_codec.proofs.encoder.encode_system.Tie as tie
 
 returns : tie.Need-returns
-returns c = c.opcode-of.ensures.0 ∙ sym (word-system c.before.args.row)
+returns c = c.opcode_of.ensures.0 ∙ sym (word-system c.before.args.row)
 
-pub encode-system-spec : {M : Type 1} → statement M
-encode-system-spec = tie.close (tie.spec (λ c κs. search rules) returns)
+pub encode_system_spec : {M : Type 1} → statement M
+encode_system_spec = tie.close (tie.spec (λ c κs. search rules) returns)

@@ -10,5 +10,5 @@ returns c =
     let e = c.wide.ensures ∙ c.before.index.ensures in
     (e, rw e (register-below c.before.before.args.register))
 
-pub number-of-spec : {M : Type 1} → statement M
-number-of-spec = tie.close (tie.spec (λ c κs. search rules) (λ c κs. search rules) returns)
+pub number_of_spec : {M : Type 1} → statement M
+number_of_spec = tie.close (tie.spec (λ c κs. search rules) (λ c κs. search rules) returns)

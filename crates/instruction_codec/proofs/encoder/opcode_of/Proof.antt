@@ -11,5 +11,5 @@ returns c =
     let i = s.args.row in
     (c.wide.ensures ∙ rw s.requires.1 (opcode-at i), rw (c.wide.ensures, s.requires.1) (opcode-small i))
 
-pub opcode-of-spec : {M : Type 1} → statement M
-opcode-of-spec = tie.close (tie.spec (λ c. search rules) (λ c κs. search rules) returns)
+pub opcode_of_spec : {M : Type 1} → statement M
+opcode_of_spec = tie.close (tie.spec (λ c. search rules) (λ c κs. search rules) returns)

@@ -4,7 +4,6 @@ use native.Mathlib.Omega.{arith}
 use native.Mathlib.Nat.{le_of_suc-le-suc}
 use lib.Pow.{pow_mono}
 use borrow.Author.Rules.{rules}
-use Rattle.text_lexical.specs.Numbers.{residue}
 use Rattle.text_lexical.specs.Promised.{whole_meant}
 use Rattle.text_lexical.proofs.Numbers.{residue-lt}
 use Rattle.instruction_codec.proofs.encoder.reduced.Statement.{statement}
@@ -16,7 +15,7 @@ bound c =
     let p = c.before.requires in
     rw (c.residue.ensures.at_width p.width p.is_power) (residue-lt p.width (whole_meant c.before.args.number))
 
-cast-result : tie.Need-overflow-cast-result
+cast-result : tie.Need-overflow_cast-result
 cast-result c =
     let m : 2 ^ c.before.requires.width ≤ 2 ^ 21 = pow_mono c.before.requires.most in
     omega (arith, bound c)
@@ -24,5 +23,5 @@ cast-result c =
 returns : tie.Need-returns
 returns c = (c.residue.ensures, le_of_suc-le-suc (rw c.before.requires.is_power (bound c)))
 
-pub reduced-spec : {M : Type 1} → statement M
-reduced-spec = tie.close (tie.spec (λ c κs. search rules) cast-result returns)
+pub reduced_spec : {M : Type 1} → statement M
+reduced_spec = tie.close (tie.spec (λ c κs. search rules) cast-result returns)

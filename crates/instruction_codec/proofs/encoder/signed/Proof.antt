@@ -17,14 +17,14 @@ use Rattle.instruction_codec.proofs.encoder.signed.Tie as tie
 below-zero : (n : ℕ) → 0 < n → ◌≡◌ {A = Whole} (record { negative = true; magnitude = n }) (whole_for (minus n))
 below-zero n h = sym (whole-minus n ∙ ap (λ (b : Bool). record { negative = b; magnitude = n }) (lt-ltb 0 n h))
 
-returns : tie.Need-returns
-returns c = (signed_low c.before.args.half c.before.args.field c.if1.true, refl)
+returns : tie.Need-returns-then-field-half
+returns c = (signed_low c.before.args.half c.before.args.field c.if-field-half.true, refl)
 
-returns-2 : tie.Need-returns-2
+returns-2 : tie.Need-returns-else-field-half
 returns-2 c = (
-  signed_high c.before.args.half c.before.args.field c.if1.false c.before.requires.0,
+  signed_high c.before.args.half c.before.args.field c.if-field-half.false c.before.requires.0,
   below-zero _ (omega (arith, c.before.requires.0)),
 )
 
-pub signed-spec : {M : Type 1} → statement M
-signed-spec = tie.close (tie.spec (λ c. search rules) (λ c. search rules) (λ c. search rules) returns returns-2)
+pub signed_spec : {M : Type 1} → statement M
+signed_spec = tie.close (tie.spec (λ c. search rules) (λ c. search rules) (λ c. search rules) returns returns-2)
