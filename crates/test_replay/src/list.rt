@@ -7,14 +7,14 @@ ghost use Rattle.test_replay.specs.List.{hex_digit, hex_byte_at, unescaped_at, l
 use std::num::wrapping_add_usize;
 
 // A number, and the place behind the byte that ends it.
-#[derive(Drop)]
+#[derive(Clone, Copy)]
 pub struct Number {
     pub value: u64,
     pub next: usize,
 }
 
 // Where a line stands in the room, and the place behind its line of the list.
-#[derive(Drop)]
+#[derive(Clone, Copy)]
 pub struct Piece {
     pub start: usize,
     pub end: usize,
@@ -22,7 +22,7 @@ pub struct Piece {
 }
 
 // A byte that the list spells, and the place behind its spelling.
-#[derive(Drop)]
+#[derive(Clone, Copy)]
 pub struct Spelled {
     pub byte: u8,
     pub next: usize,
