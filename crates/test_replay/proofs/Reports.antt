@@ -1,10 +1,10 @@
 -- Laws of texts that are put into a room, one after the other, and of a number's digits.
-use Rattle.std.proofs.Common.{◌≡◌, ℕ, zero, suc, ◌+◌, ◌/◌, ◌%◌, ◌^◌, ◌<◌, ◌≤◌, min, true, false, eqb, List, [], ◌∷◌, ◌++◌, length, get_or, drop, set, sym, refl, ap, ◌∙◌, append_assoc, append-nil, add-zero, add-suc, suc-add, pow-suc, lt_of_not-le, add-one, arith, length-append, length-set, drop_of_length-le, length-take-le, drop-cons, le-ltb, lt-ltb}
-use native.Mathlib.Nat.{min-eq_left, min-eq_right, min-le_right, one-le-pow}
+use Rattle.std.proofs.Common.{◌≡◌, ℕ, zero, suc, ◌+◌, ◌/◌, ◌%◌, ◌^◌, ◌<◌, ◌≤◌, min, true, false, eqb, List, [], ◌∷◌, ◌++◌, length, get_or, drop, set, sym, refl, ap, ◌∙◌, append_assoc, append-nil, add-zero, add-suc, suc-add, lt_of_not-le, add-one, arith, length-append, length-set, drop_of_length-le, length-take-le, drop-cons, le-ltb, lt-ltb}
+use native.Mathlib.Nat.{min-eq_left, min-eq_right, min-le_right}
 use native.Mathlib.Decide.{dec_le}
-use native.Mathlib.Numerals.{unary_clauses}
 use lib.Seq.{sets, length-sets, set_out}
-use Rattle.io.specs.Digits.{hex_digit_ascii, last_digits, IsDigitCount}
+use Rattle.std.specs.Fmt.{decimal as written}
+use Rattle.std.proofs.lemmas.Fmt.{decimal_digit, decimal_step}
 use Rattle.test_replay.specs.Report.{decimal_in, decimal, filled, refusal_text, refusals_from, Put}
 
 -- ---- a text in a room
@@ -88,34 +88,20 @@ module _ {old : List ℕ} {at : ℕ} {text new : List ℕ} {place i : ℕ} (p : 
 
 -- ---- a number's digits
 
-last-digit : (n : ℕ) → hex_digit_ascii (n % 10) ≡ 48 + n % 10
-last-digit n = rw (lt-ltb (n % 10) 10 (omega arith))
-
-one-digit : (j n : ℕ) → n < 10 → decimal_in j n ≡ (48 + n % 10) ∷ []
-unfolding decimal_in
-one-digit zero n h = refl
-one-digit (suc j) n h = rw (decimal_in, lt-ltb n 10 h)
-
 -- As many digits as the number takes.
-digits_are : (k j n : ℕ) → n ≤ j → n < 10 ^ suc k → (1 < suc k → 10 ^ k ≤ n) → last_digits 10 (suc k) n ≡ decimal_in j n
+digits_are : (j n : ℕ) → n ≤ j → n < 2 ^ 64 → written n ≡ decimal_in j n
 unfolding decimal_in
-digits_are zero j n l h m = rw (one-digit j n h, last-digit n)
-digits_are (suc k) zero n l h m = absurd (omega (arith, m (omega arith), pow-suc 10 k, one-le-pow k 10 (omega arith)))
-digits_are (suc k) (suc j) n l h m =
-    let g = m (omega arith) in
-    let e = pow-suc 10 k in
-    let p = one-le-pow k 10 (omega arith) in
-    rw (
-      decimal_in,
-      le-ltb n 10 (omega arith),
-      last-digit n,
-      digits_are k j (n / 10) (omega arith) (omega (arith, pow-suc 10 (suc k))) (λ _. omega arith),
-    )
+digits_are zero n l h = decimal_digit n (omega arith) ∙ ap (λ d. (48 + d) ∷ []) (omega arith)
+digits_are (suc j) n l h =
+    elim (dec_le 10 n) [
+      | yes g ↦ rw (decimal_in, le-ltb n 10 g) (decimal_step n g h ∙ ap (λ ds. ds ++ ((48 + n % 10) ∷ [])) (digits_are j (n / 10) (omega arith) (omega arith)))
+      | no g ↦ let m = lt_of_not-le g in rw (decimal_in, lt-ltb n 10 m) (decimal_digit n m ∙ ap (λ d. (48 + d) ∷ []) (omega arith))
+    ]
 
-pub decimal-is : (k n : ℕ) → IsDigitCount 10 1 n k → last_digits 10 k n ≡ decimal n
+-- A number is written in decimal as the library writes it.
+pub decimal-is : (n : ℕ) → n < 2 ^ 64 → written n ≡ decimal n
 unfolding decimal
-decimal-is zero n f = absurd (omega (arith, f.0))
-decimal-is (suc k) n f = digits_are k n n (omega arith) f.1 (λ h. simp unary_clauses at (f.2 h))
+decimal-is n h = digits_are n n (omega arith) h
 
 -- ---- a text that is put piece by piece
 

@@ -1,20 +1,24 @@
-// Reading a list: records, and in a record a line of text and numbers. A place past the list's end holds 0.
-ghost use Rattle.std.specs.Prelude.{◌≡◌, ◌+◌, ◌*◌, ◌<◌, ◌≤◌, [], ◌∷◌, ◌++◌, length, take};
+// Reading a list: its bytes, records, and in a record a line of text and numbers. A place past the list's end holds 0.
+ghost use Rattle.std.specs.Io.{ReadsAtMost};
+ghost use Rattle.std.specs.Io.KnownBytes.{Consumes, IsAtEnd};
+ghost use Rattle.std.specs.Prelude.{IfOk, ◌≡◌, ◌+◌, ◌*◌, ◌<◌, ◌≤◌, [], ◌∷◌, ◌++◌, length, take};
 ghost use Rattle.std.proofs.lemmas.List.Edits.{sets};
 ghost use Rattle.test_replay.specs.List.{byte_at, has_tag, is_record_end, next_record, digit_value, fitted, number_at};
 ghost use Rattle.test_replay.specs.List.{hex_digit, hex_byte_at, unescaped_at, line_for, piece_for};
 
+use std::io;
+use std::io::Read;
 use std::num::wrapping_add_usize;
 
 // A number, and the place behind the byte that ends it.
-#[derive(Drop)]
+#[derive(Clone, Copy)]
 pub struct Number {
     pub value: u64,
     pub next: usize,
 }
 
 // Where a line stands in the room, and the place behind its line of the list.
-#[derive(Drop)]
+#[derive(Clone, Copy)]
 pub struct Piece {
     pub start: usize,
     pub end: usize,
@@ -22,10 +26,28 @@ pub struct Piece {
 }
 
 // A byte that the list spells, and the place behind its spelling.
-#[derive(Drop)]
+#[derive(Clone, Copy)]
 pub struct Spelled {
     pub byte: u8,
     pub next: usize,
+}
+
+// Reads into a room until it is full or the input ends, and answers how many bytes it put there. Where it is known what the input has
+// left, they are its first bytes, and all of them if they do not fill the room.
+pub fn read_full<R: Read>(input: &mut R, room: &mut [u8]) -> io::Result<usize>
+    ensures in_bounds { ReadsAtMost result room.new }
+    ensures bytes { IfOk result (λ n. Consumes (R.remaining input.old) (R.remaining input.new) (take n room.new)) }
+    ensures end { IfOk result (λ n. n < length room.new → IsAtEnd (R.remaining input.new)) }
+{
+    let mut done = 0;
+    while done < room.len() {
+        let n = input.read(&mut room[done..])?;
+        if n == 0 {
+            break;
+        }
+        done += n;
+    }
+    Ok(done)
 }
 
 pub fn byte_at(list: &[u8], at: usize) -> u8

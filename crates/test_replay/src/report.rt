@@ -2,6 +2,8 @@
 // left out.
 ghost use Rattle.test_replay.specs.Report.{decimal, filled, verdict_text, Put};
 
+use itoa::Buffer;
+
 // Puts bytes into the room from a place on, and answers the place after them.
 pub fn put(room: &mut [u8], at: usize, bytes: &[u8]) -> usize
     ensures { Put room.old at bytes.now result room.new }
@@ -23,9 +25,8 @@ pub fn put(room: &mut [u8], at: usize, bytes: &[u8]) -> usize
 fn put_number(room: &mut [u8], at: usize, n: u64) -> usize
     ensures { Put room.old at (decimal n) result room.new }
 {
-    let mut digits = [0u8; 20];
-    let count = io::decimal(n, &mut digits);
-    put(room, at, &digits[..count])
+    let mut buffer = Buffer::new();
+    put(room, at, buffer.format(n).as_bytes())
 }
 
 // Puts a text in which each `#` stands for the next of the numbers, as long as there is one.

@@ -57,7 +57,7 @@ impl Refusals {
 }
 
 // What comparing a record gave: it differs, or it agrees in what is assembled, in what is listed, or in a refusal.
-#[derive(Drop)]
+#[derive(Clone, Copy)]
 pub enum Outcome {
     Differs,
     Assembled,

@@ -6,7 +6,7 @@
 use mathlib.Core.Path.{sym, ap, subst}
 use mathlib.Core.List.{List, [], ◌∷◌}
 use seplogic.Ra.Ura.{Ura}
-use mir.Syntax.{Name, Place, Opd as Operand, Body, seq, call}
+use mir.Syntax.{Callee, Place, Opd as Operand, Body, seq, call}
 use mir.Val.{Val}
 use base.Logic.{ent, sep, emp, id⊢, via, mono_l, emp∗}
 use prog.Wp.{Env, Calls, Loops}
@@ -52,7 +52,7 @@ module _ {M : Type 1} {𝓤 : Ura M} (𝓛 : Logic 𝓤) (T : Ended) (c : Clause
           subst (λ (v : Val). Is Answer r (v ∷ []) → Seq K 𝓛 (Back r ws Γ) (after v)) (sym (ap only (tells r (w ∷ []) is))) (k r ws) is)))
 
 module _ {M : Type 1} {𝓤 : Ura M} {𝓛 : Logic 𝓤} {K : Type 0} {Γ : List (Item 𝓤)} {E : Env 𝓤 𝓛.H} {C : Calls 𝓤 𝓛.H} {Λ : Loops 𝓤 𝓛.H} {q : Post 𝓤 𝓛.H}
-    {f : Name} {xs : List Operand} {d : Place} where
+    {f : Callee} {xs : List Operand} {d : Place} where
   open 𝓛 use {H}
 
   pub calls-to : K → FmC 𝓤 H 𝓛.laws C → {rest : Body} (T : Ended) (c : Clauses 𝓤 T) → Triple 𝓤 (C f) (Known 𝓛 T c) → (y : (Known 𝓛 T c).Ghost)

@@ -8,8 +8,8 @@ use Prim.Native.Nat.{ℕ, zero, suc}
 use mathlib.Core.Option.{Option, none, some}
 use mathlib.Core.List.{List, [], ◌∷◌, ◌++◌}
 use seplogic.Ra.Ura.{Ura}
-use seplogic.Ra.TreeShare.{full_share}
-use mir.Syntax.{Ty, Body, Arms, arm, default, no_default, skip, seq, assign, block, loop, cond, switch, exit, return, call}
+use base.Fraction.{full_share}
+use mir.Syntax.{Ty, Body, Arms, arm, default, no_default, skip, seq, assign, block, loop, cond, switch, exit, return, unreachable, call, call_v, lend_static}
 use mir.Val.{Val}
 use base.Logic.{SProp, ent, sep, emp, id⊢, via, comm∗, assoc∗, assoc', mono_l, mono_r, fst∗}
 use base.Fml.{fat, froom, fdies}
@@ -80,7 +80,10 @@ rest (cond c a b) = skip
 rest (switch c arms) = skip
 rest (exit n) = skip
 rest return = skip
+rest unreachable = skip
 rest (call f xs d) = skip
+rest (call_v f xs ys d) = skip
+rest (lend_static x y z) = skip
 
 abbrev pub behind : ℕ → Body → Body
 behind zero b = b
@@ -102,4 +105,7 @@ arm-of n (loop b) = skip
 arm-of n (cond c a b) = skip
 arm-of n (exit m) = skip
 arm-of n return = skip
+arm-of n unreachable = skip
 arm-of n (call f xs d) = skip
+arm-of n (call_v f xs ys d) = skip
+arm-of n (lend_static x y z) = skip

@@ -7,14 +7,14 @@ use Prim.Native.Nat.{ℕ}
 use mathlib.Core.List.{List, [], ◌∷◌}
 use lib.Dec.{T}
 use seplogic.Ra.Ura.{Ura}
-use seplogic.Ra.TreeShare.{full_share}
+use base.Fraction.{full_share}
 use mir.Syntax.{Width, w64, Ty, Lifetime, ty_int, ty_array, int_big}
 use mir.Val.{Val, Fits, vint, vptr, WT, has_ty}
 use base.Logic.{via, guard_i}
-use base.Fml.{GName, Fml, fsep, fat, flft, flent}
+use base.Fml.{Fml, fsep, fat, flft, flent}
 use prog.Wp.{Env}
 use types.Logic.{Logic}
-use types.Kit.{Item, Goal, Soaks, Seq, Step, step, ‵, ◌⊛◌, some, later, ◌$◌, move, use1, split, pick, rewrite, fsplit, fjoin, fpick, fpack, await}
+use types.Kit.{Item, Goal, Soaks, Seq, Step, step, ‵, ◌⊛◌, later, ◌$◌, move, use1, split, rewrite, fsplit, fjoin, fpick, fpack, await}
 use types.Run.{Opd}
 use types.Tokens.{lft_new, lft_end, lent_back}
 use denote.RattleType.{RattleType}
@@ -23,7 +23,8 @@ use denote.Laws.{Is, Tells, shows}
 use denote.Plain.{UInt, uint_vals, uint_Tells, uint_Makes, uint_Lawful}
 use denote.Array.{Array, array_vals, Array-Tells, Array-Makes, Array-Lawful}
 use denote.Ref.{Bor, ShrRef}
-use denote.Lend.{lends_shr}
+use denote.Lend.{lends_free}
+use denote.Copied.{uint_Copied, Array-Copied}
 use denote.Steps.{facts, owned, only}
 
 abbrev pub Numbers : Width → ℕ → RattleType
@@ -50,21 +51,22 @@ module _ (w : Width) (n : ℕ) where
       abbrev pub In : Fml
       In = fat full_share (cells w n) l 0 (aval xs)
 
-      abbrev pub ref : GName → Bor (List ℕ)
-      ref γ = record { ref_ptr = (l, 0); now = xs }
+      abbrev pub ref : Bor (List ℕ)
+      ref = record { ref_ptr = (l, 0); now = xs }
 
       abbrev pub Away : ℕ → Fml
       Away ν = flent (ν ∷ []) (part_at (Numbers w n) full_share xs l 0)
 
       module _ {M : Type 1} {𝓤 : Ura M} {𝓛 : Logic 𝓤} {K : Type 0} {Γ : List (Item 𝓤)} {G : Goal 𝓤 𝓛.H} where
         pub lends_local : K → Soaks G → (ℓ : Lifetime) → NumbersAre
-            → ((ν : ℕ) (γ : GName) → Seq K 𝓛 (‵ ((ShrRef ℓ (ν ∷ []) (Numbers w n)).own_val (ref γ) (vptr l 0 ∷ [])) ∷ ‵ (flft (ν ∷ []) full_share) ∷ ‵ (Away ν) ∷ Γ) G) → Seq K 𝓛 (‵ In ∷ Γ) G
+            → ((ν : ℕ) → Seq K 𝓛 (‵ ((ShrRef ℓ (ν ∷ []) (Numbers w n)).own_val ref (vptr l 0 ∷ [])) ∷ ‵ (flft (ν ∷ []) full_share) ∷ ‵ (Away ν) ∷ Γ) G) → Seq K 𝓛 (‵ In ∷ Γ) G
         unfolding part_of
         lends_local t z ℓ is k =
             lft_new t z (λ ν. owned t (Numbers w n) (Is (Numbers w n)) (Array-Makes 𝓛 (UInt w) (uint_Makes 𝓛 w) n) xs (aval xs ∷ []) is $ move t (2 ∷ 0 ∷ []) $ fjoin t $
             fpack t (List Val) (λ vs. fsep (cell_at full_share (Numbers w n).mir vs l 0) ((Numbers w n).own_val xs vs)) (aval xs ∷ []) $
-            use1 𝓛 (later (some (λ (γ : GName). ‵ ((ShrRef ℓ (ν ∷ []) (Numbers w n)).own_val (ref γ) (vptr l 0 ∷ [])) ⊛ ‵ (Away ν)))) (lends_shr 𝓛 (Numbers w n) ℓ (ν ∷ []) full_share xs l 0) $
-            await t z $ pick t (λ γ. split t $ move t (0 ∷ 2 ∷ []) $ k ν γ))
+            use1 𝓛 (later (‵ ((ShrRef ℓ (ν ∷ []) (Numbers w n)).own_val ref (vptr l 0 ∷ [])) ⊛ ‵ (Away ν)))
+            (lends_free 𝓛 (Numbers w n) ℓ (ν ∷ []) full_share xs l 0 ((Array-Copied 𝓛 (UInt w) (uint_Copied 𝓛 w) tt n).lends full_share xs l 0)) $
+            await t z $ split t $ move t (0 ∷ 2 ∷ []) $ k ν)
 
         pub local_back : K → Soaks G → (ν : ℕ) → Step K 𝓛 (‵ In ∷ Γ) G (‵ (flft (ν ∷ []) full_share) ∷ ‵ (Away ν) ∷ Γ) G
         unfolding part_of

@@ -1,1 +1,2 @@
 // What the proofs of functions over borrowed memory share: no code, only laws in proofs/.
+#![tactic(auto)]
