@@ -8,7 +8,7 @@ use text::lexer::{Kind, Token};
 use text::parser::Line;
 
 // A token, and the place after its line of the list.
-#[derive(Drop)]
+#[derive(Clone, Copy)]
 pub struct Entry {
     pub tag: u8,
     pub kind: u8,
@@ -19,7 +19,7 @@ pub struct Entry {
 }
 
 // How a kind stands in the list: its letter and its number.
-#[derive(Drop)]
+#[derive(Clone, Copy)]
 pub struct Spelling {
     pub letter: u8,
     pub value: u64,

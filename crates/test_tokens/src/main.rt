@@ -1,19 +1,24 @@
 // Reads lines with the tokens that the oracle reads of them, and compares what `tokenize` reads. Writes the number of each
 // record that differs, then counts.
+#![tactic(auto)]
+
 ghost use Rattle.std.specs.Prelude.{◌≡◌, ◌<◌, ◌≤◌, length, take};
 
 mod list;
 mod tally;
 
 use list::is_answer;
+use std::io;
+use std::io::Write;
 use std::num::wrapping_add_usize;
 use tally::Tally;
+use test_replay::list::read_full;
 use test_replay::report::put_verdict;
 use text::parser::Line;
 use text_lexical::bytes::Class;
 
 // What comparing a record gave: its line as it is read within a text, and whether that agrees.
-#[derive(Drop)]
+#[derive(Clone, Copy)]
 struct Compared {
     line: Line,
     agrees: bool,
@@ -69,10 +74,20 @@ fn compare(list: &[u8], room: &mut [u8]) -> usize
     tally.put(room, end)
 }
 
-fn main() {
-    let mut list = [0u8; 131072];
-    let n = io::read_full(0, &mut list);
-    let mut report = [0u8; 65536];
+// A room for a list.
+fn list_room() -> [u8; 131072] {
+    [0u8; 131072]
+}
+
+// A room for a report.
+fn report_room() -> [u8; 65536] {
+    [0u8; 65536]
+}
+
+fn main(rt: HostRuntime) -> io::Result<()> {
+    let mut list = list_room();
+    let n = read_full(&mut rt.stdin(), &mut list)?;
+    let mut report = report_room();
     let end = compare(&list[..n], &mut report);
-    io::write_all(1, &report[..end]);
+    rt.stdout().write_all(&report[..end])
 }

@@ -7,7 +7,7 @@ use test_replay::tally::more;
 use text::lexer::Kind;
 use text::parser::Line;
 
-#[derive(Drop)]
+#[derive(Clone, Copy)]
 pub struct Tally {
     pub lines: u64,
     pub differences: u64,

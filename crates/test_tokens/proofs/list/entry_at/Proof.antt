@@ -10,18 +10,18 @@ unfolding entry_at behind
 returns c =
     let k = c.before.before.before.before in
     rw (
-      c.before.byte-at2.ensures,
-      c.before.before.wrapping-add-usize2.ensures,
-      c.wrapping-add-u64.ensures,
+      c.before.byte_at-2.ensures,
+      c.before.before.wrapping_add_usize-2.ensures,
+      c.wrapping_add_u64.ensures,
       c.before.before.before.byte_at.ensures,
-      k.number-at3.ensures,
-      k.before.number-at2.ensures,
-      k.before.before.number_at.ensures,
-      k.before.before.before.wrapping-add-usize.ensures,
+      k.number_at-value.ensures,
+      k.before.number_at-length.ensures,
+      k.before.before.number_at-start.ensures,
+      k.before.before.before.wrapping_add_usize.ensures,
     )
 
-pub entry-at-spec : {M : Type 1} → statement M
-entry-at-spec =
+pub entry_at_spec : {M : Type 1} → statement M
+entry_at_spec =
     tie.close
     (tie.spec (search rules) (search rules) (search rules) (search rules) (search rules) (search rules)
     (search rules) (search rules) returns)
