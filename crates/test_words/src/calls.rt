@@ -7,14 +7,14 @@ use instruction_operands::assembler::Parsed;
 use text_lexical::bytes::Class;
 
 // The text of an instruction in the room: how long it was said to be, and where it ends.
-#[derive(Drop)]
+#[derive(Clone, Copy)]
 pub struct Text {
     pub length: usize,
     pub end: usize,
 }
 
 // What a line is read as: an instruction, or the number of its refusal.
-#[derive(Drop)]
+#[derive(Clone, Copy)]
 pub(crate) enum Line {
     Is(Instruction),
     Refused(u8),

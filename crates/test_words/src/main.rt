@@ -1,5 +1,7 @@
 // Reads lines of one instruction with the oracle's words and texts for them, and words alone, and compares what
 // the crates of the instruction layer make of them. Writes the number of each record that differs, then counts.
+#![tactic(auto)]
+
 ghost use Rattle.std.specs.Prelude.{◌≡◌, ◌<◌, ◌≤◌, length, take};
 ghost use Rattle.test_replay.specs.Report.{Put};
 ghost use Rattle.test_replay.specs.Tally.{tally_text};
@@ -11,8 +13,10 @@ mod list;
 use instruction::instruction::Instruction;
 use instruction_codec::encoder::Decoded;
 use list::{after_text, has_text, refusal};
+use std::io;
+use std::io::Write;
 use std::num::wrapping_add_usize;
-use test_replay::list::{byte_at, has_tag};
+use test_replay::list::{byte_at, has_tag, read_full};
 use test_replay::report::put_verdict;
 use test_replay::tally::{Outcome, Tally, agrees};
 
@@ -137,10 +141,20 @@ fn compare(list: &[u8], room: &mut [u8]) -> usize
     put_counts(tally, room, end)
 }
 
-fn main() {
-    let mut list = [0u8; 524288];
-    let n = io::read_full(0, &mut list);
-    let mut report = [0u8; 131072];
+// A room for a list.
+fn list_room() -> [u8; 524288] {
+    [0u8; 524288]
+}
+
+// A room for a report.
+fn report_room() -> [u8; 131072] {
+    [0u8; 131072]
+}
+
+fn main(rt: HostRuntime) -> io::Result<()> {
+    let mut list = list_room();
+    let n = read_full(&mut rt.stdin(), &mut list)?;
+    let mut report = report_room();
     let end = compare(&list[..n], &mut report);
-    io::write_all(1, &report[..end]);
+    rt.stdout().write_all(&report[..end])
 }

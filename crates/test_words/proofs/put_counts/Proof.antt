@@ -9,5 +9,5 @@ returns : tie.Need-returns
 unfolding counts bytes
 returns c = c.before.before.put.ensures
 
-pub put-counts-spec : {M : Type 1} → statement M
-put-counts-spec = tie.close (tie.spec (search rules) (search rules) returns)
+pub put_counts_spec : {M : Type 1} → statement M
+put_counts_spec = tie.close (tie.spec (search rules) (search rules) returns)

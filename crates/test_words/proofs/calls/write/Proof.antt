@@ -7,11 +7,11 @@ use Rattle.test_words.proofs.calls.write.Tie as tie
 parted : (end : ℕ) (room : List ℕ) → end ≤ length room → (end ≤ length room) × (end ≡ length (take end room))
 parted end room h = (h, sym (length-take-le _ room h))
 
-write-instruction-requires : tie.Need-write-instruction-requires
+write-instruction-requires : tie.Need-write_instruction-end-requires
 write-instruction-requires c κs =
     let m = c.before.before in
     let f = m.before.before in
-    (f.mnemonics.ensures, omega (arith, m.instruction-length.ensures.0, m.instruction-length.ensures.1, f.before.before.requires))
+    (f.mnemonics-mnemonics.ensures, omega (arith, m.instruction_length-length.ensures.0, m.instruction_length-length.ensures.1, f.before.before.requires))
 
 returns : tie.Need-returns
 returns c = parted _ _ (search rules)
