@@ -57,15 +57,15 @@ module _ (names : List Name) (source : List ℕ) (room : ℕ) (image image' : Li
 -- ---- the bytes that a call has filled
 
 module _ {names : List Name} {source : List ℕ} (c : AcceptedCall names source) where
-  is_accepted : Accepted names source (length c.table) (length c.image)
-  is_accepted = accepts _ (answer_meant c.answer) c.promised.answer c.not_refused
+  accepted-here : Accepted names source (length c.table) (length c.image)
+  accepted-here = accepts _ (answer_meant c.answer) c.promised.answer c.not_refused
 
   -- They are the source's image.
   filled-image : filled c ≡ image_of names source
   filled-image =
       let room = length c.table in
-      let a = answers names source room c.image c.image' (answer_meant c.answer) c.promised.answer c.promised.image_holds is_accepted in
-      let f = fills names source room c.image c.image' (answer_meant c.answer) c.promised.answer c.promised.image_holds is_accepted in
+      let a = answers names source room c.image c.image' (answer_meant c.answer) c.promised.answer c.promised.image_holds accepted-here in
+      let f = fills names source room c.image c.image' (answer_meant c.answer) c.promised.answer c.promised.image_holds accepted-here in
       ap₂ (λ (n : ℕ) (x : List ℕ). take (32 + 4 * n) x) (ap word_count a) f
       ∙ ap (λ (n : ℕ). take n (over (image_of names source) c.image)) (sym (source-image-length names source))
       ∙ take-over (image_of names source) c.image
@@ -146,7 +146,7 @@ called-has-source names bs h =
       source = h.source;
       table = length c.table;
       size = length c.image;
-      is_accepted = is_accepted c;
+      is_accepted = accepted-here c;
       same_image = sym (filled-image c) ∙ h.fills;
     }
 
@@ -165,7 +165,7 @@ calls =
       fills_text = λ image text text' r h k. is-written image text text' r h k;
       equal_images = λ N N' s s' c c'.
           filled-tell c c'
-          (demand-3.images_tell N N' s s' (length c.table) (length c'.table) (length c.image) (length c'.image) (is_accepted c) (is_accepted c'));
+          (demand-3.images_tell N N' s s' (length c.table) (length c'.table) (length c.image) (length c'.image) (accepted-here c) (accepted-here c'));
       lists_exactly = λ N bs text text' r b h.
           let (to, from) = demand-3.lists_exactly N bs (length text) b in (
             (λ u. let k = is-listed bs text text' r h u in (listed-has-call N bs (length text) b k, (to k).1)),

@@ -11,7 +11,7 @@ use image_passes::first_pass::{Outcome, Pass, Verdict};
 use image_passes::second_pass::Fill;
 
 // What assembling answers. The labels are those that have been entered into the table.
-#[derive(Drop)]
+#[derive(Clone, Copy)]
 pub enum Assembled {
     Is {
         words: usize,

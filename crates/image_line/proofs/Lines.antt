@@ -54,7 +54,7 @@ unfolding each is_some present numbered conventional name bytes row_named find t
 no-mnemonics = refl
 
 unnamed : (names : List Name) → NoMnemonics names → (u : List ℕ) (o : Option Name) → named names u ≡ o → is_some (row_named (map lower u)) ≡ true → name_number o ≡ none
-unfolding named not
+unfolding named
 unnamed names free u none e h = refl
 unnamed names free u (some n) e h =
     let (p, q) = found (λ x. same x.spelling u) (λ x. not (is_some (row_named (map lower x.spelling)))) names n e free in

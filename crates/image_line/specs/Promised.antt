@@ -11,7 +11,6 @@ use Rattle.text_lexical.specs.declared.name.RegisterWord.{RegisterWord}
 use Rattle.text_lexical.specs.declared.name.RegisterWord.TheVariants.{Is as IsRegister, Other as NoRegister}
 use Rattle.text_lexical.specs.declared.number.Whole.{Whole}
 use Rattle.text_lexical.specs.declared.register.Register.{Register}
-use Rattle.text_lexical.specs.declared.register.Register.TheVariants.{R0}
 use Rattle.text.specs.Tokens.{Token, identifier, register, colon, infront, tokens}
 use Rattle.text.specs.Lines.{indent, kept as most-kept, read_line}
 use Rattle.text.specs.Places.{rest_at, left_at, end_at}

@@ -16,14 +16,14 @@ use text_lexical::number::Whole;
 use text_lexical::register::Register;
 
 // Whether a line begins with a label, and the label's length: 0 without one.
-#[derive(Drop)]
+#[derive(Clone, Copy)]
 pub(crate) struct LabelPart {
     pub(crate) labelled: bool,
     pub(crate) length: usize,
 }
 
 // What a line reads as, if its bytes tell.
-#[derive(Drop)]
+#[derive(Clone, Copy)]
 pub(crate) enum Fast {
     // An instruction, after a label or not: its row in the table and its operands.
     Instruction {
@@ -42,7 +42,7 @@ pub(crate) enum Fast {
 }
 
 // The first word of a line, its label aside: its key and its end; or the place where no word begins.
-#[derive(Drop)]
+#[derive(Clone, Copy)]
 enum FirstWord {
     Is {
         label: LabelPart,
@@ -56,7 +56,7 @@ enum FirstWord {
 }
 
 // An operand, and the place after it.
-#[derive(Drop)]
+#[derive(Clone, Copy)]
 enum OperandAt {
     Register { register: Register, next: usize },
     Number { number: Whole, next: usize },
@@ -64,7 +64,7 @@ enum OperandAt {
 }
 
 // The operands of an instruction, up to the line's end.
-#[derive(Drop)]
+#[derive(Clone, Copy)]
 enum Tail {
     Are { operands: Operands, end: usize },
     Other,

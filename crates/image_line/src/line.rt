@@ -9,7 +9,7 @@ use instruction::instruction::Operands;
 use text_lexical::bytes::Class;
 
 // What a line does, its label aside.
-#[derive(Drop)]
+#[derive(Clone, Copy)]
 pub enum Effect {
     Nothing,
     Sets(Config),
@@ -21,7 +21,7 @@ pub enum Effect {
 
 // What a line reads as: whether it has a label, where its content starts, the label's length (0 without one), what the line does then, and
 // where it ends; of a line with a bad token nobody asks for the end, and the content's start stands there.
-#[derive(Drop)]
+#[derive(Clone, Copy)]
 pub struct Read {
     pub labelled: bool,
     pub start: usize,

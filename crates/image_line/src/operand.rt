@@ -11,20 +11,20 @@ use text_lexical::bytes::Class;
 use text_lexical::name::RegisterWord;
 
 // A token that may be a number, by its kind.
-#[derive(Drop)]
+#[derive(Clone, Copy)]
 pub(crate) enum NumberAt {
     Is { kind: Kind, next: usize },
     Other,
 }
 
 // The place after the mark that follows an operand.
-#[derive(Drop)]
+#[derive(Clone, Copy)]
 pub(crate) enum AfterMark {
     At(usize),
     Other,
 }
 
-#[derive(Drop)]
+#[derive(Clone, Copy)]
 pub(crate) enum EndAt {
     Is(usize),
     Other,

@@ -16,7 +16,7 @@ use instruction_operands::assembler::Parsed;
 use text::lexer::Kind;
 use text::parser::Line;
 
-#[derive(Drop)]
+#[derive(Clone, Copy)]
 enum LineKind {
     Empty,
     Label,

@@ -14,7 +14,7 @@ use image::limits::{ENTRY, HEADER_SIZE, MOST_CODE, STACK_SIZE};
 use image::program::{Opened, ProgramHeader};
 use instruction_codec::encoder::Decoded;
 
-#[derive(Drop)]
+#[derive(Clone, Copy)]
 pub enum Listing {
     // the length of the text
     Is(usize),
@@ -26,13 +26,13 @@ pub enum Listing {
 }
 
 // How long the texts of all words are together.
-#[derive(Drop)]
+#[derive(Clone, Copy)]
 enum Measured {
     Is(usize),
     Faulty { number: u8, index: usize },
 }
 
-#[derive(Drop)]
+#[derive(Clone, Copy)]
 enum WordLength {
     Is(usize),
     Refused(u8),

@@ -1,2 +1,4 @@
 // Listing: the text of an image.
+#![tactic(auto)]
+
 pub mod disassembler;

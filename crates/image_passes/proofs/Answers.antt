@@ -23,7 +23,7 @@ use Rattle.image.specs.Program.{header_bytes, header_for, header_size, image, im
 use Rattle.image.specs.Assembling.{Label, State, start, Step, next, stop, read_on, entering, doing, step, context_of, Walk, finished, stopped, walk, Refusal, Assembled, accepted, rejected, refusing, read_to, most_bytes, reading}
 use Rattle.image.specs.Meaning.{instructions_of, settings_of, image_of}
 use Rattle.image.specs.Promised.{settings_meant, config_for}
-use Rattle.image_passes.specs.Promised.{all_read, code_bytes, refused_at, first_line, begun, Begins, Accepts, WalkEnds, Ready, Fills}
+use Rattle.image_passes.specs.Promised.{all_read, code_bytes, refused_at, first_line, begun, Begins, Accepts, Ready, Fills}
 use Rattle.image.specs.declared.config.Config.{Config}
 use Rattle.image_passes.specs.declared.first_pass.Next.{Next}
 use Rattle.image_passes.specs.declared.first_pass.Next.TheVariants.{From, Ended as NextEnded}

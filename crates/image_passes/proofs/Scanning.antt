@@ -38,7 +38,7 @@ use Rattle.image_passes.specs.declared.first_pass.Outcome.{Outcome}
 use Rattle.image_passes.specs.declared.first_pass.LabelLine.{LabelLine}
 use Rattle.image_passes.specs.declared.first_pass.Rest.{Rest}
 use Rattle.image_passes.specs.declared.first_pass.Rest.TheVariants.{Refused, Done}
-use Rattle.image_passes.proofs.Reaching.{comes_to, whole, Clean, Reached, LabelNext, Progress, LineNext, Resumes, with_entry, label_at}
+use Rattle.image_passes.proofs.Reaching.{comes_to, whole, Clean, Reached, LabelNext, Progress, Resumes, with_entry, label_at}
 use Rattle.image_passes.proofs.Passes.{line-split}
 use Rattle.image_passes.proofs.Spelling.{label-part}
 use Rattle.image_passes.proofs.Steps.{grown, RestDone, rest-is, rest_fits, comes-to}

@@ -10,7 +10,7 @@ use lib.Dec.{eqb}
 use Rattle.text_lexical.specs.Bytes.{bytes, same}
 use Rattle.text_lexical.specs.Names.{Name}
 use Rattle.text.specs.Tokens.{Token as MeantToken}
-use Rattle.text.specs.Lines.{indent, read_line}
+use Rattle.text.specs.Lines.{indent}
 use Rattle.text.specs.Lines.{Line as Record}
 use Rattle.text.specs.Places.{rest_at}
 use Rattle.text.specs.NameSets.{Naming}
@@ -23,7 +23,7 @@ use Rattle.text.proofs.Recording.{unless_bad, line_read_lem}
 use Rattle.instruction.specs.Operands.{mark_byte}
 use Rattle.instruction.specs.Kinds.{Kind, empty, labelled, config, ignored, plain, identifier_kind, kind_of}
 use Rattle.image.specs.Settings.{Settings}
-use Rattle.image.specs.Assembling.{Context, Read as MeantRead, read_kind, read_on}
+use Rattle.image.specs.Assembling.{Context, read_kind, read_on}
 use Rattle.image_passes.specs.Promised.{read_at}
 
 no_label : {X : Type 0} {u : List ℕ} → ◌≡◌ {A = Option (List ℕ)} none (some u) → X

@@ -14,14 +14,14 @@ use image_labels::label::{Entered, Label};
 use image_line::line::Effect;
 
 // What the first walk does next: it reads on from a line, or it has ended.
-#[derive(Drop)]
+#[derive(Clone, Copy)]
 pub enum Next {
     From(Cursor),
     Ended(Outcome),
 }
 
 // A line that is to be read: where it begins, its number, and the labels, words and settings before it.
-#[derive(Drop)]
+#[derive(Clone, Copy)]
 pub struct Cursor {
     pub at: usize,
     pub line: usize,
@@ -31,14 +31,14 @@ pub struct Cursor {
 }
 
 // Where the first walk comes to as it reads on: to a label that is to be entered, or to its end.
-#[derive(Drop)]
+#[derive(Clone, Copy)]
 pub enum Pass {
     AtLabel(LabelLine),
     Ended(Outcome),
 }
 
 // A line whose label is to be entered, after `labels` others, and what the rest of the line comes to.
-#[derive(Drop)]
+#[derive(Clone, Copy)]
 pub struct LabelLine {
     pub label: Label,
     pub labels: usize,
@@ -47,7 +47,7 @@ pub struct LabelLine {
 }
 
 // What a line comes to, its label aside.
-#[derive(Drop)]
+#[derive(Clone, Copy)]
 pub enum Rest {
     // The number of the refusal.
     Refused(u8),
@@ -60,13 +60,13 @@ pub enum Rest {
 }
 
 // How the first walk has ended, and how many labels have been entered.
-#[derive(Drop)]
+#[derive(Clone, Copy)]
 pub struct Outcome {
     pub labels: usize,
     pub verdict: Verdict,
 }
 
-#[derive(Drop)]
+#[derive(Clone, Copy)]
 pub enum Verdict {
     // The number of the refusal, the Rust's line and the true line.
     Refused {

@@ -16,21 +16,21 @@ use image_line::line::Effect;
 use instruction::instruction::{Instruction, Operands};
 
 // Whether an image buffer is filled, or the length that is needed.
-#[derive(Drop)]
+#[derive(Clone, Copy)]
 pub enum Fill {
     Filled,
     TooShort(usize),
 }
 
 // The word of a line, if it has one.
-#[derive(Drop)]
+#[derive(Clone, Copy)]
 enum Coded {
     Word(u32),
     Nothing,
 }
 
 // A line's word, the settings after the line, and where it ends.
-#[derive(Drop)]
+#[derive(Clone, Copy)]
 struct CodedLine {
     coded: Coded,
     config: Config,

@@ -7,5 +7,5 @@ use Rattle.image_assembler.proofs.assembler.empty_roots.Tie as tie
 returns : tie.Need-returns
 returns c = bare 4096 (lit< tt) (lit≤ tt)
 
-pub empty-roots-spec : {M : Type 1} → statement M
-empty-roots-spec = tie.close (tie.spec returns)
+pub empty_roots_spec : {M : Type 1} → statement M
+empty_roots_spec = tie.close (tie.spec returns)

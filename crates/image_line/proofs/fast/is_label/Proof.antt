@@ -20,21 +20,17 @@ use borrow.Author.Rules.{rules}
 use Rattle.image_line.proofs.fast.is_label.Statement.{statement}
 use Rattle.image_line.proofs.fast.is_label.Tie as tie
 
-returns : tie.Need-returns
-returns c = let a = c.before.before.args in no_byte present a.source.now a.at a.end c.if1.true
+returns : tie.Need-returns-then-source-end
+returns c = let a = c.before.before.args in no_byte present a.source.now a.at a.end c.if-source-end.true
 
-returns-2 : tie.Need-returns-2
-returns-2 c = let a = c.before.before.before.before.args in no-colon present a.source.now a.at a.end c.if2.true
-
-enum_told : tie.Need-enum-told
+enum_told : tie.Need-enum_told-1
 enum_told c = search rules
 
-returns-3 : tie.Need-returns-3
+returns-3 : tie.Need-returns-in-Other
 returns-3 c =
-    let p = c.before.before in
-    let e = p.before.before.before in
-    let a = e.before.before.before.before.args in
-    no_name present a.source.now a.at a.end e.if2.false (sym (rw c.enum_told.given.1 at p.parse-register.ensures))
+    let p = c.before in
+    let a = p.before.before.before.before.before.before.before.args in
+    no_name present a.source.now a.at a.end (search rules) (sym (rw c.in-Other.is at p.parse_register.ensures))
 
 -- The places of the answers that name a register, whether it exists or not.
 abbrev names : List ℕ
@@ -46,24 +42,23 @@ register-named s at end (Is r) h c e = a-name present s at end _ c (sym e)
 register-named s at end NoSuch h c e = a-name present s at end _ c (sym e)
 register-named s at end Other h c e = absurd (miss names 2 tt h)
 
-returns-4 : tie.Need-returns-4
+returns-4 : tie.Need-returns-in_default
 returns-4 c =
     let p = c.before in
-    let e = p.before.before.before in
-    let a = e.before.before.before.before.args in
-    register-named a.source.now a.at a.end p.parse-register.result c.match.keys2 e.if2.false p.parse-register.ensures
+    let a = p.before.before.before.before.before.before.before.args in
+    register-named a.source.now a.at a.end p.parse_register.result c.in_default.in_default-own.keys2 (search rules) p.parse_register.ensures
 
-returns-5 : tie.Need-returns-5
+returns-5 : tie.Need-returns
 returns-5 c =
-    let e = c.before in
-    let b = e.before.before.before.before in
-    let a = b.args in
+    let a = c.before.before.before.before.before.args in
     let s = a.source.now in
-    no_name present s a.at a.end e.if2.false
-    (long-none (part s a.at (a.end - a.at)) (omega (arith, c.if3.false, length-take (a.end - a.at) (drop a.at s), length-drop a.at s)))
+    no_name present s a.at a.end (search rules)
+    (long-none (part s a.at (a.end - a.at)) (omega (arith, length-take (a.end - a.at) (drop a.at s), length-drop a.at s)))
 
-pub is-label-spec : {M : Type 1} → statement M
-is-label-spec =
+pub is_label_spec : {M : Type 1} → statement M
+is_label_spec =
     tie.close
-    (tie.spec returns (λ c. search rules) returns-2 (λ c. search rules) (λ c. search rules) (λ c. search rules)
-    (λ c. search rules) (λ c κs. search rules) enum_told returns-3 returns-4 returns-5)
+    (tie.spec returns (λ c. search rules)
+    (λ c. let a = c.before.before.before.before.args in no-colon present a.source.now a.at a.end (search rules))
+    (λ c. search rules) (λ c. search rules) (λ c. search rules) (λ c. search rules) (λ c κs. search rules) enum_told
+    returns-3 returns-4 returns-5)

@@ -11,52 +11,52 @@ use borrow.Author.Rules.{rules}
 use Rattle.image_line.proofs.fast.read_fast.Statement.{statement}
 use Rattle.image_line.proofs.fast.read_fast.Tie as tie
 
-first-word-requires : tie.Need-first-word-requires
+first-word-requires : tie.Need-first_word-requires
 first-word-requires c κs = c.before.requires.0.in_text
 
-end-at-requires : tie.Need-end-at-requires
-end-at-requires c κs = let m = c.before in (rw m.label.given.1 at m.before.before.first_word.ensures).in_text
+end-at-requires : tie.Need-end_at-requires
+end-at-requires c κs = let m = c in (rw m.in-Missing.is at m.before.first_word.ensures).in_text
 
-below : (c : tie.After-shared-slice-known) → Below c.before.args.source.now
-below c = λ i. omega (arith, c.shared-slice-known.given i)
+below : (c : tie.After-shared_slice_known-1) → Below c.before.args.source.now
+below c = λ i. omega (arith, c.shared_slice_known-1.given i)
 
-looked : (c : tie.After-known-told4) → c.before.row.given.0.0 < 50
+looked : (c : tie.In-At) → c.in-At.row < 50
 looked c =
-    let f = c.before.before.before in
-    let m = f.before.before in
-    let w = m.before.before in
-    (word_row (rw m.label2.given.1 at w.first_word.ensures) present-naming no-mnemonics (below w.before) f.find-mnemonic.result _ f.find-mnemonic.ensures c.before.row.given.1).0
+    let f = c.before in
+    let m = f.before in
+    let w = m.before in
+    (word_row (rw m.in-Is.is at w.first_word.ensures) present-naming no-mnemonics (below w.before) f.find_mnemonic.result _ f.find_mnemonic.ensures c.in-At.is).0
 
-element-copy-out-read-tail : tie.Need-element-copy-out-read-tail
-element-copy-out-read-tail c = looked c
+element-copy-out-read-tail : tie.Need-bounds-forms-row
+element-copy-out-read-tail c = looked c.before
 
-read-tail-requires : tie.Need-read-tail-requires
-read-tail-requires c κs = let m = c.before.before.before.before.before.before in word-ends (rw m.label2.given.1 at m.before.before.first_word.ensures)
+read-tail-requires : tie.Need-read_tail-requires
+read-tail-requires c κs = let m = c.before.before.before.before in word-ends (rw m.in-Is.is at m.before.first_word.ensures)
 
-returns-2 : tie.Need-returns-2
+returns-2 : tie.Need-returns-in-Is-end_at
 returns-2 c =
-    let e = c.before in
-    let m = e.before.before.before.before in
-    let b = m.before.before.before.before in
-    let (n, k) = rw e.end.given.1 at e.before.before.end-at.ensures in
-    bare-line present b.args.source.now b.args.start b.requires.0 _ _ _ (rw m.label.given.1 at m.before.before.first_word.ensures).label n k
+    let e = c in
+    let m = e.before.before in
+    let b = m.before.before.before in
+    let (n, k) = rw e.in-Is-end_at.is at e.before.end_at.ensures in
+    bare-line present b.args.source.now b.args.start b.requires.0 _ _ _ (rw m.in-Missing.is at m.before.first_word.ensures).label n k
 
-returns-5 : tie.Need-returns-5
+returns-5 : tie.Need-returns-in-Are
 unfolding form_numbers
 returns-5 c =
-    let o = c.before in
-    let t = o.before.before in
+    let o = c in
+    let t = o.before in
     let k = t.before.before in
-    let f = k.before.before.before in
+    let f = k.before in
     let m = f.before.before in
-    let w = m.before.before in
+    let w = m.before in
     let g = w.before in
     let b = g.before in
-    word_line present b.args.source.now b.args.start b.requires.0 (rw m.label2.given.1 at w.first_word.ensures) present-naming no-mnemonics (below g) f.find-mnemonic.result _ _
-    f.find-mnemonic.ensures k.before.row.given.1 (rw b.requires.1.form_column (form_column k.before.row.given.0.0 (looked k))) _ _ (rw o.operands.given.1 at t.read-tail.ensures)
+    word_line present b.args.source.now b.args.start b.requires.0 (rw m.in-Is.is at w.first_word.ensures) present-naming no-mnemonics (below g) f.before.find_mnemonic.result _ _
+    f.before.find_mnemonic.ensures k.before.in-At.is (rw b.requires.1.form_column (form_column k.before.in-At.row (looked k.before))) _ _ (rw o.in-Are.is at t.read_tail.ensures)
 
-pub read-fast-spec : {M : Type 1} → statement M
-read-fast-spec =
+pub read_fast_spec : {M : Type 1} → statement M
+read_fast_spec =
     tie.close
     (tie.spec first-word-requires (λ c. search rules) end-at-requires (λ c. search rules) (λ c. search rules)
     (λ c. search rules) (λ c κs. search rules) (λ c. search rules) (λ c. search rules) element-copy-out-read-tail

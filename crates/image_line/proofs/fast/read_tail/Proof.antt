@@ -1,68 +1,72 @@
 -- `image_line::fast::read_tail` meets its contract. The loop's invariant: what has been read of the operands, and which are left to read.
-use mathlib.Core.Logic.{⊎_elim}
 use native.Mathlib.Omega.{arith}
 use borrow.Author.Rules.{rules}
 use Rattle.text_lexical.specs.Names.{present}
 use Rattle.instruction.specs.Promised.{form_at}
 use Rattle.instruction.proofs.Forms.{form-ahead}
 use Rattle.image_line.proofs.Operands.{OperandsUpTo, operands_begin, room-ahead, register-next, number-next, mark-next, operands_end}
+use Rattle.image_line.proofs.fast.read_tail.Lts.{in-Number, in-Register}
 use Rattle.image_line.proofs.fast.read_tail.Statement.{statement}
 use Rattle.image_line.proofs.fast.read_tail.Tie as tie
 
-abbrev invariant-loop : tie.invariant-loop
+abbrev invariant-loop : tie.invariant-loop-left
 invariant-loop source from form registers₀ count₀ number₀ at₀ left₀ registers count number at left =
     OperandsUpTo present source from form at left count registers number
 
-abbrev decreases-loop : tie.decreases-loop
+abbrev decreases-loop : tie.decreases-loop-left
 decreases-loop source from form registers₀ count₀ number₀ at₀ left₀ registers count number at left = left
 
-loop-holds : tie.Need-loop-init invariant-loop decreases-loop
+loop-holds : tie.Need-loop-left-init invariant-loop decreases-loop
 loop-holds c =
     let b = c.before.before.before in
-    rw c.before.no_number.ensures (operands_begin b.requires (rw c.operands_of.ensures (form-ahead (form_at b.args.form))))
+    rw c.before.no_number-number.ensures (operands_begin b.requires (rw c.operands_of-left.ensures (form-ahead (form_at b.args.form))))
 
-operand-at-requires : tie.Need-operand-at-requires invariant-loop decreases-loop
-operand-at-requires c κs = c.before.loop.invariant.passed.place
+operand-at-requires : tie.Need-operand_at-requires invariant-loop decreases-loop
+operand-at-requires c κs = c.before.loop-left.invariant.passed.place
 
-array-set-from-registers : tie.Need-array-set-from-registers invariant-loop decreases-loop
+array-set-from-registers : tie.Need-bounds-registers-count invariant-loop decreases-loop
 array-set-from-registers c =
-    let o = c.before.before.before in
+    let o = c.before in
     let l = o.before in
-    let (letter, rd) = rw c.before.register.given.1 at o.Operand-at.ensures in
-    room-ahead l.before.loop.invariant l.loop-test.true letter
+    let (letter, rd) = rw c.in-Register.is at o.operand_at.ensures in
+    room-ahead l.before.loop-left.invariant l.loop-left-test.true letter
 
-add-count : tie.Need-overflow-add-count invariant-loop decreases-loop
+add-count : tie.Need-overflow_add-count invariant-loop decreases-loop
 add-count c = omega (arith, array-set-from-registers c)
 
-after-mark-requires : tie.Need-after-mark-requires invariant-loop decreases-loop
+after-mark-requires : tie.Need-after_mark-requires invariant-loop decreases-loop
 after-mark-requires c κs =
     let o = c.before in
-    ⊎_elim (λ w. let (digit, v) = rw w.1.given.1 at o.Operand-at.ensures in rw w.6 v.reads.in_text)
-    (λ w. let (letter, rd) = rw w.1.given.1 at o.Operand-at.ensures in rw w.6 rd.in_text) c.match.branch
+    elim c.match-operand_at.branch [
+      | in-Number w ↦ let (digit, v) = rw w.in-Number.is at o.operand_at.ensures in rw w.after-is v.reads.in_text
+      | in-Register w ↦ let (letter, rd) = rw w.in-Register.is at o.operand_at.ensures in rw w.after-is rd.in_text
+    ]
 
-loop-again : tie.Need-loop-preserved invariant-loop decreases-loop
+loop-again : tie.Need-loop-left-preserved invariant-loop decreases-loop
 loop-again c =
-    let n = c.before in
-    let m = n.before.before in
+    let n = c in
+    let m = n.before in
     let o = m.before.before in
     let l = o.before in
     let k = l.before in
-    let marked = rw n.next.given.1 at m.after-mark.ensures in
-    ⊎_elim
-    (λ w. let (digit, v) = rw w.1.given.1 at o.Operand-at.ensures in
-    rw (w.3, w.4, w.5) (mark-next (number-next k.loop.invariant l.loop-test.true digit v) (rw w.6 at marked)))
-    (λ w. let (letter, rd) = rw w.1.given.1 at o.Operand-at.ensures in
-    rw (w.3, w.4, w.5) (mark-next (register-next w.1.given.0.0 k.loop.invariant l.loop-test.true letter rd) (rw w.6 at marked)))
-    m.before.match.branch
+    let marked = rw n.in-At.is at m.after_mark.ensures in
+    elim m.before.match-operand_at.branch [
+      | in-Number w ↦
+          let (digit, v) = rw w.in-Number.is at o.operand_at.ensures in
+          rw (w.registers-is, w.count-is, w.number-is) (mark-next (number-next k.loop-left.invariant l.loop-left-test.true digit v) (rw w.after-is at marked))
+      | in-Register w ↦
+          let (letter, rd) = rw w.in-Register.is at o.operand_at.ensures in
+          rw (w.registers-is, w.count-is, w.number-is) (mark-next (register-next w.in-Register.register k.loop-left.invariant l.loop-left-test.true letter rd) (rw w.after-is at marked))
+    ]
 
-tail-at-requires : tie.Need-tail-at-requires invariant-loop decreases-loop
-tail-at-requires c κs = c.before.loop.invariant.passed.place
+tail-at-requires : tie.Need-tail_at-requires invariant-loop decreases-loop
+tail-at-requires c κs = c.before.loop-left.invariant.passed.place
 
-returns-3 : tie.Need-returns-3 invariant-loop decreases-loop
-returns-3 c = let l = c.before in operands_end c.tail_at.result l.before.loop.invariant (λ p. omega (arith, l.loop-test.false)) c.tail_at.ensures
+returns-3 : tie.Need-returns invariant-loop decreases-loop
+returns-3 c = let l = c.before in operands_end c.tail_at.result l.before.loop-left.invariant (λ p. omega (arith, l.loop-left-test.false)) c.tail_at.ensures
 
-pub read-tail-spec : {M : Type 1} → statement M
-read-tail-spec =
+pub read_tail_spec : {M : Type 1} → statement M
+read_tail_spec =
     tie.close
     (tie.spec invariant-loop decreases-loop (λ c κs. search rules) (λ c κs. search rules) loop-holds operand-at-requires
     (λ c. search rules) (λ c. tt) (λ c. search rules) (λ c. search rules) array-set-from-registers add-count

@@ -3,13 +3,13 @@ use borrow.Author.Rules.{rules}
 use Rattle.image_line.proofs.fast.tail_at.Statement.{statement}
 use Rattle.image_line.proofs.fast.tail_at.Tie as tie
 
-returns-2 : tie.Need-returns-2
+returns-2 : tie.Need-returns-in-Is
 returns-2 c =
-    let e = c.before.before in
-    let (n, k) = rw e.end.given.1 at e.before.before.end-at.ensures in
+    let e = c.before in
+    let (n, k) = rw e.in-Is.is at e.before.end_at.ensures in
     record { operands_are = c.new.ensures; nothing_left = n; ends = k }
 
-pub tail-at-spec : {M : Type 1} → statement M
-tail-at-spec =
+pub tail_at_spec : {M : Type 1} → statement M
+tail_at_spec =
     tie.close
     (tie.spec (search rules) (search rules) (search rules) (search rules) (search rules) returns-2)

@@ -7,33 +7,33 @@ use Rattle.text.proofs.Endings.{end-run, line-ends, comment-ends}
 use Rattle.image_line.proofs.operand.end_at.Statement.{statement}
 use Rattle.image_line.proofs.operand.end_at.Tie as tie
 
-line-end-requires : tie.Need-line-end-requires
+line-end-requires : tie.Need-line_end-requires
 line-end-requires c κs =
-    let n = c.before in
-    let e = n.before.before in
+    let n = c in
+    let e = n.before in
     let b = e.before.before in
-    (comment-ends b.args.text.now b.args.from _ b.requires (sym n.stop2.given.1 ∙ e.Ending-at.ensures)).1
+    (comment-ends b.args.text.now b.args.from _ b.requires (sym n.in-Comment.is ∙ e.ending_at.ensures)).1
 
-returns : tie.Need-returns
+returns : tie.Need-returns-in-Line
 returns c =
-    let n = c.before in
-    let e = n.before.before in
+    let n = c in
+    let e = n.before in
     let b = e.before.before in
     let s = b.args.text.now in
-    let (none_left, ends) = line-ends s b.args.from _ b.requires (sym n.stop.given.1 ∙ e.Ending-at.ensures) in
+    let (none_left, ends) = line-ends s b.args.from _ b.requires (sym n.in-Line.is ∙ e.ending_at.ensures) in
     (none_read present s b.args.from none_left, ends)
 
-returns-2 : tie.Need-returns-2
+returns-2 : tie.Need-returns-in-Comment
 returns-2 c =
-    let n = c.before.before in
-    let e = n.before.before in
+    let n = c.before in
+    let e = n.before in
     let b = e.before.before in
     let s = b.args.text.now in
-    let (none_left, inside_text, ends) = comment-ends s b.args.from _ b.requires (sym n.stop2.given.1 ∙ e.Ending-at.ensures) in
-    (none_read present s b.args.from none_left, c.line-end.ensures ∙ sym (end-run s _) ∙ ends)
+    let (none_left, inside_text, ends) = comment-ends s b.args.from _ b.requires (sym n.in-Comment.is ∙ e.ending_at.ensures) in
+    (none_read present s b.args.from none_left, c.line_end.ensures ∙ sym (end-run s _) ∙ ends)
 
-pub end-at-spec : {M : Type 1} → statement M
-end-at-spec = tie.close (tie.spec (λ c κs. search rules) (λ c. search rules) (λ c. search rules)
+pub end_at_spec : {M : Type 1} → statement M
+end_at_spec = tie.close (tie.spec (λ c κs. search rules) (λ c. search rules) (λ c. search rules)
     line-end-requires
     (λ c. search rules)
     returns

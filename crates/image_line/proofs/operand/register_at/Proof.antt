@@ -9,14 +9,14 @@ use Rattle.image_line.proofs.Places.{register-reads}
 use Rattle.image_line.proofs.operand.register_at.Statement.{statement}
 use Rattle.image_line.proofs.operand.register_at.Tie as tie
 
-register-word-requires : tie.Need-register-word-requires
-register-word-requires c κs = let b = c.before.before in omega (arith, c.run_end.ensures, run_in blank b.args.text.now b.args.from b.requires)
+register-word-requires : tie.Need-register_word-requires
+register-word-requires c κs = let b = c.before.before in omega (arith, c.run_end-at.ensures, run_in blank b.args.text.now b.args.from b.requires)
 
 returns : tie.Need-returns
 returns c =
     let r = c.before in
     let b = r.before.before in
-    register-reads present present-naming b.args.text.now b.args.from r.run_end.result c.register-word.result b.requires r.run_end.ensures c.register-word.ensures
+    register-reads present present-naming b.args.text.now b.args.from r.run_end-at.result c.register_word.result b.requires r.run_end-at.ensures c.register_word.ensures
 
-pub register-at-spec : {M : Type 1} → statement M
-register-at-spec = tie.close (tie.spec (λ c κs. search rules) register-word-requires returns)
+pub register_at_spec : {M : Type 1} → statement M
+register_at_spec = tie.close (tie.spec (λ c κs. search rules) register-word-requires returns)

@@ -33,12 +33,12 @@ past = record { kind = Identifier; start = 0; length = 0 }
 at_place : (ts : List Token) (i : ℕ) → i < kept → length ts ≡ kept → get_or ts i past ≡ get_or ts i filler
 at_place ts i h n = get_d_any ts i past filler (omega arith)
 
-returns : tie.Need-returns
+returns : tie.Need-returns-then-count-eq0
 returns c =
     let a = c.before.before.before.args in
-    kind-none a.source.now a.line.tokens a.line.count c.if1.true
+    kind-none a.source.now a.line.tokens a.line.count c.if-count-eq0.true
 
-enum_told : tie.Need-enum-told
+enum_told : tie.Need-enum_told-1
 enum_told c = search rules
 
 -- an Identifier is the first token
@@ -48,65 +48,65 @@ named s ts n e =
     let k = at_place ts 0 (omega arith) n in
     ap (λ (x : Kind). kind_meant x (spelling s (get_or ts 0 filler))) (sym (ap (λ (t : Token). t.kind) k) ∙ e)
 
-returns-2 : tie.Need-returns-2
+returns-2 : tie.Need-returns-then-count-lt2
 returns-2 c =
     let i = c.before in
-    let b = i.before.before.before in
+    let b = i.before.before in
     let a = b.before.before.before.args in
     let n = b.before.before.before.requires.kept.places in
-    kind-alone a.source.now a.line.tokens a.line.count n (omega (arith, b.if1.false)) _ (named a.source.now a.line.tokens n i.enum_told.given.1) c.if2.true
+    kind-alone a.source.now a.line.tokens a.line.count n (omega (arith, b.if-count-eq0.false)) _ (named a.source.now a.line.tokens n i.in-Identifier.is) c.if-count-lt2.true
 
 -- the first token is a part of the text
-inside : (c : tie.After-enum-told3) → let a = c.before.before.before.before.before.before.args in
+inside : (c : tie.In-Directive) → let a = c.before.before.before.before.before.args in
     let t = get_or a.line.tokens 0 past in (0 < t.length) × (t.start + t.length ≤ length a.source.now)
 inside c =
-    let b = c.before.before.before in
+    let b = c.before.before in
     let p = b.before.before.before.requires in
     let a = b.before.before.before.args in
-    rw (at_place a.line.tokens 0 (omega arith) p.kept.places) (p.solid 0 (omega arith) (omega (arith, b.if1.false)), p.kept.inside_text 0)
+    rw (at_place a.line.tokens 0 (omega arith) p.kept.places) (p.solid 0 (omega arith) (omega (arith, b.if-count-eq0.false)), p.kept.inside_text 0)
 
-add_start : tie.Need-overflow-add-start
+add_start : tie.Need-overflow_add-start
 add_start c = let (h, i) = inside c.before in omega (arith, h, i)
 
-add-end : tie.Need-overflow-add-end
+add-end : tie.Need-overflow_add-end
 add-end c = let (h, i) = inside c.before.before in omega (arith, h, i)
 
-sub_same : tie.Need-overflow-sub-same
+sub_same : tie.Need-slice_bounds-same-count
 sub_same c = let (h, i) = inside c.before.before in omega (arith, h, i)
 
-part-same-start : tie.Need-slice-bounds-same-start
+part-same-start : tie.Need-slice_bounds-same-start
 part-same-start c = let (h, i) = inside c.before.before in omega (arith, h, i)
 
-part-same-end : tie.Need-slice-bounds-same-end
+part-same-end : tie.Need-slice_bounds-same-end
 part-same-end c = (inside c.before.before).1
 
 -- the directive, by the answer of the comparison
-spelled : (c : tie.After-same) → let a = c.before.before.before.before.before.before.before.before.before.before.before.args in
+spelled : (c : tie.After-same) → let a = c.before.before.before.before.before.before.before.before.before.before.args in
     elim c.same.result [ true ↦ config | false ↦ ignored ] ≡ kind_of (firsts a.source.now a.line.tokens a.line.count)
 unfolding bytes
 spelled c =
     let d = c.before.before.before.before.before in
-    let b = d.before.before.before in
+    let b = d.before.before in
     let p = b.before.before.before.requires in
     let a = b.before.before.before.args in
-    let (h, i) = inside d in
-    kind-spelled a.source.now a.line.tokens a.line.count p.kept.places (omega (arith, b.if1.false)) (get_or a.line.tokens 0 past) c.same.result
-    (at_place a.line.tokens 0 (omega arith) p.kept.places) d.enum-told3.given.1 h i c.same.ensures
+    let (h, i) = inside d.before in
+    kind-spelled a.source.now a.line.tokens a.line.count p.kept.places (omega (arith, b.before.if-count-eq0.false)) (get_or a.line.tokens 0 past) c.same.result
+    (at_place a.line.tokens 0 (omega arith) p.kept.places) d.before.in-Directive.is h i c.same.ensures
 
-returns-3 : tie.Need-returns-3
-returns-3 c = rw c.if3.true at (spelled c.before)
+returns-3 : tie.Need-returns-then-same
+returns-3 c = rw c.if-same.true at (spelled c.before)
 
-returns-4 : tie.Need-returns-4
+returns-4 : tie.Need-returns-in-Colon
 unfolding mark_byte
 returns-4 c =
-    let s = c.before.before.before in
+    let s = c.before.before in
     let i = s.before in
-    let b = i.before.before.before in
+    let b = i.before.before in
     let a = b.before.before.before.args in
     let n = b.before.before.before.requires.kept.places in
-    let k : (get_or a.line.tokens 1 filler).kind ≡ Colon = sym (ap (λ (t : Token). t.kind) (at_place a.line.tokens 1 (omega arith) n)) ∙ c.enum-told2.given.1 in
-    kind-second a.source.now a.line.tokens a.line.count n (omega (arith, b.if1.false)) _ _ (named a.source.now a.line.tokens n i.enum_told.given.1)
-    s.if2.false (rw k)
+    let k : (get_or a.line.tokens 1 filler).kind ≡ Colon = sym (ap (λ (t : Token). t.kind) (at_place a.line.tokens 1 (omega arith) n)) ∙ c.in-Colon.is in
+    kind-second a.source.now a.line.tokens a.line.count n (omega (arith, b.if-count-eq0.false)) _ _ (named a.source.now a.line.tokens n i.in-Identifier.is)
+    s.if-count-lt2.false (rw k)
 
 -- The places in `Kind` of the kinds that are no Colon.
 abbrev no-colons : List ℕ
@@ -127,21 +127,21 @@ other-mark Comma u h = refl
 other-mark LParen u h = refl
 other-mark RParen u h = refl
 
-returns-5 : tie.Need-returns-5
+returns-5 : tie.Need-returns-in_default-mark
 returns-5 c =
     let s = c.before.before in
     let i = s.before in
-    let b = i.before.before.before in
+    let b = i.before.before in
     let a = b.before.before.before.args in
     let n = b.before.before.before.requires.kept.places in
     let e = at_place a.line.tokens 1 (omega arith) n in
-    let o = other-mark (get_or a.line.tokens 1 past).kind (spelling a.source.now (get_or a.line.tokens 1 filler)) c.match2.keys2 in
+    let o = other-mark (get_or a.line.tokens 1 past).kind (spelling a.source.now (get_or a.line.tokens 1 filler)) c.in_default-mark.in_default-mark-own.keys2 in
     let m : eqb (mark_byte (meant a.source.now (get_or a.line.tokens 1 filler))) 58 ≡ false = rw (e) at o in
-    kind-second a.source.now a.line.tokens a.line.count n (omega (arith, b.if1.false)) _ _ (named a.source.now a.line.tokens n i.enum_told.given.1)
-    s.if2.false (rw m)
+    kind-second a.source.now a.line.tokens a.line.count n (omega (arith, b.if-count-eq0.false)) _ _ (named a.source.now a.line.tokens n i.in-Identifier.is)
+    s.if-count-lt2.false (rw m)
 
-returns-6 : tie.Need-returns-6
-returns-6 c = rw c.if3.false at (spelled c.before)
+returns-6 : tie.Need-returns-else-same
+returns-6 c = rw c.if-same.false at (spelled c.before)
 
 -- The places of the kinds that are neither Identifier nor Directive.
 abbrev others : List ℕ
@@ -162,18 +162,18 @@ other-plain Colon u ts h = refl
 other-plain LParen u ts h = refl
 other-plain RParen u ts h = refl
 
-returns-7 : tie.Need-returns-7
+returns-7 : tie.Need-returns-in_default
 returns-7 c =
     let b = c.before.before in
     let a = b.before.before.before.args in
     let n = b.before.before.before.requires.kept.places in
     let k : (get_or a.line.tokens 0 past).kind ≡ (get_or a.line.tokens 0 filler).kind = ap (λ (t : Token). t.kind) (at_place a.line.tokens 0 (omega arith) n) in
-    kind-plain a.source.now a.line.tokens a.line.count n (omega (arith, b.if1.false))
-    (λ us. rw (← k) (other-plain (get_or a.line.tokens 0 past).kind (spelling a.source.now (get_or a.line.tokens 0 filler)) us c.match.keys3))
+    kind-plain a.source.now a.line.tokens a.line.count n (omega (arith, b.if-count-eq0.false))
+    (λ us. rw (← k) (other-plain (get_or a.line.tokens 0 past).kind (spelling a.source.now (get_or a.line.tokens 0 filler)) us c.in_default.in_default-own.keys3))
 
-pub line-kind-spec : {M : Type 1} → statement M
-line-kind-spec =
+pub line_kind_spec : {M : Type 1} → statement M
+line_kind_spec =
     tie.close
     (tie.spec returns (λ c. search rules) enum_told returns-2 (λ c. search rules) (λ c. search rules)
-    (λ c. search rules) add_start add-end sub_same part-same-start part-same-end (λ c. search rules)
+    (λ c. search rules) add_start add-end sub_same part-same-start part-same-end
     (λ c κs. search rules) returns-3 returns-4 returns-5 returns-6 returns-7)

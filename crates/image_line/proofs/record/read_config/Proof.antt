@@ -5,16 +5,16 @@ use Rattle.image.specs.Assembling.{setting}
 use Rattle.image_line.proofs.record.read_config.Statement.{statement}
 use Rattle.image_line.proofs.record.read_config.Tie as tie
 
-parse-config-requires : tie.Need-parse-config-requires
+parse-config-requires : tie.Need-parse_config-requires
 parse-config-requires c κs = c.before.requires.kept
 
-returns : tie.Need-returns
+returns : tie.Need-returns-in-Refused
 unfolding setting
-returns c = let n = c.before in record { means = ap setting (rw n.n.given.1 at n.before.before.parse-config.ensures); in_table = tt; settled = tt }
+returns c = let n = c in record { means = ap setting (rw n.in-Refused.is at n.before.parse_config.ensures); in_table = tt; settled = tt }
 
-returns-2 : tie.Need-returns-2
+returns-2 : tie.Need-returns-in-Is
 unfolding setting
-returns-2 c = let n = c.before in record { means = ap setting (rw n.changed.given.1 at n.before.before.parse-config.ensures); in_table = tt; settled = tt }
+returns-2 c = let n = c in record { means = ap setting (rw n.in-Is.is at n.before.parse_config.ensures); in_table = tt; settled = tt }
 
-pub read-config-spec : {M : Type 1} → statement M
-read-config-spec = tie.close (tie.spec parse-config-requires (λ c. search rules) (λ c. search rules) returns returns-2)
+pub read_config_spec : {M : Type 1} → statement M
+read_config_spec = tie.close (tie.spec parse-config-requires (λ c. search rules) (λ c. search rules) returns returns-2)

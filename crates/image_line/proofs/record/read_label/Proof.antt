@@ -17,7 +17,7 @@ use Rattle.image_line.proofs.record.read_label.Tie as tie
 first : (ts : List Token) → length ts ≡ kept → get_or ts 0 (record { kind = Identifier; start = 0; length = 0 }) ≡ get_or ts 0 filler
 first ts n = get_d_any ts 0 (record { kind = Identifier; start = 0; length = 0 }) filler (omega arith)
 
-after-label-requires : tie.Need-after-label-requires
+after-label-requires : tie.Need-after_label-requires
 after-label-requires c κs =
     let b = c.before.before.before in
     let a = b.args in
@@ -29,7 +29,7 @@ returns c x =
     let a = b.args in
     let k = b.requires.0.reads_label in
     rw (first a.line.tokens b.requires.0.recorded.kept.places)
-    (record-labelled a.source.now a.line x b.requires.0.recorded (two-tokens a.source.now a.line.tokens a.line.count _ k) k c.after-label.result c.after-label.ensures)
+    (record-labelled a.source.now a.line x b.requires.0.recorded (two-tokens a.source.now a.line.tokens a.line.count _ k) k c.after_label.result c.after_label.ensures)
 
-pub read-label-spec : {M : Type 1} → statement M
-read-label-spec = tie.close (tie.spec (λ c. search rules) after-label-requires returns)
+pub read_label_spec : {M : Type 1} → statement M
+read_label_spec = tie.close (tie.spec (λ c. search rules) after-label-requires returns)

@@ -22,35 +22,35 @@ use Rattle.image_line.proofs.Records.{recorded, bare, record-empty, record-ignor
 use Rattle.image_line.proofs.record.read_record.Statement.{statement}
 use Rattle.image_line.proofs.record.read_record.Tie as tie
 
-tokenize-requires : tie.Need-tokenize-requires
+tokenize-requires : tie.Need-tokenize-line-requires
 tokenize-requires c κs = c.before.requires.0
 
-returns : tie.Need-returns
+returns : tie.Need-returns-then-line
 returns c =
     let t = c.before.before in
     let b = t.before.before in
     rw c.unlabelled.ensures
-    (line-bad present present-naming b.args.source.now b.args.start b.requires.0 t.tokenize.result t.tokenize.ensures (context_for b.args.config) c.before.if1.true)
+    (line-bad present present-naming b.args.source.now b.args.start b.requires.0 t.tokenize-line.result t.tokenize-line.ensures (context_for b.args.config) c.before.if-line.true)
 
-line-kind-requires : tie.Need-line-kind-requires
-line-kind-requires c κs = recorded present present-naming _ _ _ c.before.tokenize.ensures
+line-kind-requires : tie.Need-line_kind-requires
+line-kind-requires c κs = recorded present present-naming _ _ _ c.before.tokenize-line.ensures
 
-enum_told : tie.Need-enum-told
+enum_told : tie.Need-enum_told-1
 enum_told c = search rules
 
-read-config-requires : tie.Need-read-config-requires
-read-config-requires c κs = recorded present present-naming _ _ _ c.before.before.before.before.tokenize.ensures
+read-config-requires : tie.Need-read_config-requires
+read-config-requires c κs = recorded present present-naming _ _ _ c.before.before.before.tokenize-line.ensures
 
-read-label-requires : tie.Need-read-label-requires
+read-label-requires : tie.Need-read_label-requires
 read-label-requires c κs =
-    let k = c.before.before in
+    let k = c.before in
     let t = k.before.before in
-    (record { recorded = recorded present present-naming _ _ _ t.tokenize.ensures; reads_label = rw c.enum-told2.given.1 at k.line-kind.ensures }, t.before.before.requires.1)
+    (record { recorded = recorded present present-naming _ _ _ t.tokenize-line.ensures; reads_label = rw c.in-Label.is at k.line_kind.ensures }, t.before.before.requires.1)
 
-read-instruction-requires : tie.Need-read-instruction-requires
+read-instruction-requires : tie.Need-read_instruction-requires
 read-instruction-requires c κs =
-    let t = c.before.before.before.before in
-    (recorded present present-naming _ _ _ t.tokenize.ensures, (omega arith, t.before.before.requires.1))
+    let t = c.before.before.before in
+    (recorded present present-naming _ _ _ t.tokenize-line.ensures, (omega arith, t.before.before.requires.1))
 
 -- The places of the kinds of lines that do nothing.
 abbrev quiet : List ℕ
@@ -64,57 +64,57 @@ record-quiet s l x start i Label h e = absurd (miss quiet 1 tt h)
 record-quiet s l x start i ConfigKind h e = absurd (miss quiet 2 tt h)
 record-quiet s l x start i Plain h e = absurd (miss quiet 4 tt h)
 
-returns-2 : tie.Need-returns-2
+returns-2 : tie.Need-returns-in-Empty
 returns-2 c =
     let k = c.before.before in
     let t = k.before.before in
     let b = t.before.before in
     let a = b.args in
     let x = context_for a.config in
-    rw c.unlabelled2.ensures
-    (line-record present present-naming a.source.now a.start b.requires.0 t.tokenize.result t.tokenize.ensures x _ k.before.if1.false
-    (record-quiet a.source.now t.tokenize.result x a.start b.requires.0.in_text k.line-kind.result c.before.match.keys1 k.line-kind.ensures))
+    rw c.unlabelled-in-Empty.ensures
+    (line-record present present-naming a.source.now a.start b.requires.0 t.tokenize-line.result t.tokenize-line.ensures x _ k.before.if-line.false
+    (record-quiet a.source.now t.tokenize-line.result x a.start b.requires.0.in_text k.line_kind.result c.before.in-Empty.in-Empty-own.keys1 k.line_kind.ensures))
 
-returns-3 : tie.Need-returns-3
+returns-3 : tie.Need-returns-in-Config
 returns-3 c =
     let f = c.before in
     let e = f.before in
-    let k = e.before.before in
+    let k = e.before in
     let t = k.before.before in
     let b = t.before.before in
     let a = b.args in
     let x = context_for a.config in
-    rw c.unlabelled3.ensures
-    (line-record present present-naming a.source.now a.start b.requires.0 t.tokenize.result t.tokenize.ensures x _ k.before.if1.false
-    (record-config a.source.now t.tokenize.result x a.start b.requires.0.in_text f.read-config.result (rw e.enum_told.given.1 at k.line-kind.ensures) f.read-config.ensures))
+    rw c.unlabelled-in-Config.ensures
+    (line-record present present-naming a.source.now a.start b.requires.0 t.tokenize-line.result t.tokenize-line.ensures x _ k.before.if-line.false
+    (record-config a.source.now t.tokenize-line.result x a.start b.requires.0.in_text f.read_config.result (rw e.in-Config.is at k.line_kind.ensures) f.read_config.ensures))
 
-returns-4 : tie.Need-returns-4
+returns-4 : tie.Need-returns-in-Label
 returns-4 c =
-    let k = c.before.before.before in
+    let k = c.before.before in
     let t = k.before.before in
     let b = t.before.before in
     let a = b.args in
     let x = context_for a.config in
-    let l = t.tokenize.result in
-    let two = two-tokens a.source.now l.tokens l.count _ (rw c.before.enum-told2.given.1 at k.line-kind.ensures) in
-    line-record present present-naming a.source.now a.start b.requires.0 l t.tokenize.ensures x _ k.before.if1.false
-    (rw (first-starts present present-naming a.source.now a.start b.requires.0 l t.tokenize.ensures x (omega (arith, two))) at (c.read-label.ensures x))
+    let l = t.tokenize-line.result in
+    let two = two-tokens a.source.now l.tokens l.count _ (rw c.before.in-Label.is at k.line_kind.ensures) in
+    line-record present present-naming a.source.now a.start b.requires.0 l t.tokenize-line.ensures x _ k.before.if-line.false
+    (rw (first-starts present present-naming a.source.now a.start b.requires.0 l t.tokenize-line.ensures x (omega (arith, two))) at (c.read_label.ensures x))
 
-returns-5 : tie.Need-returns-5
+returns-5 : tie.Need-returns-in-Plain
 returns-5 c =
     let f = c.before in
     let e = f.before in
-    let k = e.before.before in
+    let k = e.before in
     let t = k.before.before in
     let b = t.before.before in
     let a = b.args in
     let x = context_for a.config in
-    rw c.unlabelled4.ensures
-    (line-record present present-naming a.source.now a.start b.requires.0 t.tokenize.result t.tokenize.ensures x _ k.before.if1.false
-    (record-plain a.source.now t.tokenize.result x a.start b.requires.0.in_text f.read-instruction.result (rw e.enum-told3.given.1 at k.line-kind.ensures) f.read-instruction.ensures))
+    rw c.unlabelled-in-Plain.ensures
+    (line-record present present-naming a.source.now a.start b.requires.0 t.tokenize-line.result t.tokenize-line.ensures x _ k.before.if-line.false
+    (record-plain a.source.now t.tokenize-line.result x a.start b.requires.0.in_text f.read_instruction.result (rw e.in-Plain.is at k.line_kind.ensures) f.read_instruction.ensures))
 
-pub read-record-spec : {M : Type 1} → statement M
-read-record-spec =
+pub read_record_spec : {M : Type 1} → statement M
+read_record_spec =
     tie.close
     (tie.spec tokenize-requires (λ c κs. search rules) returns line-kind-requires (λ c κs. search rules) enum_told
     read-config-requires (λ c κs. search rules) (λ c. search rules) read-label-requires (λ c. search rules)

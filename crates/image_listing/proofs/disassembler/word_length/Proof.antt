@@ -13,24 +13,24 @@ use Rattle.image_listing.proofs.Texts.{line-length, length-is, no_length}
 use Rattle.image_listing.proofs.disassembler.word_length.Statement.{statement}
 use Rattle.image_listing.proofs.disassembler.word_length.Tie as tie
 
-returns : tie.Need-returns
+returns : tie.Need-returns-in-Refused
 unfolding line_length
 returns c =
-    let n = c.before in
-    let e = rw n.n.given.1 at n.before.before.decode.ensures.means in
+    let n = c in
+    let e = rw n.in-Refused.is at n.before.decode.ensures.means in
     (ap line_length e, λ m q. no_length q)
 
-returns-2 : tie.Need-returns-2
+returns-2 : tie.Need-returns-in-Is
 unfolding line_length
 returns-2 c =
-    let i = c.before.before in
-    let t = instruction_text (instruction_meant i.instruction.given.0.0) in
-    let e = rw i.instruction.given.1 at i.before.before.decode.ensures.means in
-    let l : 1 + c.instruction-length.result ≡ length (line_text t) = omega (arith, c.instruction-length.ensures.0, line-length t) in
-    (ap value l ∙ ap line_length e, λ n q. omega (arith, c.instruction-length.ensures.1, length-is q))
+    let i = c.before in
+    let t = instruction_text (instruction_meant i.in-Is.instruction) in
+    let e = rw i.in-Is.is at i.before.decode.ensures.means in
+    let l : 1 + c.instruction_length.result ≡ length (line_text t) = omega (arith, c.instruction_length.ensures.0, line-length t) in
+    (ap value l ∙ ap line_length e, λ n q. omega (arith, c.instruction_length.ensures.1, length-is q))
 
-pub word-length-spec : {M : Type 1} → statement M
-word-length-spec =
+pub word_length_spec : {M : Type 1} → statement M
+word_length_spec =
     tie.close
     (tie.spec (λ c κs. search rules) (λ c. search rules) (λ c. search rules) (λ c κs. search rules)
     (λ c. search rules) returns returns-2)

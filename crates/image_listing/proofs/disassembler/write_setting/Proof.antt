@@ -17,38 +17,38 @@ room c =
     let a = c.args in
     omega (arith, line-length (a.front.now ++ decimal a.value), length-append a.front.now (decimal a.value), c.requires)
 
-write-bytes-requires : tie.Need-write-bytes-requires
+write-bytes-requires : tie.Need-write_bytes-place-requires
 write-bytes-requires c κs =
     let s = c.before.before.before in
     let g : s.args.at + length s.args.front.now ≤ length s.args.text.now = omega (arith, room s) in g
 
-value_room : (c : tie.After-write-bytes) → c.write_bytes.result + length (decimal c.before.before.before.before.args.value) + 1 ≤ length c.write_bytes.new.0
+value_room : (c : tie.After-write_bytes-place) → c.write_bytes-place.result + length (decimal c.before.before.before.before.args.value) + 1 ≤ length c.write_bytes-place.new.out
 value_room c =
     let r = room c.before.before.before.before in
-    omega (arith, c.write_bytes.ensures.ends, written-length c.write_bytes.ensures (omega arith))
+    omega (arith, c.write_bytes-place.ensures.ends, written-length c.write_bytes-place.ensures (omega arith))
 
-write-decimal-requires : tie.Need-write-decimal-requires
+write-decimal-requires : tie.Need-write_decimal-end-requires
 write-decimal-requires c κs =
     let w = c.before.before.before in
-    let g : w.write_bytes.result + length (decimal w.before.before.before.before.args.value) ≤ length w.write_bytes.new.0 = omega (arith, value_room w) in g
+    let g : w.write_bytes-place.result + length (decimal w.before.before.before.before.args.value) ≤ length w.write_bytes-place.new.out = omega (arith, value_room w) in g
 
-end-room : (c : tie.After-write-decimal) → c.write-decimal.result < length c.write-decimal.new.0
+end-room : (c : tie.After-write_decimal-end) → c.write_decimal-end.result < length c.write_decimal-end.new.out
 end-room c =
     let r = value_room c.before.before.before.before in
-    omega (arith, c.write-decimal.ensures.ends, written-length c.write-decimal.ensures (omega arith))
+    omega (arith, c.write_decimal-end.ensures.ends, written-length c.write_decimal-end.ensures (omega arith))
 
-slice-write-text : tie.Need-slice-write-text
+slice-write-text : tie.Need-bounds-text-end
 slice-write-text c = end-room c.before.before
 
-add-result : tie.Need-overflow-add-result
+add-result : tie.Need-overflow_add-result
 add-result c = omega (arith, end-room c.before.before)
 
-same_length : tie.Need-same-length
+same_length : tie.Need-shape_of-text
 same_length c =
     let d = c.before.before in
     let w = d.before.before.before.before in
     simp length-set
-    (written-length d.write-decimal.ensures (omega (arith, value_room w)) ∙ written-length w.write_bytes.ensures (omega (arith, room w.before.before.before.before)))
+    (written-length d.write_decimal-end.ensures (omega (arith, value_room w)) ∙ written-length w.write_bytes-place.ensures (omega (arith, room w.before.before.before.before)))
 
 returns : tie.Need-returns
 unfolding line_text
@@ -56,10 +56,10 @@ returns c =
     let d = c.before.before in
     let w = d.before.before.before.before in
     let r = room w.before.before.before.before in
-    written-append (written-append w.write_bytes.ensures (omega arith) d.write-decimal.ensures) (omega arith)
-    (written_byte d.write-decimal.new.0 d.write-decimal.result 10 (end-room d))
+    written-append (written-append w.write_bytes-place.ensures (omega arith) d.write_decimal-end.ensures) (omega arith)
+    (written_byte d.write_decimal-end.new.out d.write_decimal-end.result 10 (end-room d))
 
-pub write-setting-spec : {M : Type 1} → statement M
-write-setting-spec =
+pub write_setting_spec : {M : Type 1} → statement M
+write_setting_spec =
     tie.close
     (tie.spec write-bytes-requires write-decimal-requires slice-write-text add-result same_length returns)

@@ -14,59 +14,59 @@ use Rattle.image_listing.proofs.disassembler.write_word.Statement.{statement}
 use Rattle.image_listing.proofs.disassembler.write_word.Tie as tie
 
 -- the line, which has room
-line : (c : tie.After-instruction) → word_text c.before.before.before.before.args.word ≡ line_text (instruction_text (instruction_meant c.instruction.given.0.0))
-line c = word_line _ _ (sym (rw c.instruction.given.1 at c.before.before.decode.ensures.means))
+line : (c : tie.In-Is) → word_text c.before.before.before.args.word ≡ line_text (instruction_text (instruction_meant c.in-Is.instruction))
+line c = word_line _ _ (sym (rw c.in-Is.is at c.before.decode.ensures.means))
 
-room : (c : tie.After-instruction) → let a = c.before.before.before.before.args in
-    a.at + length (line_text (instruction_text (instruction_meant c.instruction.given.0.0))) ≤ length a.text.now
-room c = rw (line c) at c.before.before.before.before.requires.0
+room : (c : tie.In-Is) → let a = c.before.before.before.args in
+    a.at + length (line_text (instruction_text (instruction_meant c.in-Is.instruction))) ≤ length a.text.now
+room c = rw (line c) at c.before.before.before.requires.0
 
-fits : (c : tie.After-instruction) → let a = c.before.before.before.before.args in
-    a.at + length (instruction_text (instruction_meant c.instruction.given.0.0)) ≤ length a.text.now
+fits : (c : tie.In-Is) → let a = c.before.before.before.args in
+    a.at + length (instruction_text (instruction_meant c.in-Is.instruction)) ≤ length a.text.now
 unfolding line_text
 fits c =
-    let a = c.before.before.before.before.args in
-    room-before a.text.now a.at (instruction_text (instruction_meant c.instruction.given.0.0)) (10 ∷ []) (room c)
+    let a = c.before.before.before.args in
+    room-before a.text.now a.at (instruction_text (instruction_meant c.in-Is.instruction)) (10 ∷ []) (room c)
 
-write-instruction-requires : tie.Need-write-instruction-requires
+write-instruction-requires : tie.Need-write_instruction-end-requires
 write-instruction-requires c κs =
-    let i = c.before.before in
-    let s = i.before.before.before.before in
+    let i = c.before in
+    let s = i.before.before.before in
     (s.requires.1.0, fits i)
 
 -- the line's end has room
-behind : (c : tie.After-write-instruction) → c.write-instruction.result < length c.write-instruction.new.0
+behind : (c : tie.After-write_instruction-end) → c.write_instruction-end.result < length c.write_instruction-end.new.out
 unfolding line_text
-behind c = let r = room-behind c.write-instruction.ensures (10 ∷ []) (room c.before.before.before) in omega arith
+behind c = let r = room-behind c.write_instruction-end.ensures (10 ∷ []) (room c.before.before) in omega arith
 
-slice-write-text : tie.Need-slice-write-text
+slice-write-text : tie.Need-bounds-text-end
 slice-write-text c = behind c.before.before
 
-add-result : tie.Need-overflow-add-result
+add-result : tie.Need-overflow_add-result
 add-result c = omega (arith, behind c.before.before)
 
-returns : tie.Need-returns
+returns : tie.Need-returns-in-Refused
 returns c =
-    let d = c.before.before in
+    let d = c.before in
     let a = d.before.before.args in
-    rw (word_none a.word _ (sym (rw c.enum_told.given.1 at d.decode.ensures.means))) (written_none a.text.now a.at)
+    rw (word_none a.word _ (sym (rw c.in-Refused.is at d.decode.ensures.means))) (written_none a.text.now a.at)
 
-same_length : tie.Need-same-length
+same_length : tie.Need-shape_of-text
 same_length c =
     let k = c.before.before in
-    simp length-set (written-length k.write-instruction.ensures (fits k.before.before.before))
+    simp length-set (written-length k.write_instruction-end.ensures (fits k.before.before))
 
-returns-2 : tie.Need-returns-2
+returns-2 : tie.Need-returns-in-Is
 unfolding line_text
 returns-2 c =
     let k = c.before.before in
-    let i = k.before.before.before in
+    let i = k.before.before in
     let r = room i in
     rw (line i)
-    (written-append k.write-instruction.ensures (omega arith) (written_byte k.write-instruction.new.0 k.write-instruction.result 10 (behind k)))
+    (written-append k.write_instruction-end.ensures (omega arith) (written_byte k.write_instruction-end.new.out k.write_instruction-end.result 10 (behind k)))
 
-pub write-word-spec : {M : Type 1} → statement M
-write-word-spec =
+pub write_word_spec : {M : Type 1} → statement M
+write_word_spec =
     tie.close
     (tie.spec (λ c κs. search rules) (λ c. search rules) (λ c. search rules) write-instruction-requires
     slice-write-text add-result returns same_length returns-2)

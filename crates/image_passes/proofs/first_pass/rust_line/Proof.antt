@@ -17,11 +17,11 @@ true_line : (n line : ℕ) → ((n ≡ 3) ⊎ ((n ≡ 8) ⊎ (n ≡ 18)) → ⊥
 unfolding rust_line_of
 true_line n line h = rw (rust_line_of, ne_eqb n 3 (λ e. h (inl e)), ne_eqb n 8 (λ e. h (inr (inl e))), ne_eqb n 18 (λ e. h (inr (inr e))))
 
-returns : tie.Need-returns
-returns c = no_line c.before.args.number c.before.args.line c.match.keys1
+returns : tie.Need-returns-in-3
+returns c = no_line c.before.args.number c.before.args.line c.in-3.is
 
-returns-2 : tie.Need-returns-2
-returns-2 c = true_line c.before.args.number c.before.args.line c.match.rest.1
+returns-2 : tie.Need-returns-in_default
+returns-2 c = true_line c.before.args.number c.before.args.line c.in_default.in_default-own.rest.1
 
-pub rust-line-spec : {M : Type 1} → statement M
-rust-line-spec = tie.close (tie.spec returns returns-2)
+pub rust_line_spec : {M : Type 1} → statement M
+rust_line_spec = tie.close (tie.spec returns returns-2)

@@ -6,7 +6,7 @@ use Rattle.image_passes.proofs.second_pass.word_of.Statement.{statement}
 use Rattle.image_passes.proofs.second_pass.word_of.Tie as tie
 
 returns : tie.Need-returns
-returns c = c.encode.ensures ∙ ap word_of c.before.from_parts.ensures.1
+returns c = c.encode.ensures ∙ ap word_of c.before.from_parts-instruction.ensures.1
 
-pub word-of-spec : {M : Type 1} → statement M
-word-of-spec = tie.close (tie.spec (λ c κs. search rules) (λ c κs. search rules) returns)
+pub word_of_spec : {M : Type 1} → statement M
+word_of_spec = tie.close (tie.spec (λ c κs. search rules) (λ c κs. search rules) returns)

@@ -22,28 +22,28 @@ four : (w : ℕ) → length (little 4 w) ≡ 4
 unfolding little
 four w = omega arith
 
-enum_told : tie.Need-enum-told
+enum_told : tie.Need-enum_told-1
 enum_told c = search rules
 
-write-u32-requires : tie.Need-write-u32-requires
+write-u32-requires : tie.Need-write_u32-requires
 write-u32-requires c κs =
-    let k = c.before.before in
-    let b = k.before.before.before in
-    let w = k.coded.given.0.0 in
-    omega (arith, b.requires, four w, ap length (bytes_of b.args.coded w k.coded.given.1))
+    let k = c.before in
+    let b = k.before.before in
+    let w = k.in-Word.word in
+    omega (arith, b.requires, four w, ap length (bytes_of b.args.coded w k.in-Word.is))
 
-returns : tie.Need-returns
+returns : tie.Need-returns-in-Nothing
 unfolding flat_map
-returns c = let a = c.before.before.before.args in rw c.enum_told.given.1 (written_none a.image.now a.place)
+returns c = let a = c.before.before.args in rw c.in-Nothing.is (written_none a.image.now a.place)
 
-returns-2 : tie.Need-returns-2
+returns-2 : tie.Need-returns-in-Word
 returns-2 c =
     let u = c.before.before in
-    let k = u.before.before.before in
-    let a = k.before.before.before.args in
-    rw (← bytes_of a.coded k.coded.given.0.0 k.coded.given.1) u.write-u32.ensures
+    let k = u.before.before in
+    let a = k.before.before.args in
+    rw (← bytes_of a.coded k.in-Word.word k.in-Word.is) u.write_u32.ensures
 
-pub write-coded-spec : {M : Type 1} → statement M
-write-coded-spec =
+pub write_coded_spec : {M : Type 1} → statement M
+write_coded_spec =
     tie.close
     (tie.spec enum_told (λ c. search rules) write-u32-requires returns (λ c. search rules) returns-2)
