@@ -2,3 +2,4 @@ pub mod Rooms
 pub mod Printing
 pub mod Transcripts
 pub mod Examples
+mod Sources

@@ -11,13 +11,15 @@ use lib.Seq.{length-take-le}
 use lib.Dec.{eqb, ltb}
 use lib.IntN.{ℤ, pos, negsuc}
 use borrow.Author.Tests.{ltb-true, ltb-false}
-use Rattle.libc.specs.Io.{Moved}
+use Rattle.std.proofs.Common.{Option as Known, None}
+use Rattle.std.specs.Io.KnownBytes.{Consumes}
+use Rattle.std.proofs.KnownBytes.{Consumes-trans}
 use Rattle.text_writer.specs.Promised.{put}
 use Rattle.text_writer.proofs.Writing.{put-append}
 use Rattle.image.specs.Lent.{over}
 use Rattle.zkasm.specs.Zkasm.{program_output}
 use Rattle.image.proofs.Over.{length_over, take-over}
-use Rattle.zkasm.specs.Stdin.{input_room, interruption, failure_of, delivery_of, count_of, step_of, Transcript, start, next, Writing, printed, told, writing_of}
+use Rattle.zkasm.specs.Stdin.{Moved, input_room, interruption, failure_of, delivery_of, count_of, step_of, Transcript, start, next, Writing, printed, told, writing_of}
 use Rattle.zkasm.specs.Promised.{Delivers, ReadsPiece, Received, Writes, Replies}
 use Rattle.zkasm.specs.declared.stdin.Delivery.{Delivery}
 use Rattle.zkasm.specs.declared.stdin.Delivery.TheVariants.{Piece, End, Interrupted, Failed}
@@ -30,7 +32,7 @@ use Rattle.zkasm.proofs.Printing.{output-long}
 
 -- ---- one read
 
-failure-none : (error : ℤ) → count_of (failure_of error) ≡ 0
+pub failure-none : (error : ℤ) → count_of (failure_of error) ≡ 0
 unfolding failure_of count_of
 failure-none (pos n) = go (eqb n interruption)
   where
@@ -109,21 +111,23 @@ pub last_of : {step : Step} {came : List ℕ} → Transcript step came → Optio
 last_of start = none
 last_of (next delivery piece calls count fits e) = some delivery
 
+-- Only the end leads to a whole input.
+pub whole-by-end : {n : ℕ} (a : Delivery) (filled tries : ℕ) → Done (Whole n) ≡ step_of filled tries a → a ≡ End
+unfolding step_of
+whole-by-end {n} (Piece k) filled tries e = go (ltb (filled + k) input_room) e
+  where
+    go : (v : Bool) → Done (Whole n) ≡ elim v [ true ↦ Again (filled + k) tries | false ↦ Done TooLong ] → Piece k ≡ End
+    go true e = let z : ◌≡◌ {A = ℕ} 0 1 = cc in absurd (omega arith)
+    go false e = let z : ◌≡◌ {A = ℕ} 0 1 = cc in absurd (omega arith)
+whole-by-end End filled tries e = refl
+whole-by-end Interrupted filled zero e = let z : ◌≡◌ {A = ℕ} 0 1 = cc in absurd (omega arith)
+whole-by-end Interrupted filled (suc tries) e = let z : ◌≡◌ {A = ℕ} 0 1 = cc in absurd (omega arith)
+whole-by-end Failed filled tries e = let z : ◌≡◌ {A = ℕ} 0 1 = cc in absurd (omega arith)
+
 -- An input is whole only if the last call answered that it had ended.
 pub whole-ended : {n : ℕ} {came : List ℕ} (calls : Transcript (Done (Whole n)) came) → last_of calls ≡ some End
-unfolding last_of step_of
-whole-ended {n} (next {filled} {tries} delivery piece calls count fits e) = ap some (only delivery filled tries e)
-  where
-    only : (a : Delivery) (filled tries : ℕ) → Done (Whole n) ≡ step_of filled tries a → a ≡ End
-    only (Piece k) filled tries e = go (ltb (filled + k) input_room) e
-      where
-        go : (v : Bool) → Done (Whole n) ≡ elim v [ true ↦ Again (filled + k) tries | false ↦ Done TooLong ] → Piece k ≡ End
-        go true e = let z : ◌≡◌ {A = ℕ} 0 1 = cc in absurd (omega arith)
-        go false e = let z : ◌≡◌ {A = ℕ} 0 1 = cc in absurd (omega arith)
-    only End filled tries e = refl
-    only Interrupted filled zero e = let z : ◌≡◌ {A = ℕ} 0 1 = cc in absurd (omega arith)
-    only Interrupted filled (suc tries) e = let z : ◌≡◌ {A = ℕ} 0 1 = cc in absurd (omega arith)
-    only Failed filled tries e = let z : ◌≡◌ {A = ℕ} 0 1 = cc in absurd (omega arith)
+unfolding last_of
+whole-ended {n} (next {filled} {tries} delivery piece calls count fits e) = ap some (whole-by-end delivery filled tries e)
 
 -- ---- another call
 
@@ -162,14 +166,21 @@ module _ {old new : List ℕ} {filled tries : ℕ} (r : Received old new (Again 
     pub next-less : (more left : ℕ) → Again more left ≡ step_of filled tries delivery → input_room - more + left < input_room - filled + tries
     next-less more left e = step_less filled tries more left delivery (delivers-advance p.delivers) next_fits e
 
+    -- Where it is known what the input has left, the bytes that came by then are the first of it.
+    pub reads-on : length piece ≡ input_room → (left now rest : Known (List ℕ)) → Consumes left now r.came → Consumes now rest (take (count_of delivery) piece)
+        → (t : Received old new' (step_of filled tries delivery)) × Consumes left rest t.came
+    reads-on size left now rest before after =
+        let count : length (take (count_of delivery) piece) ≡ count_of delivery = length-take-le (count_of delivery) piece (omega (arith, next_fits)) in (
+          record {
+            came = r.came ++ take (count_of delivery) piece;
+            calls = next delivery (take (count_of delivery) piece) r.calls count (omega (arith, next_fits)) refl;
+            holds = p.holds ∙ rw (r.holds, (counted r.calls).0) (put-over r.came (take (count_of delivery) piece) old);
+          },
+          Consumes-trans left now rest r.came (take (count_of delivery) piece) before after,
+        )
+
     pub reads-next : length piece ≡ input_room → Received old new' (step_of filled tries delivery)
-    reads-next size =
-        let count : length (take (count_of delivery) piece) ≡ count_of delivery = length-take-le (count_of delivery) piece (omega (arith, next_fits)) in
-        record {
-          came = r.came ++ take (count_of delivery) piece;
-          calls = next delivery (take (count_of delivery) piece) r.calls count (omega (arith, next_fits)) refl;
-          holds = p.holds ∙ rw (r.holds, (counted r.calls).0) (put-over r.came (take (count_of delivery) piece) old);
-        }
+    reads-next size = (reads-on size None None None tt tt).0
 
 -- ---- what was read
 
@@ -183,6 +194,9 @@ module _ {old new : List ℕ} (room : length old ≡ input_room) where
   pub whole-front : {n : ℕ} (r : Received old new (Done (Whole n))) → take n new ≡ r.came
   whole-front r = rw (r.holds, (counted r.calls).0) (take-over r.came old)
 
+  pub too-long-full : (r : Received old new (Done TooLong)) → length r.came ≡ input_room
+  too-long-full r = counted r.calls
+
   -- One that is too long fills it.
   pub too-long-fills : (r : Received old new (Done TooLong)) → new ≡ r.came
   unfolding over
@@ -193,7 +207,7 @@ module _ {old new : List ℕ} (room : length old ≡ input_room) where
 -- ---- what is written
 
 -- Whatever follows an input that is too long, what is printed is the same. So it need not be read.
-rest-alike : (came rest : List ℕ) → length came ≡ input_room → program_output (came ++ rest) ≡ program_output came
+pub rest-alike : (came rest : List ℕ) → length came ≡ input_room → program_output (came ++ rest) ≡ program_output came
 rest-alike came rest h = output-long (came ++ rest) (omega (arith, length-append came rest)) ∙ sym (output-long came (omega arith))
 
 module _ {old new : List ℕ} {n : ℕ} where

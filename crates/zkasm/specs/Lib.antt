@@ -1,3 +1,4 @@
 pub mod Promised
 pub mod Stdin
 pub mod Zkasm
+pub mod Source

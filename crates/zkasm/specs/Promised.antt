@@ -1,6 +1,5 @@
 -- What the program's functions promise.
 use Rattle.std.specs.Prelude.{ℕ, ◌-◌, ◌≤◌, ◌≡◌, List, length, take, ℤ}
-use Rattle.libc.specs.Io.{Moved}
 use Rattle.text_lexical.specs.Names.{present}
 use Rattle.text_writer.specs.Promised.{put}
 use Rattle.image.specs.Assembling.{assembling}
@@ -8,7 +7,7 @@ use Rattle.image.specs.Lent.{over, answer_of, image_after}
 use Rattle.image_assembler.specs.Promised.{answer_meant}
 use Rattle.image_assembler.specs.declared.assembler.Assembled.{Assembled}
 use Rattle.zkasm.specs.Zkasm.{table_room}
-use Rattle.zkasm.specs.Stdin.{delivery_of, count_of, Transcript, Writing, printed, told, writing_of}
+use Rattle.zkasm.specs.Stdin.{Moved, delivery_of, count_of, Transcript, Writing, printed, told, writing_of}
 use Rattle.zkasm.specs.declared.stdin.Delivery.{Delivery}
 use Rattle.zkasm.specs.declared.stdin.Input.{Input}
 use Rattle.zkasm.specs.declared.stdin.Step.{Step}

@@ -25,6 +25,11 @@ interruption = 4
 
 -- ---- one read
 
+-- What a call that is lent a buffer of n bytes may answer: -1, or how many bytes came, at most n.
+abbrev pub Moved : ℕ → ℤ → Type 0
+Moved n (pos k) = k ≤ n
+Moved n (negsuc k) = k ≡ 0
+
 -- A call that failed, by the number of its error.
 unfoldable pub failure_of : ℤ → Delivery
 failure_of (pos error) = elim (eqb error interruption) [ true ↦ Interrupted | false ↦ Failed ]

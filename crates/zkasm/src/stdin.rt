@@ -1,8 +1,12 @@
-// Standard input, read until it ends or until it is too long.
-ghost use Rattle.std.specs.Prelude.{◌≡◌, ◌+◌, ◌≤◌, ◌<◌, length};
+// The program's input, read until it ends or until it is too long.
+ghost use Rattle.std.specs.Prelude.{◌≡◌, ◌+◌, ◌≤◌, ◌<◌, length, take};
 ghost use Rattle.zkasm.specs.Stdin.{input_room, delivery_of, count_of, step_of};
 ghost use Rattle.zkasm.specs.declared.stdin.Step.TheVariants.{Done};
 ghost use Rattle.zkasm.specs.Promised.{Delivers, ReadsPiece, Received};
+ghost use Rattle.zkasm.specs.Source.{Brings, Takes};
+
+use std::io;
+use std::io::Read;
 
 // The bytes that an input may have.
 pub const MOST_INPUT: usize = 16384;
@@ -13,8 +17,11 @@ pub const ROOM: usize = MOST_INPUT + 1;
 // The number of times that an interrupted read is tried again.
 const TRIES: usize = 100;
 
+// The number of the error of a call that was interrupted before a byte came.
+const INTERRUPTION: i32 = 4;
+
 // What a call of `read` delivered: a number of bytes, or the news that no more follow.
-#[derive(Drop)]
+#[derive(Clone, Copy)]
 enum Delivery {
     Piece(usize),
     End,
@@ -23,7 +30,7 @@ enum Delivery {
 }
 
 // What reading came to.
-#[derive(Drop)]
+#[derive(Clone, Copy)]
 pub enum Input {
     Whole(usize),
     TooLong,
@@ -31,7 +38,7 @@ pub enum Input {
 }
 
 // What follows a delivery: another read, with the number of bytes so far and of tries left, or the outcome.
-#[derive(Drop)]
+#[derive(Clone, Copy)]
 enum Step {
     Again { filled: usize, tries: usize },
     Done(Input),
@@ -45,7 +52,7 @@ fn delivery_of(got: isize, error: i32) -> Delivery
         Delivery::Piece(got as usize)
     } else if got == 0 {
         Delivery::End
-    } else if error == libc::EINTR {
+    } else if error == INTERRUPTION {
         Delivery::Interrupted
     } else {
         Delivery::Failed
@@ -85,24 +92,41 @@ pub fn blank() -> [u8; ROOM]
     [0; ROOM]
 }
 
+// The number of an error, as the operating system has it; 0 for one that has none.
+fn error_number(error: io::Error) -> i32 {
+    match error.raw_os_error() {
+        Some(number) => number,
+        None => 0,
+    }
+}
+
 // Reads once. At least one byte is asked for, because an answer of 0 means the end only then.
-fn read_some(piece: &mut [u8]) -> Delivery
+fn read_some<R: Read>(reader: &mut R, piece: &mut [u8]) -> Delivery
     requires { 0 < length piece.old }
-    ensures { Delivers (length piece.old) result }
+    ensures delivery { Delivers (length piece.old) result }
+    ensures bytes { Brings (R.remaining reader.old) (R.remaining reader.new) (take (count_of result) piece.new) result }
 {
-    let got = libc::read(libc::STDIN_FILENO, piece);
-    delivery_of(got, os::errno())
+    match reader.read(piece) {
+        Ok(n) => delivery_of(n as isize, 0),
+        Err(e) => delivery_of(-1, error_number(e)),
+    }
 }
 
 // Reads once, as much as there is room for, and puts the piece after the bytes that came before. The call is lent a buffer of its
 // own, because nothing is known of the bytes that it leaves after the piece.
-fn read_piece(input: &mut [u8], filled: usize, piece: &mut [u8]) -> Delivery
+fn read_piece<R: Read>(
+    reader: &mut R,
+    input: &mut [u8],
+    filled: usize,
+    piece: &mut [u8],
+) -> Delivery
     requires room_left { filled < length input.old }
     requires piece_as_long { length piece.old ≡ length input.old }
-    ensures { ReadsPiece filled input.old piece.new input.new result }
+    ensures piece { ReadsPiece filled input.old piece.new input.new result }
+    ensures bytes { Brings (R.remaining reader.old) (R.remaining reader.new) (take (count_of result) piece.new) result }
 {
     let left = input.len() - filled;
-    let delivery = read_some(&mut piece[..left]);
+    let delivery = read_some(reader, &mut piece[..left]);
     if let Delivery::Piece(n) = delivery {
         text_writer::writer::write_bytes(input, filled, &piece[..n]);
     }
@@ -110,15 +134,16 @@ fn read_piece(input: &mut [u8], filled: usize, piece: &mut [u8]) -> Delivery
 }
 
 // Reads until the input ends or fills the buffer, or until a read fails.
-pub fn read_input(input: &mut [u8]) -> Input
+pub fn read_input<R: Read>(reader: &mut R, input: &mut [u8]) -> Input
     requires { length input.old ≡ input_room }
-    ensures { Received input.old input.new (Done result) }
+    ensures calls { Received input.old input.new (Done result) }
+    ensures source { Takes (R.remaining reader.old) (R.remaining reader.new) input.new result }
 {
     let mut piece = blank();
     let mut filled = 0;
     let mut tries = TRIES;
     loop {
-        let delivery = read_piece(input, filled, &mut piece);
+        let delivery = read_piece(reader, input, filled, &mut piece);
         match step_after(filled, tries, delivery) {
             Step::Again {
                 filled: more,
