@@ -94,9 +94,9 @@ reading-unneeded s room = go (leb (length s) most_bytes) (every ascii s) (walk p
     go true true (finished st) = tt
     go true true (stopped n line st) = refl
 
-pub output-long : (s : List ℕ) → most_input < length s → program_output s ≡ refusal_text 1 0
+pub output_long : (s : List ℕ) → most_input < length s → program_output s ≡ refusal_text 1 0
 unfolding program_output
-output-long s h = rw (program_output, lt-leb (length s) most_input h)
+output_long s h = rw (program_output, lt-leb (length s) most_input h)
 
 -- What the program does with an input that it accepts.
 pub record Listable (s : List ℕ) (words : ℕ) (a : Assembled) : Type 0 where

@@ -28,7 +28,7 @@ use Rattle.zkasm.specs.declared.stdin.Input.TheVariants.{Whole, TooLong, Incompl
 use Rattle.zkasm.specs.declared.stdin.Step.{Step}
 use Rattle.zkasm.specs.declared.stdin.Step.TheVariants.{Again, Done}
 use Rattle.zkasm.specs.declared.reply.Reply.TheVariants.{Output, Error}
-use Rattle.zkasm.proofs.Printing.{output-long}
+use Rattle.zkasm.proofs.Printing.{output_long}
 
 -- ---- one read
 
@@ -208,7 +208,7 @@ module _ {old new : List ℕ} (room : length old ≡ input_room) where
 
 -- Whatever follows an input that is too long, what is printed is the same. So it need not be read.
 pub rest-alike : (came rest : List ℕ) → length came ≡ input_room → program_output (came ++ rest) ≡ program_output came
-rest-alike came rest h = output-long (came ++ rest) (omega (arith, length-append came rest)) ∙ sym (output-long came (omega arith))
+rest-alike came rest h = output_long (came ++ rest) (omega (arith, length-append came rest)) ∙ sym (output_long came (omega arith))
 
 module _ {old new : List ℕ} {n : ℕ} where
   pub output-fits : Replies old new (Output n) → n ≤ length new

@@ -1,5 +1,5 @@
 -- What reading does with the bytes that the input has left, where those are known, and what is printed for them.
-use Rattle.std.specs.Prelude.{ℕ, ◌≡◌, List, take, ⊤, None, Some}
+use Rattle.std.specs.Prelude.{ℕ, ◌≡◌, List, take, ⊤, None, Some, ℤ, pos}
 use Rattle.std.specs.Io.KnownBytes.{Consumes, IsAtEnd}
 use Rattle.std.specs.declared.option.Option.{Option}
 use Rattle.zkasm.specs.Zkasm.{program_output}
@@ -9,6 +9,11 @@ use Rattle.zkasm.specs.declared.stdin.Input.{Input}
 use Rattle.zkasm.specs.declared.stdin.Input.TheVariants.{Whole, TooLong, Incomplete}
 use Rattle.zkasm.specs.declared.reply.Reply.{Reply}
 use Rattle.zkasm.specs.declared.reply.Reply.TheVariants.{Output, Error}
+
+-- The number of an error, by what the operating system has for it: 0 for one that it does not know.
+abbrev pub error_number : Option ℤ → ℤ
+error_number (Some number) = number
+error_number None = pos 0
 
 -- A piece is the next bytes that the input has left, and nothing is left where the call says that the input has ended.
 abbrev pub Brings : Option (List ℕ) → Option (List ℕ) → List ℕ → Delivery → Type 0

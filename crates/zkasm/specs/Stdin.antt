@@ -1,6 +1,6 @@
 -- Standard input: what an answer of `read` means, when reading goes on, and what is written in the end. "A program reads standard
 -- input (at most 16,384 bytes, otherwise 1; ..) and prints the listing": the quotations are document 01's. The meaning of an answer
--- is POSIX's. Which answers `read` gives, and which bytes, no definition here says.
+-- is POSIX's. Which bytes come, where it is known what the input has left, `Source` says.
 use Rattle.std.specs.Prelude.{ℕ, zero, suc, ◌+◌, ◌≤◌, ◌≡◌, true, false, List, [], ◌∷◌, ◌++◌, length, eqb, ltb, ℤ, pos, negsuc}
 use Rattle.text_lexical.specs.Bytes.{bytes}
 use Rattle.zkasm.specs.Zkasm.{most_input, program_output}

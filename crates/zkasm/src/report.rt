@@ -83,6 +83,7 @@ fn report_source(input: &[u8], image: &mut [u8], out: &mut [u8]) -> usize
 }
 
 // What is printed for an input.
+#[tactic(auto, using(crate::proofs::Printing::output_long))]
 pub fn report(input: &[u8], out: &mut [u8]) -> usize
     requires { text_room ≤ length out.old }
     ensures { Prints (program_output input.now) out.old out.new result }

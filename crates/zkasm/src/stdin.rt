@@ -1,9 +1,10 @@
 // The program's input, read until it ends or until it is too long.
 ghost use Rattle.std.specs.Prelude.{◌≡◌, ◌+◌, ◌≤◌, ◌<◌, length, take};
+ghost use Rattle.std.specs.IoError.{raw_os_error};
 ghost use Rattle.zkasm.specs.Stdin.{input_room, delivery_of, count_of, step_of};
 ghost use Rattle.zkasm.specs.declared.stdin.Step.TheVariants.{Done};
 ghost use Rattle.zkasm.specs.Promised.{Delivers, ReadsPiece, Received};
-ghost use Rattle.zkasm.specs.Source.{Brings, Takes};
+ghost use Rattle.zkasm.specs.Source.{error_number, Brings, Takes};
 
 use std::io;
 use std::io::Read;
@@ -93,7 +94,9 @@ pub fn blank() -> [u8; ROOM]
 }
 
 // The number of an error, as the operating system has it; 0 for one that has none.
-fn error_number(error: io::Error) -> i32 {
+fn error_number(error: io::Error) -> i32
+    ensures { result ≡ error_number (raw_os_error error) }
+{
     match error.raw_os_error() {
         Some(number) => number,
         None => 0,
