@@ -1,5 +1,7 @@
 // The three operations for programs in C or Rust, which link this crate as a static library. Each returns the number of its refusal,
 // 0 where there is none, and writes the other values of its answer over a lent array.
+#![tactic(auto)]
+
 ghost use Rattle.image_assembler.specs.Promised.{answer_meant};
 ghost use Rattle.text_lexical.specs.Names.{present};
 ghost use Rattle.capi.specs.Promised.{Handed, AssembleCall, OpenCall, ListCall};
@@ -48,8 +50,7 @@ fn write_assembled(assembled: Assembled, answer: &mut [u64; 8]) -> u32
 }
 
 // The image of a source, and its labels: words, labels, limb_bits, data_limbs, addr_limbs, the Rust's line, the line, the needed length.
-#[unsafe(no_mangle)]
-pub extern "C" fn zkasm_assemble(
+pub fn zkasm_assemble(
     source: &[u8],
     table: &mut [Label],
     image: &mut [u8],
@@ -62,8 +63,7 @@ pub extern "C" fn zkasm_assemble(
 }
 
 // The header of an image: its fields in their order, and where the code ends.
-#[unsafe(no_mangle)]
-pub extern "C" fn zkasm_open(image: &[u8], answer: &mut [u64; 12]) -> u32
+pub fn zkasm_open(image: &[u8], answer: &mut [u64; 12]) -> u32
     ensures { OpenCall image.now answer.new result }
 {
     match image::program::open(image) {
@@ -93,8 +93,7 @@ pub extern "C" fn zkasm_open(image: &[u8], answer: &mut [u64; 12]) -> u32
 }
 
 // The text of an image: its length, the index of a faulty word, the needed length.
-#[unsafe(no_mangle)]
-pub extern "C" fn zkasm_list(image: &[u8], text: &mut [u8], answer: &mut [u64; 3]) -> u32
+pub fn zkasm_list(image: &[u8], text: &mut [u8], answer: &mut [u64; 3]) -> u32
     ensures { ListCall image.now text.old text.new answer.new result }
 {
     match image_listing::disassembler::list(image, text) {

@@ -4,7 +4,7 @@ ghost use Rattle.test_vectors.specs.Answers.{same_numbers, answer_values, same_a
 ghost use Rattle.test_vectors.specs.Answers.{header_values, same_header, refused_header, text_values, same_text};
 
 // Of assembling.
-#[derive(Drop)]
+#[derive(Clone, Copy)]
 pub struct Answer {
     pub number: u64,
     pub words: u64,
@@ -18,7 +18,7 @@ pub struct Answer {
 }
 
 // Of opening.
-#[derive(Drop)]
+#[derive(Clone, Copy)]
 pub struct Header {
     pub number: u64,
     pub magic: u64,
@@ -36,7 +36,7 @@ pub struct Header {
 }
 
 // Of listing.
-#[derive(Drop)]
+#[derive(Clone, Copy)]
 pub struct Text {
     pub number: u64,
     pub length: u64,

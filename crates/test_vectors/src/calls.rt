@@ -12,28 +12,28 @@ use image_labels::label::Label as Entry;
 use image_listing::disassembler::Listing;
 
 // Which function assembles: the library's, or the exported one.
-#[derive(Drop)]
+#[derive(Clone, Copy)]
 pub enum Assembler {
     Library,
     Export,
 }
 
 // Which function lists.
-#[derive(Drop)]
+#[derive(Clone, Copy)]
 pub enum Lister {
     Library,
     Export,
 }
 
 // What assembling answers, and the whole table afterwards.
-#[derive(Drop)]
+#[derive(Clone, Copy)]
 struct Asked {
     assembled: Assembled,
     table: [Entry; 1032],
 }
 
 // The number that an exported function returns, and the whole table afterwards.
-#[derive(Drop)]
+#[derive(Clone, Copy)]
 struct Returned {
     number: u32,
     table: [Entry; 1032],

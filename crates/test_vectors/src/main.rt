@@ -1,5 +1,7 @@
 // Reads sources and images with the oracle's answers, and compares what the library and the exported functions answer: the answer,
 // every entry and every byte lent. Writes the number of each record that differs, then counts.
+#![tactic(auto)]
+
 ghost use Rattle.std.specs.Prelude.{◌≡◌, ◌≤◌, length, take};
 ghost use Rattle.test_replay.specs.Report.{Put};
 ghost use Rattle.test_replay.specs.Tally.{tally_text};
@@ -14,7 +16,9 @@ mod room;
 mod sources;
 mod table;
 
-use test_replay::list::has_tag;
+use std::io;
+use std::io::Write;
+use test_replay::list::{has_tag, read_full};
 use test_replay::report::put_verdict;
 use test_replay::tally::{Outcome, Tally, agrees};
 
@@ -154,9 +158,9 @@ fn report_room() -> [u8; 131072] {
     [0; 131072]
 }
 
-fn main() {
+fn main(rt: HostRuntime) -> io::Result<()> {
     let mut list = list_room();
-    let n = io::read_full(0, &mut list);
+    let n = read_full(&mut rt.stdin(), &mut list)?;
     let mut source = source_room();
     let mut image = image_room();
     let mut image_buffer = image_room();
@@ -170,5 +174,5 @@ fn main() {
         &mut text_buffer,
         &mut report,
     );
-    io::write_all(1, &report[..end]);
+    rt.stdout().write_all(&report[..end])
 }

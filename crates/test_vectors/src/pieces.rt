@@ -5,7 +5,7 @@ use std::num::wrapping_add_usize;
 use test_replay::list::{Spelled, has_tag};
 
 // How much of a room is filled, and the place behind the lines of the list.
-#[derive(Drop)]
+#[derive(Clone, Copy)]
 pub struct Filled {
     pub length: usize,
     pub next: usize,

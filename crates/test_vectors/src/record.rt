@@ -7,7 +7,7 @@ use std::num::{wrapping_add_u64, wrapping_add_usize};
 use test_replay::list::{has_tag, number_at};
 
 // A label of the table, and the place after its line.
-#[derive(Drop)]
+#[derive(Clone, Copy)]
 pub struct Label {
     pub start: u64,
     pub length: u64,
@@ -17,7 +17,7 @@ pub struct Label {
 
 // What assembling is asked with, and has to answer: how much of the table and of the buffer is lent, the answer, and where the list
 // has the labels.
-#[derive(Drop)]
+#[derive(Clone, Copy)]
 pub struct Asking {
     pub table: usize,
     pub room: usize,
@@ -26,7 +26,7 @@ pub struct Asking {
 }
 
 // A source's record: how long source and image are, and what is asked.
-#[derive(Drop)]
+#[derive(Clone, Copy)]
 pub struct Source {
     pub is_whole: bool,
     pub length: usize,
@@ -35,7 +35,7 @@ pub struct Source {
 }
 
 // An image's record: how long the image is, how much of a room its text fills, the buffer lent, and the answers.
-#[derive(Drop)]
+#[derive(Clone, Copy)]
 pub struct Image {
     pub is_whole: bool,
     pub length: usize,
@@ -46,25 +46,25 @@ pub struct Image {
 }
 
 // A line of one number, and the place behind it; where the tag is another, nothing is passed over.
-#[derive(Drop)]
+#[derive(Clone, Copy)]
 struct Setting {
     value: usize,
     next: usize,
 }
 
-#[derive(Drop)]
+#[derive(Clone, Copy)]
 struct AnswerLine {
     answer: Answer,
     next: usize,
 }
 
-#[derive(Drop)]
+#[derive(Clone, Copy)]
 struct HeaderLine {
     header: Header,
     next: usize,
 }
 
-#[derive(Drop)]
+#[derive(Clone, Copy)]
 struct TextLine {
     text: Text,
     next: usize,

@@ -1,5 +1,5 @@
-// The reader: it keeps the text in which a line stands and its next position there. A function over such a struct is proved by hand
-// (docs/WALKED.md), so there are few, and each leaves the work to one over the slice and the number. `token_at` is the one that `tokenize` calls.
+// The reader: it keeps the text in which a line stands and its next position there. Each function over it leaves the work to one over the
+// slice and the number. `token_at` is the one that `tokenize` calls.
 ghost use Rattle.std.specs.Prelude.{◌≡◌, ◌≤◌, length};
 ghost use Rattle.text_lexical.specs.Names.{present};
 ghost use Rattle.text.specs.Promised.{scan_at, place_after, moved};

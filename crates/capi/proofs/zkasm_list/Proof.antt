@@ -4,28 +4,28 @@ use Rattle.capi.proofs.Answers.{listed-as}
 use Rattle.capi.proofs.zkasm_list.Statement.{statement}
 use Rattle.capi.proofs.zkasm_list.Tie as tie
 
-returns : tie.Need-returns
+returns : tie.Need-returns-in-Is
 returns c =
-    let n = c.before.before in
-    listed-as n.length.given.1 n.before.before.before.before.list.ensures
+    let n = c.before in
+    listed-as n.in-Is.is n.before.before.before.list.ensures
 
-returns-2 : tie.Need-returns-2
+returns-2 : tie.Need-returns-in-Refused
 returns-2 c =
-    let n = c.before.before in
-    listed-as n.number.given.1 n.before.before.before.before.list.ensures
+    let n = c.before in
+    listed-as n.in-Refused.is n.before.before.before.list.ensures
 
-returns-3 : tie.Need-returns-3
+returns-3 : tie.Need-returns-in-Faulty
 returns-3 c =
-    let n = c.before.before in
-    listed-as n.number2.given.1 n.before.before.before.before.list.ensures
+    let n = c.before in
+    listed-as n.in-Faulty.is n.before.before.before.list.ensures
 
-returns-4 : tie.Need-returns-4
+returns-4 : tie.Need-returns-in-TooShort
 returns-4 c =
-    let n = c.before.before in
-    listed-as n.needed.given.1 n.before.before.before.before.list.ensures
+    let n = c.before in
+    listed-as n.in-TooShort.is n.before.before.before.list.ensures
 
-pub zkasm-list-spec : {M : Type 1} → statement M
-zkasm-list-spec =
+pub zkasm_list_spec : {M : Type 1} → statement M
+zkasm_list_spec =
     tie.close
     (tie.spec (λ c κs. search rules) (λ c. search rules) (λ c. search rules) (λ c. search rules) (λ c. search rules)
     (λ c. search rules) (λ c. search rules) (λ c. search rules) returns (λ c. search rules) returns-2

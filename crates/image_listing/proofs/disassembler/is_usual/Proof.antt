@@ -1,54 +1,55 @@
--- `image_listing::disassembler::is_usual` meets its contract.
+-- `image_listing::disassembler::is_usual` meets its contract. What the tests say is found, and not cited by their names, which have the numbers in them.
+use mathlib.Core.Path.{◌≡◌}
+use mathlib.Core.Bool.{false}
+use native.Mathlib.Omega.{arith}
+use lib.Dec.{leb}
 use borrow.Author.Tests.{eq-eqb, ne_eqb}
-use Rattle.image.specs.Program.{entry, stack_size}
+use Rattle.image.specs.Program.{Header, entry, stack_size}
 use Rattle.image.specs.Assembling.{most_words}
 use Rattle.image.specs.Listing.{is_usual}
+use Rattle.image.specs.Promised.{header_meant}
 use Rattle.image_listing.proofs.disassembler.is_usual.Statement.{statement}
 use Rattle.image_listing.proofs.disassembler.is_usual.Tie as tie
 
-returns : tie.Need-returns-then-header-ne0
-unfolding is_usual entry stack_size
-returns c = rw (is_usual, ne_eqb _ 0 c.if-header-ne0.true)
+-- The first field that is not as assembling writes it,
+module _ (h : Header) where
+  flags-differ : (h.flags ≡ 0 → ⊥) → false ≡ is_usual h
+  unfolding is_usual entry stack_size
+  flags-differ n = rw (is_usual, ne_eqb h.flags 0 n)
 
-returns-2 : tie.Need-returns-then-header-ne-ENTRY
-unfolding is_usual entry stack_size
-returns-2 c =
-    let p = c.before.before in
-    rw (is_usual, eq-eqb _ 0 p.if-header-ne0.false, ne_eqb _ 0x1000 c.if-header-ne-ENTRY.true)
+  entry-differs : h.flags ≡ 0 → (h.entry ≡ 0x1000 → ⊥) → false ≡ is_usual h
+  unfolding is_usual entry stack_size
+  entry-differs f n = rw (is_usual, eq-eqb h.flags 0 f, ne_eqb h.entry 0x1000 n)
 
-returns-3 : tie.Need-returns-then-header-ne0-2
-unfolding is_usual entry stack_size
-returns-3 c =
-    let q = c.before.before in
-    let p = q.before.before in
-    rw (is_usual, eq-eqb _ 0 p.if-header-ne0.false, eq-eqb _ 0x1000 q.if-header-ne-ENTRY.false, ne_eqb _ 0 c.if-header-ne0-2.true)
+  data-differs : h.flags ≡ 0 → h.entry ≡ 0x1000 → (h.data_size ≡ 0 → ⊥) → false ≡ is_usual h
+  unfolding is_usual entry stack_size
+  data-differs f e n = rw (is_usual, eq-eqb h.flags 0 f, eq-eqb h.entry 0x1000 e, ne_eqb h.data_size 0 n)
 
-returns-4 : tie.Need-returns-then-header-ne0-3
-unfolding is_usual entry stack_size
-returns-4 c =
-    let r = c.before.before in
-    let q = r.before.before in
-    let p = q.before.before in
-    rw (is_usual, eq-eqb _ 0 p.if-header-ne0.false, eq-eqb _ 0x1000 q.if-header-ne-ENTRY.false, eq-eqb _ 0 r.if-header-ne0-2.false, ne_eqb _ 0 c.if-header-ne0-3.true)
+  bss-differs : h.flags ≡ 0 → h.entry ≡ 0x1000 → h.data_size ≡ 0 → (h.bss_size ≡ 0 → ⊥) → false ≡ is_usual h
+  unfolding is_usual entry stack_size
+  bss-differs f e d n = rw (is_usual, eq-eqb h.flags 0 f, eq-eqb h.entry 0x1000 e, eq-eqb h.data_size 0 d, ne_eqb h.bss_size 0 n)
 
-returns-5 : tie.Need-returns-then-header-ne-STACK_SIZE
-unfolding is_usual entry stack_size
-returns-5 c =
-    let s = c.before.before in
-    let r = s.before.before in
-    let q = r.before.before in
-    let p = q.before.before in
-    rw (is_usual, eq-eqb _ 0 p.if-header-ne0.false, eq-eqb _ 0x1000 q.if-header-ne-ENTRY.false, eq-eqb _ 0 r.if-header-ne0-2.false, eq-eqb _ 0 s.if-header-ne0-3.false, ne_eqb _ 0x100000 c.if-header-ne-STACK_SIZE.true)
+  stack-differs : h.flags ≡ 0 → h.entry ≡ 0x1000 → h.data_size ≡ 0 → h.bss_size ≡ 0 → (h.stack_size ≡ 0x100000 → ⊥) → false ≡ is_usual h
+  unfolding is_usual entry stack_size
+  stack-differs f e d b n =
+      rw (is_usual, eq-eqb h.flags 0 f, eq-eqb h.entry 0x1000 e, eq-eqb h.data_size 0 d, eq-eqb h.bss_size 0 b, ne_eqb h.stack_size 0x100000 n)
 
-returns-6 : tie.Need-returns
-unfolding is_usual entry stack_size most_words
-returns-6 c =
-    let t = c.before in
-    let s = t.before.before in
-    let r = s.before.before in
-    let q = r.before.before in
-    let p = q.before.before in
-    rw (is_usual, eq-eqb _ 0 p.if-header-ne0.false, eq-eqb _ 0x1000 q.if-header-ne-ENTRY.false, eq-eqb _ 0 r.if-header-ne0-2.false, eq-eqb _ 0 s.if-header-ne0-3.false, eq-eqb _ 0x100000 t.if-header-ne-STACK_SIZE.false)
+  -- or none does.
+  none-differs : h.flags ≡ 0 → h.entry ≡ 0x1000 → h.data_size ≡ 0 → h.bss_size ≡ 0 → h.stack_size ≡ 0x100000 → leb h.code_size 131072 ≡ is_usual h
+  unfolding is_usual entry stack_size most_words
+  none-differs f e d b s =
+      rw (is_usual, eq-eqb h.flags 0 f, eq-eqb h.entry 0x1000 e, eq-eqb h.data_size 0 d, eq-eqb h.bss_size 0 b, eq-eqb h.stack_size 0x100000 s)
 
 pub is_usual_spec : {M : Type 1} → statement M
-is_usual_spec = tie.close (tie.spec returns returns-2 returns-3 returns-4 returns-5 returns-6)
+is_usual_spec =
+    tie.close
+    (tie.spec
+    (λ c. flags-differ (header_meant c.before.before.args.header) (λ e. omega arith))
+    (λ c. entry-differs (header_meant c.before.before.before.before.args.header) (omega arith) (λ e. omega arith))
+    (λ c. data-differs (header_meant c.before.before.before.before.before.before.args.header) (omega arith) (omega arith) (λ e. omega arith))
+    (λ c. bss-differs (header_meant c.before.before.before.before.before.before.before.before.args.header) (omega arith) (omega arith) (omega arith)
+    (λ e. omega arith))
+    (λ c. stack-differs (header_meant c.before.before.before.before.before.before.before.before.before.before.args.header) (omega arith) (omega arith)
+    (omega arith) (omega arith) (λ e. omega arith))
+    (λ c. none-differs (header_meant c.before.before.before.before.before.before.before.before.before.before.before.args.header) (omega arith)
+    (omega arith) (omega arith) (omega arith) (omega arith)))

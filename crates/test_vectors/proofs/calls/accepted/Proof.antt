@@ -6,7 +6,7 @@ use Rattle.test_vectors.proofs.calls.accepted.Tie as tie
 
 returns : tie.Need-returns
 unfolding answer_given
-returns c = rw (c.wide3.ensures, c.before.wide2.ensures, c.before.before.wide.ensures)
+returns c = rw (c.wide-3.ensures, c.before.wide-2.ensures, c.before.before.wide.ensures)
 
-pub accepted-spec : {M : Type 1} → statement M
-accepted-spec = tie.close (tie.spec (λ c κs. search rules) (λ c κs. search rules) (λ c κs. search rules) returns)
+pub accepted_spec : {M : Type 1} → statement M
+accepted_spec = tie.close (tie.spec (λ c κs. search rules) (λ c κs. search rules) (λ c κs. search rules) returns)

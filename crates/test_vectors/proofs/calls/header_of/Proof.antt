@@ -10,21 +10,21 @@ returns c =
     let k = c.before.before.before.before in
     let w = k.before.before.before.before in
     rw (
-      c.long7.ensures,
-      c.before.long6.ensures,
-      c.before.before.long5.ensures,
-      c.before.before.before.long4.ensures,
-      k.long3.ensures,
-      k.before.wide4.ensures,
-      k.before.before.wide3.ensures,
-      k.before.before.before.wide2.ensures,
+      c.long-7.ensures,
+      c.before.long-6.ensures,
+      c.before.before.long-5.ensures,
+      c.before.before.before.long-4.ensures,
+      k.long-3.ensures,
+      k.before.wide-4.ensures,
+      k.before.before.wide-3.ensures,
+      k.before.before.before.wide-2.ensures,
       w.wide.ensures,
-      w.before.long2.ensures,
+      w.before.long-2.ensures,
       w.before.before.long.ensures,
     )
 
-pub header-of-spec : {M : Type 1} → statement M
-header-of-spec =
+pub header_of_spec : {M : Type 1} → statement M
+header_of_spec =
     tie.close
     (tie.spec (λ c κs. search rules) (λ c κs. search rules) (λ c κs. search rules) (λ c κs. search rules)
     (λ c κs. search rules) (λ c κs. search rules) (λ c κs. search rules) (λ c κs. search rules)

@@ -7,7 +7,7 @@ use Rattle.test_vectors.proofs.record.label_at.Tie as tie
 
 returns : tie.Need-returns
 unfolding label_at behind
-returns c = rw (c.number-at3.ensures, c.before.number-at2.ensures, c.before.before.number_at.ensures, c.before.before.before.wrapping-add-usize.ensures)
+returns c = rw (c.number_at-address.ensures, c.before.number_at-length.ensures, c.before.before.number_at-start.ensures, c.before.before.before.wrapping_add_usize.ensures)
 
-pub label-at-spec : {M : Type 1} → statement M
-label-at-spec = tie.close (tie.spec (λ c κs. search rules) (λ c κs. search rules) (λ c κs. search rules) (λ c κs. search rules) returns)
+pub label_at_spec : {M : Type 1} → statement M
+label_at_spec = tie.close (tie.spec (λ c κs. search rules) (λ c κs. search rules) (λ c κs. search rules) (λ c κs. search rules) returns)

@@ -8,5 +8,5 @@ returns : tie.Need-returns
 unfolding filler_at
 returns c = refl
 
-pub filler-spec : {M : Type 1} → statement M
-filler-spec = tie.close (tie.spec (λ c. search rules) (λ c. search rules) returns)
+pub filler_spec : {M : Type 1} → statement M
+filler_spec = tie.close (tie.spec (λ c. search rules) (λ c. search rules) returns)

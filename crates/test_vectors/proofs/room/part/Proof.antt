@@ -6,11 +6,11 @@ use Rattle.test_vectors.proofs.room.part.Tie as tie
 parted : {n : ℕ} (room : List ℕ) → n ≤ length room → (n ≤ length room) × (n ≡ length (take n room))
 parted room h = (h, sym (length-take-le _ room h))
 
-returns : tie.Need-returns
+returns : tie.Need-returns-then-count-room
 returns c = parted _ (search rules)
 
-returns-2 : tie.Need-returns-2
+returns-2 : tie.Need-returns
 returns-2 c = parted _ (search rules)
 
-pub part-spec : {M : Type 1} → statement M
-part-spec = tie.close (tie.spec returns returns-2)
+pub part_spec : {M : Type 1} → statement M
+part_spec = tie.close (tie.spec returns returns-2)

@@ -4,13 +4,13 @@ use Rattle.test_vectors.specs.Rooms.{buffer_byte}
 use Rattle.test_vectors.proofs.room.wanted_at.Statement.{statement}
 use Rattle.test_vectors.proofs.room.wanted_at.Tie as tie
 
-returns : tie.Need-returns
+returns : tie.Need-returns-then-i-bytes
 unfolding buffer_byte
-returns c = rw (buffer_byte, lt-ltb _ _ c.before.if1.true)
+returns c = rw (buffer_byte, lt-ltb _ _ c.before.if-i-bytes.true)
 
-returns-2 : tie.Need-returns-2
+returns-2 : tie.Need-returns-else-i-bytes
 unfolding buffer_byte
-returns-2 c = rw (buffer_byte, le-ltb _ _ c.before.if1.false) c.filler.ensures
+returns-2 c = rw (buffer_byte, le-ltb _ _ c.before.if-i-bytes.false) c.filler.ensures
 
-pub wanted-at-spec : {M : Type 1} → statement M
-wanted-at-spec = tie.close (tie.spec (λ c. search rules) (λ c κs. search rules) returns returns-2)
+pub wanted_at_spec : {M : Type 1} → statement M
+wanted_at_spec = tie.close (tie.spec (λ c. search rules) (λ c κs. search rules) returns returns-2)

@@ -29,21 +29,13 @@ returns c =
     let b = d.before.before in
     decimal-wide present present-naming b.args.text.now b.args.at d.digits_at-digits.result b.requires (read d) c.in-TooLarge.is
 
-returns-2 : tie.Need-returns-then-magnitude-lt-LIMIT
-returns-2 c =
-    let v = c.before.before in
-    let d = v.before in
-    let b = d.before.before in
-    rw c.found.ensures
-    (decimal-found present present-naming b.args.text.now b.args.at d.digits_at-digits.result b.requires (read d) v.in-Fits.magnitude v.in-Fits.is c.before.if-magnitude-lt-LIMIT.true)
-
-returns-3 : tie.Need-returns-else-magnitude-lt-LIMIT
-returns-3 c =
-    let v = c.before in
-    let d = v.before in
-    let b = d.before.before in
-    decimal-over present present-naming b.args.text.now b.args.at d.digits_at-digits.result b.requires (read d) v.in-Fits.magnitude v.in-Fits.is c.if-magnitude-lt-LIMIT.false
-
+-- What the test says is found, and not cited by its name, which has the number in it.
 pub decimal_spec : {M : Type 1} → statement M
 decimal_spec =
-    tie.close (tie.spec digits-at-requires enum_told (λ c. search rules) found-requires returns returns-2 returns-3)
+    tie.close
+    (tie.spec digits-at-requires enum_told (λ c. search rules) found-requires returns
+    (λ c. let v = c.before.before in let d = v.before in let b = d.before.before in
+    rw c.found.ensures
+    (decimal-found present present-naming b.args.text.now b.args.at d.digits_at-digits.result b.requires (read d) v.in-Fits.magnitude v.in-Fits.is (omega arith)))
+    (λ c. let v = c.before in let d = v.before in let b = d.before.before in
+    decimal-over present present-naming b.args.text.now b.args.at d.digits_at-digits.result b.requires (read d) v.in-Fits.magnitude v.in-Fits.is (omega arith)))

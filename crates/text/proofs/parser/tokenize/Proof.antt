@@ -1,17 +1,20 @@
 -- `text::parser::tokenize` meets its contract. The loop's invariant: the tokens read so far, with those that are found from here on, are the
 -- line's.
-use Prim.Native.Nat.{◌-◌, ◌≤◌, ◌<◌}
+use Prim.Native.Nat.{ℕ, ◌+◌, ◌-◌, ◌≤◌, ◌<◌}
 use mathlib.Core.Path.{◌≡◌}
 use native.Mathlib.Omega.{arith}
-use lib.ListN.{length}
+use mathlib.Core.List.{List}
+use mathlib.Core.Logic.{◌⊎◌, ⊎_elim}
+use lib.ListN.{length, set}
 use borrow.Author.Rules.{rules}
 use Rattle.text_lexical.specs.Names.{present}
+use Rattle.text.specs.Lines.{kept}
 use Rattle.text.specs.Promised.{scan_at}
+use Rattle.text.specs.declared.lexer.Token.{Token}
 use Rattle.text.specs.declared.lexer.Scan.TheVariants.{Found}
 use Rattle.text.proofs.NameSets.{present-naming}
 use Rattle.text.proofs.Stepping.{stepped}
 use Rattle.text.proofs.Recording.{Reading, reading-begin, reading-store, reading-full, reading-end, reading-bad}
-use Rattle.text.proofs.parser.tokenize.Lts.{then-count-lt-KEPT, else-count-lt-KEPT}
 use Rattle.text.proofs.parser.tokenize.Statement.{statement}
 use Rattle.text.proofs.parser.tokenize.Tie as tie
 
@@ -56,7 +59,7 @@ further c =
     (l.3, l.4)
 
 array-set-from-tokens : tie.Need-bounds-tokens-count invariant-loop decreases-loop
-array-set-from-tokens c = omega (arith, c.if-count-lt-KEPT.true)
+array-set-from-tokens c = omega arith
 
 add-count : tie.Need-overflow_add-count invariant-loop decreases-loop
 add-count c =
@@ -66,17 +69,14 @@ add-count c =
 loop-less : tie.Need-loop-end-smaller invariant-loop decreases-loop
 loop-less c = omega (arith, further c.before)
 
-loop-again : tie.Need-loop-end-preserved invariant-loop decreases-loop
-loop-again c =
-    let b = c.before.before.before in
-    let r = b.before.before in
-    let k = c.before in
-    let t = k.in-Found.token in
-    let next = k.in-Found.next in
-    elim c.if-count-lt-KEPT.branch [
-      | then-count-lt-KEPT w ↦ rw w.tokens-is (reading-store present present-naming r.args.text.now r.args.start b.loop-end.tokens b.loop-end.count b.loop-end.at b.loop-end.invariant t next w.if-count-lt-KEPT.true (step k))
-      | else-count-lt-KEPT w ↦ rw w.tokens-is (reading-full present present-naming r.args.text.now r.args.start b.loop-end.tokens b.loop-end.count b.loop-end.at b.loop-end.invariant t next w.if-count-lt-KEPT.false (step k))
-    ]
+-- The record after a token more, which is stored where there is room.
+stored-next : (s : List ℕ) (from at n next : ℕ) (ts ts' : List Token) (t : Token) → Reading present s from ts n at → Found t next ≡ scan_at present s at → n < kept
+    → ts' ≡ set ts n t → Reading present s from ts' (n + 1) next
+stored-next s from at n next ts ts' t r e l q = rw q (reading-store present present-naming s from ts n at r t next l e)
+
+passed-next : (s : List ℕ) (from at n next : ℕ) (ts ts' : List Token) (t : Token) → Reading present s from ts n at → Found t next ≡ scan_at present s at → kept ≤ n
+    → ts' ≡ ts → Reading present s from ts' (n + 1) next
+passed-next s from at n next ts ts' t r e l q = rw q (reading-full present present-naming s from ts n at r t next l e)
 
 pub tokenize_spec : {M : Type 1} → statement M
 tokenize_spec =
@@ -95,4 +95,9 @@ tokenize_spec =
     array-set-from-tokens
     add-count
     loop-less
-    loop-again)
+    (λ c. let k = c.before in let b = k.before.before in let r = b.before.before in
+    let on : (ts : List Token) → ((b.loop-end.count < 9) × (ts ≡ set b.loop-end.tokens b.loop-end.count k.in-Found.token)) ⊎ ((9 ≤ b.loop-end.count) × (ts ≡ b.loop-end.tokens))
+    → Reading present r.args.text.now r.args.start ts (b.loop-end.count + 1) k.in-Found.next = λ ts. ⊎_elim
+    (λ w. stored-next r.args.text.now r.args.start b.loop-end.at b.loop-end.count k.in-Found.next b.loop-end.tokens ts k.in-Found.token b.loop-end.invariant (step k) w.0 w.1)
+    (λ w. passed-next r.args.text.now r.args.start b.loop-end.at b.loop-end.count k.in-Found.next b.loop-end.tokens ts k.in-Found.token b.loop-end.invariant (step k) w.0 w.1) in
+    on _ (grind arith)))

@@ -1,24 +1,24 @@
--- `text_lexical::name::numbered` meets its contract.
-use Prim.Native.Nat.{ℕ}
+-- `text_lexical::name::numbered` meets its contract. What the test says is found, and not cited by its name, which has the number in it.
+use Prim.Native.Nat.{ℕ, ◌≤◌, ◌<◌}
 use mathlib.Core.Path.{◌≡◌, ap}
 use borrow.Author.Tests.{lt-ltb, le-ltb}
-use mathlib.Core.Option.{some}
-use Rattle.text_lexical.specs.Promised.{index_of, register_number}
+use mathlib.Core.Option.{Option, none, some}
+use Rattle.text_lexical.specs.Promised.{register_number}
 use native.Mathlib.Omega.{arith}
 use borrow.Author.Rules.{rules}
 use Rattle.text_lexical.proofs.name.numbered.Statement.{statement}
 use Rattle.text_lexical.proofs.name.numbered.Tie as tie
 
-returns : tie.Need-returns-then-number-lt16
+registered : (n i : ℕ) → n < 16 → i ≡ n → ◌≡◌ {A = Option (Option ℕ)} (some (some i)) (some (register_number n))
 unfolding register_number
-returns c =
-    let n = c.before.before.args.number in
-    let e : index_of c.from_index.result ≡ c.before.before.args.number = omega arith in
-    rw (register_number, lt-ltb n 16 c.before.if-number-lt16.true) (ap (λ (x : ℕ). some (some x)) e)
+registered n i l e = rw (register_number, lt-ltb n 16 l) (ap (λ (x : ℕ). some (some x)) e)
 
-returns-2 : tie.Need-returns
+unregistered : (n : ℕ) → 16 ≤ n → ◌≡◌ {A = Option (Option ℕ)} (some none) (some (register_number n))
 unfolding register_number
-returns-2 c = rw (register_number, le-ltb c.before.args.number 16 c.if-number-lt16.false)
+unregistered n l = rw (register_number, le-ltb n 16 l)
 
 pub numbered_spec : {M : Type 1} → statement M
-numbered_spec = tie.close (tie.spec (λ c κs. search rules) returns returns-2)
+numbered_spec =
+    tie.close
+    (tie.spec (λ c κs. search rules) (λ c. registered c.before.before.args.number _ (omega arith) (omega arith))
+    (λ c. unregistered c.before.args.number (omega arith)))

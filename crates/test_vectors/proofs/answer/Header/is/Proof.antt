@@ -4,7 +4,7 @@ use Rattle.test_vectors.proofs.answer.Header.is.Statement.{statement}
 use Rattle.test_vectors.proofs.answer.Header.is.Tie as tie
 
 returns : tie.Need-returns
-returns c = rw (← c.before.before.values.ensures) c.has.ensures
+returns c = rw (← c.before.before.values-values.ensures) c.has.ensures
 
-pub is-spec : {M : Type 1} → statement M
-is-spec = tie.close (tie.spec (λ c κs. search rules) (λ c κs. search rules) returns)
+pub is_spec : {M : Type 1} → statement M
+is_spec = tie.close (tie.spec (λ c κs. search rules) (λ c κs. search rules) returns)

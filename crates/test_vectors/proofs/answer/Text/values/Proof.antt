@@ -8,5 +8,5 @@ returns : tie.Need-returns
 unfolding text_values
 returns c = refl
 
-pub values-spec : {M : Type 1} → statement M
-values-spec = tie.close (tie.spec returns)
+pub values_spec : {M : Type 1} → statement M
+values_spec = tie.close (tie.spec returns)
