@@ -194,9 +194,6 @@ module _ {old new : List ℕ} (room : length old ≡ input_room) where
   pub whole-front : {n : ℕ} (r : Received old new (Done (Whole n))) → take n new ≡ r.came
   whole-front r = rw (r.holds, (counted r.calls).0) (take-over r.came old)
 
-  pub too-long-full : (r : Received old new (Done TooLong)) → length r.came ≡ input_room
-  too-long-full r = counted r.calls
-
   -- One that is too long fills it.
   pub too-long-fills : (r : Received old new (Done TooLong)) → new ≡ r.came
   unfolding over
