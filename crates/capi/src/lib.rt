@@ -1,4 +1,4 @@
-// The three operations for programs in C or Rust, which link this crate as a static library. Each returns the number of its refusal,
+// The three operations for programs in C or Rust, which `capi_c` exports in a static library. Each returns the number of its refusal,
 // 0 where there is none, and writes the other values of its answer over a lent array.
 #![tactic(auto)]
 

@@ -256,7 +256,7 @@ fn slot(hash: Digest, places: usize) -> usize
     requires some_place { 0 < places }
     requires places_few { places ≤ 65536 }
     ensures value { result ≡ slot_of hash places }
-    ensures at_most { result < places }
+    ensures below { result < places }
 {
     (hash.first % 4294967296) as usize * places / 4294967296
 }

@@ -146,7 +146,7 @@ fn read_tail(source: &[u8], from: usize, form: u8) -> Tail
 // Whether the word from `at` to `end` is a label: a colon follows it at once, and it is no register's name, as no word is that is longer than
 // the longest of these.
 fn is_label(source: &[u8], at: usize, end: usize) -> bool
-    requires within_line { at < end }
+    requires not_empty { at < end }
     requires end_in_text { end ≤ length source.now }
     ensures { result ≡ is_label present source.now at end }
 {

@@ -153,7 +153,7 @@ fn signed(field: u32, half: u32) -> Whole
     requires field_fits { field < half + half }
     requires half_fits { half ≤ 0x100000 }
     ensures signed { Signed (half + half) field (whole_meant result) }
-    ensures sign { result ≡ whole_for (whole_meant result) }
+    ensures settled { result ≡ whole_for (whole_meant result) }
 {
     if field < half {
         Whole {
@@ -170,7 +170,7 @@ fn signed(field: u32, half: u32) -> Whole
 
 fn number_at(form: u8, word: u32) -> Whole
     ensures value { number_for (places (form_at form)) (whole_meant result) ≡ number_in word (places (form_at form)) }
-    ensures sign { result ≡ whole_for (whole_meant result) }
+    ensures settled { result ≡ whole_for (whole_meant result) }
 {
     match form {
         SHIFT => Whole {
@@ -185,7 +185,7 @@ fn number_at(form: u8, word: u32) -> Whole
 // The operands that a word holds.
 fn operands_of(form: u8, word: u32) -> Operands
     ensures value { operands_meant (places (form_at form)) result ≡ record { registers = registers_in word (places (form_at form)); number = number_in word (places (form_at form)) } }
-    ensures sign { result.number ≡ whole_for (whole_meant result.number) }
+    ensures settled { result.number ≡ whole_for (whole_meant result.number) }
 {
     let low = register_at(word, LOW);
     let high = register_at(word, HIGH);

@@ -194,8 +194,8 @@ pub fn line_at(list: &[u8], from: usize, room: &mut [u8]) -> Piece
     requires { 2 < length room.old }
     ensures value { result ≡ piece_for (length room.old) list.now from }
     ensures room_after { room.new ≡ sets room.old 2 (line_for (length room.old) list.now from ++ (10 ∷ [])) }
-    ensures start_le_end { (result.start ≤ result.end) × (result.end < length room.new) }
-    ensures end_value { result.end ≡ length (take result.end room.new) }
+    ensures within_room { (result.start ≤ result.end) × (result.end < length room.new) }
+    ensures slice_end { result.end ≡ length (take result.end room.new) }
 {
     let start = 2;
     let mut end: usize = start;

@@ -56,8 +56,8 @@ fn outcome(list: &[u8], at: usize) -> Compared {
 
 // Compares each record, and puts the report into the room. The promises are what `&room[..end]` asks for.
 fn compare(list: &[u8], room: &mut [u8]) -> usize
-    ensures upper_bound { result ≤ length room.new }
-    ensures value { result ≡ length (take result room.new) }
+    ensures in_room { result ≤ length room.new }
+    ensures slice_end { result ≡ length (take result room.new) }
 {
     let mut tally = Tally::new();
     let mut end = 0;

@@ -11,7 +11,7 @@ use image_assembler::assembler::Assembled;
 use image_labels::label::Label as Entry;
 use image_listing::disassembler::Listing;
 
-// Which function assembles: the library's, or the exported one.
+// Which function assembles: the library's, or that of `capi`, which the exported one calls.
 #[derive(Clone, Copy)]
 pub enum Assembler {
     Library,
@@ -32,7 +32,7 @@ struct Asked {
     table: [Entry; 1032],
 }
 
-// The number that an exported function returns, and the whole table afterwards.
+// The number that a function of `capi` returns, and the whole table afterwards.
 #[derive(Clone, Copy)]
 struct Returned {
     number: u32,
@@ -101,7 +101,7 @@ fn ask(source: &[u8], room: usize, image: &mut [u8]) -> Asked
     Asked { assembled, table }
 }
 
-// The same by the exported function, which writes its answer over an array.
+// The same by the function of `capi`, which writes its answer over an array.
 fn ask_export(source: &[u8], room: usize, image: &mut [u8], answer: &mut [u64; 8]) -> Returned
     requires { room ≤ 1032 }
 {
@@ -121,7 +121,7 @@ fn library_agrees(source: &[u8], asking: Asking, image: &mut [u8], list: &[u8]) 
     wanted.is(answer_of(assembled)) && has_labels(table, list, asking.labels_at, wanted.labels)
 }
 
-// The same of the exported function.
+// The same of the function of `capi`.
 fn export_agrees(source: &[u8], asking: Asking, image: &mut [u8], list: &[u8]) -> bool
     requires { asking.table ≤ 1032 }
 {
@@ -180,7 +180,7 @@ fn opened_header(opened: Opened) -> Header
     }
 }
 
-// Whether an image is opened so, by the exported function too.
+// Whether an image is opened so, by the function of `capi` too.
 pub(crate) fn is_opened(image: &[u8], wanted: Header) -> bool {
     let opened = image::program::open(image);
     if !wanted.is(opened_header(opened)) {

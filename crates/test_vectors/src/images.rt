@@ -26,7 +26,7 @@ fn is_listed_by(
     room::holds(buffer, b"", end)
 }
 
-// By the library, and by the exported function.
+// By the library, and by the function of `capi`.
 fn is_listed(image: &[u8], lent: usize, wanted: Text, text: &[u8], buffer: &mut [u8]) -> bool {
     if !is_listed_by(Lister::Library, image, lent, wanted, text, buffer) {
         return false;

@@ -1,4 +1,4 @@
-// Reads sources and images with the oracle's answers, and compares what the library and the exported functions answer: the answer,
+// Reads sources and images with the oracle's answers, and compares what the library and the functions of `capi` answer: the answer,
 // every entry and every byte lent. Writes the number of each record that differs, then counts.
 #![tactic(auto)]
 
@@ -116,8 +116,8 @@ fn compare(
     text_buffer: &mut [u8],
     room: &mut [u8],
 ) -> usize
-    ensures upper_bound { result ≤ length room.new }
-    ensures value { result ≡ length (take result room.new) }
+    ensures in_room { result ≤ length room.new }
+    ensures slice_end { result ≡ length (take result room.new) }
 {
     let mut tally = Tally::new();
     let mut end = 0;

@@ -20,8 +20,8 @@ pub(crate) fn guarded(lent: usize) -> usize {
 // How many bytes the part of a buffer takes that has `count` of them, if it has so many. The second promise follows from the
 // first, and is what `&room[..n]` asks for.
 pub(crate) fn part(room: &[u8], count: usize) -> usize
-    ensures upper_bound { result ≤ length room.now }
-    ensures value { result ≡ length (take result room.now) }
+    ensures in_room { result ≤ length room.now }
+    ensures slice_end { result ≡ length (take result room.now) }
 {
     if count < room.len() {
         return count;

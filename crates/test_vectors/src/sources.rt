@@ -27,7 +27,7 @@ fn is_assembled_by(
     room::holds(buffer, b"", end)
 }
 
-// By the library, and by the exported function.
+// By the library, and by the function of `capi`.
 pub(crate) fn is_assembled(
     source: &[u8],
     asking: Asking,

@@ -56,7 +56,7 @@ pub(crate) fn decode(word: u32) -> Decoded {
 pub(crate) fn write(instruction: Instruction, room: &mut [u8]) -> Text
     requires { length room.old ≡ 96 }
     ensures end_in_bounds { result.end ≤ length room.new }
-    ensures end_value { result.end ≡ length (take result.end room.new) }
+    ensures slice_end { result.end ≡ length (take result.end room.new) }
 {
     let mnemonics = instruction::opcode::mnemonics();
     let length = instruction_display::display::instruction_length(instruction, &mnemonics);

@@ -1,2 +1,2 @@
-// What the proofs of functions over borrowed memory share: no code, only laws in proofs/.
+// Laws for a proof by hand of a function over borrowed memory: no code, only laws in proofs/.
 #![tactic(auto)]

@@ -20,7 +20,7 @@ abbrev pub Brings : Option (List ℕ) → Option (List ℕ) → List ℕ → Del
 Brings left rest piece delivery = Consumes left rest piece × (delivery ≡ End → IsAtEnd rest)
 
 -- The buffer holds the next bytes that the input has left: all of them if it is whole, and as many as there is room for if it is too long.
--- Of an incomplete one some bytes are lost.
+-- Of an incomplete one some bytes came, the next that it had left.
 abbrev pub Takes : Option (List ℕ) → Option (List ℕ) → List ℕ → Input → Type 0
 Takes left rest buffer (Whole n) = Consumes left rest (take n buffer) × IsAtEnd rest
 Takes left rest buffer TooLong = Consumes left rest buffer
