@@ -1,3 +1,2 @@
-#![tactic(auto)]
-
 // The promises over all three layers: no code, the statements stand in specs/ and their proofs in proofs/.
+#![tactic(auto)]
