@@ -2,49 +2,64 @@
 // 0 where there is none, and writes the other values of its answer over a lent array.
 #![tactic(auto)]
 
+ghost use Rattle.std.specs.Prelude.{◌≡◌};
 ghost use Rattle.image_assembler.specs.Promised.{answer_meant};
+ghost use Rattle.refusal.specs.Refusals.{number_of};
 ghost use Rattle.text_lexical.specs.Names.{present};
 ghost use Rattle.capi.specs.Promised.{Handed, AssembleCall, OpenCall, ListCall};
 
 use image::program::Opened;
-use image_assembler::assembler::Assembled;
+use image_assembler::assembler::{AssembleError, Assembled};
 use image_labels::label::Label;
-use image_listing::disassembler::Listing;
+use image_listing::disassembler::ListError;
+use refusal::refusal::Refusal;
+
+// A refusal as C has it: no such call returns an enum.
+fn number(refusal: Refusal) -> u32
+    ensures { result ≡ number_of refusal }
+{
+    u32::from(u8::from(refusal))
+}
 
 // An answer of assembling, handed on.
-fn write_assembled(assembled: Assembled, answer: &mut [u64; 8]) -> u32
+#[tactic(auto, unfolding(image::specs::Settings::settings))]
+fn write_assembled(assembled: Result<Assembled, AssembleError>, answer: &mut [u64; 8]) -> u32
     ensures { Handed (answer_meant assembled) answer.new result }
 {
     match assembled {
-        Assembled::Is {
-            words,
-            labels,
-            config,
-        } => {
+        Ok(
+            Assembled {
+                words,
+                labels,
+                config,
+            },
+        ) => {
             *answer = [
                 words as u64,
                 labels as u64,
-                config.limb_bits as u64,
-                config.data_limbs as u64,
-                config.addr_limbs as u64,
+                u64::from(config.limb_bits),
+                u64::from(config.data_limbs),
+                u64::from(config.addr_limbs),
                 0,
                 0,
                 0,
             ];
             0
         }
-        Assembled::Refused {
-            number,
-            rust_line,
-            line,
-            labels,
-        } => {
+        Err(
+            AssembleError::Refused {
+                refusal,
+                rust_line,
+                line,
+                labels,
+            },
+        ) => {
             *answer = [0, labels as u64, 0, 0, 0, rust_line as u64, line as u64, 0];
-            number as u32
+            number(refusal)
         }
-        Assembled::TooShort { labels, needed } => {
+        Err(AssembleError::TooShort { labels, needed }) => {
             *answer = [0, labels as u64, 0, 0, 0, 0, 0, needed as u64];
-            23
+            number(Refusal::ImageTooShort)
         }
     }
 }
@@ -63,28 +78,29 @@ pub fn zkasm_assemble(
 }
 
 // The header of an image: its fields in their order, and where the code ends.
+#[tactic(auto, unfolding(image::specs::Settings::settings))]
 pub fn zkasm_open(image: &[u8], answer: &mut [u64; 12]) -> u32
     ensures { OpenCall image.now answer.new result }
 {
     match image::program::open(image) {
-        Opened::Refused(number) => {
+        Err(refusal) => {
             *answer = [0; 12];
-            number as u32
+            number(refusal)
         }
-        Opened::Is { header, code_end } => {
+        Ok(Opened { header, code_end }) => {
             let config = header.config;
             *answer = [
-                header.magic as u64,
-                header.version as u64,
-                config.limb_bits as u64,
-                config.data_limbs as u64,
-                config.addr_limbs as u64,
-                header.flags as u64,
-                header.entry_point as u64,
-                header.code_size as u64,
-                header.data_size as u64,
-                header.bss_size as u64,
-                header.stack_size as u64,
+                u64::from(header.magic),
+                u64::from(header.version),
+                u64::from(config.limb_bits),
+                u64::from(config.data_limbs),
+                u64::from(config.addr_limbs),
+                u64::from(header.flags),
+                u64::from(header.entry_point),
+                u64::from(header.code_size),
+                u64::from(header.data_size),
+                u64::from(header.bss_size),
+                u64::from(header.stack_size),
                 code_end as u64,
             ];
             0
@@ -97,21 +113,21 @@ pub fn zkasm_list(image: &[u8], text: &mut [u8], answer: &mut [u64; 3]) -> u32
     ensures { ListCall image.now text.old text.new answer.new result }
 {
     match image_listing::disassembler::list(image, text) {
-        Listing::Is(length) => {
+        Ok(length) => {
             *answer = [length as u64, 0, 0];
             0
         }
-        Listing::Refused(number) => {
+        Err(ListError::Refused(refusal)) => {
             *answer = [0, 0, 0];
-            number as u32
+            number(refusal)
         }
-        Listing::Faulty { number, index } => {
+        Err(ListError::Faulty { refusal, index }) => {
             *answer = [0, index as u64, 0];
-            number as u32
+            number(refusal)
         }
-        Listing::TooShort(needed) => {
+        Err(ListError::TooShort(needed)) => {
             *answer = [0, 0, needed as u64];
-            32
+            number(Refusal::TextTooShort)
         }
     }
 }

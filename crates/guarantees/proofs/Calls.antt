@@ -6,6 +6,7 @@ use mathlib.Core.Bool.{true, true≢false}
 use mathlib.Core.List.{List, [], map}
 use native.Mathlib.Omega.{arith}
 use lib.ListN.{length, take}
+use Rattle.std.specs.Prelude.{Result as Answered, Ok}
 use Rattle.text_lexical.specs.Names.{Name}
 use Rattle.image.specs.Settings.{settings}
 use Rattle.image.specs.Assembling.{Assembled as Reading, accepted, rejected, assembling}
@@ -16,10 +17,10 @@ use Rattle.image.specs.Lent.{over, Answer, assembled, answer_of, entered, image_
 use Rattle.image_labels.specs.Promised.{entry_of}
 use Rattle.image_labels.specs.declared.label.Label.{Label as Entry}
 use Rattle.image_assembler.specs.declared.assembler.Assembled.{Assembled}
-use Rattle.image_assembler.specs.declared.assembler.Assembled.TheVariants.{Is as IsAssembled}
+use Rattle.image_assembler.specs.declared.assembler.AssembleError.{AssembleError}
 use Rattle.image_assembler.specs.Promised.{answer_meant, Assembles}
 use Rattle.image_listing.specs.Promised.{listing_meant, Lists}
-use Rattle.image_listing.specs.declared.disassembler.Listing.{Listing}
+use Rattle.image_listing.specs.declared.disassembler.ListError.{ListError}
 use Rattle.image.proofs.Lengths.{source-image-length}
 use Rattle.image.proofs.Over.{take-over}
 use Rattle.image.proofs.Walking.{accepted-assembles}
@@ -87,7 +88,7 @@ accepted-is-called names source table image k =
       image = image;
       table' = over (map entry_of (entered w)) table;
       image' = image_after names source w image;
-      answer = IsAssembled (length st.instructions) (length st.labels) (config_for st.setup);
+      answer = Ok (record { words = length st.instructions; labels = length st.labels; config = config_for st.setup });
       promised = record { answer = sym (ap answer_of a.answer); table_holds = refl; image_holds = refl };
       not_refused = λ r. r;
     }
@@ -104,7 +105,7 @@ unfolding list_answer_of is_written
 not-unlisted (written t) x e h k = subst IsUnlisted e k
 not-unlisted (unwritten r) x e h k = true≢false (sym h)
 
-again : (names : List Name) (bs : List ℕ) (table : List Entry) (image : List ℕ) (table' : List Entry) (image' : List ℕ) (r : Assembled)
+again : (names : List Name) (bs : List ℕ) (table : List Entry) (image : List ℕ) (table' : List Entry) (image' : List ℕ) (r : Answered Assembled AssembleError)
     → Accepted names (text_of bs) (length table) (length image) × (image_of names (text_of bs) ≡ bs) → Assembles names (text_of bs) table image table' image' r
     → (IsRefusal (answer_meant r) → ⊥) × (image' ≡ over bs image)
 again names bs table image table' image' r (k, e) h =
@@ -115,7 +116,7 @@ again names bs table image table' image' r (k, e) h =
 
 -- ---- what a call has written, and the calls that fill bytes
 
-module _ (bs text text' : List ℕ) (r : Listing) (h : Lists bs text text' r) where
+module _ (bs text text' : List ℕ) (r : Answered ℕ ListError) (h : Lists bs text text' r) where
   is-listed : (IsUnlisted (listing_meant r) → ⊥) → Listed bs (length text)
   is-listed = writes (listing bs (length text)) (listing_meant r) h.answer
 

@@ -9,6 +9,7 @@ use Rattle.image.specs.Opening.{Opened, opening_fault, opening}
 use Rattle.image.specs.Assembling.{Assembled as Reading, accepted, rejected, assembling}
 use Rattle.image.specs.Listing.{Listing as Written, written, rejected as unwritten, listing}
 use Rattle.image.specs.Lent.{Answer, answer_of, entered, image_after, ListAnswer, list_answer_of, text_after}
+use Rattle.refusal.specs.Refusals.{answered}
 use Rattle.image.specs.Promised.{opened_meant}
 use Rattle.image_assembler.specs.Promised.{answer_meant}
 use Rattle.image_listing.specs.Promised.{listing_meant}
@@ -51,7 +52,7 @@ demand-1 =
       numbered = λ names source table image table' image' r h.
           let room = length table in
           is-numbered (assembling names source room (length image)) (answer_meant r) h.answer (assembling-numbered names source room (length image));
-      opening_numbered = λ image r h. is-opening image (opened_meant image r) h;
+      opening_numbered = λ image r h. is-opening image (answered (opened_meant image) r) h;
       listing_numbered = λ image text text' r h. is-listing (listing image (length text)) (listing_meant r) h.answer (listing_numbered image (length text));
       image_kept = λ names source table image table' image' r h k.
           image-left names source image image' (assembling names source (length table) (length image)) (answer_meant r) h.answer h.image_holds k;

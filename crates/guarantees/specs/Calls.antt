@@ -1,7 +1,8 @@
 -- Demand 1: what every call answers and leaves in the slices that are lent to it; and demand 3, said of calls.
 -- `Assembles` and `Lists` are what the contracts of `assemble` and `list` promise of every call, whatever the source, the image and
--- the lengths of the slices, 0 included; the contract of `open` is `opened_meant image r ≡ opening image`.
+-- the lengths of the slices, 0 included; the contract of `open` is `answered (opened_meant image) r ≡ opening image`.
 use Rattle.std.specs.Prelude.{ℕ, ◌+◌, ◌*◌, ◌≤◌, ◌≡◌, ◌↔◌, Bool, true, false, List, [], ◌∷◌, ◌++◌, map, length, take, eqb}
+use Rattle.std.specs.Prelude.{Result as Answered}
 use Rattle.text_lexical.specs.Bytes.{Result, value, refused}
 use Rattle.text_lexical.specs.Names.{Name, present}
 use Rattle.image.specs.Assembling.{Label, assembling}
@@ -14,9 +15,12 @@ use Rattle.image_labels.specs.Promised.{entry_of}
 use Rattle.image_assembler.specs.Promised.{answer_meant, Assembles}
 use Rattle.image_listing.specs.Promised.{listing_meant, Lists}
 use Rattle.image_labels.specs.declared.label.Label.{Label as Entry}
+use Rattle.refusal.specs.Refusals.{answered}
+use Rattle.refusal.specs.declared.refusal.Refusal.{Refusal}
 use Rattle.image_assembler.specs.declared.assembler.Assembled.{Assembled}
+use Rattle.image_assembler.specs.declared.assembler.AssembleError.{AssembleError}
 use Rattle.image.specs.declared.program.Opened.{Opened}
-use Rattle.image_listing.specs.declared.disassembler.Listing.{Listing}
+use Rattle.image_listing.specs.declared.disassembler.ListError.{ListError}
 use Rattle.guarantees.specs.NameSets.{NameSet}
 use Rattle.guarantees.specs.Promises.{Agree, AreBytes}
 
@@ -96,19 +100,19 @@ pub record TableHolds (labels : List Label) (count : ℕ) (table table' : List E
 
 pub record Demand1 : Type 0 where
   -- The answer to a call is a finished result or one numbered refusal.
-  pub numbered : (names : List Name) (source : List ℕ) (table : List Entry) (image : List ℕ) (table' : List Entry) (image' : List ℕ) (r : Assembled)
+  pub numbered : (names : List Name) (source : List ℕ) (table : List Entry) (image : List ℕ) (table' : List Entry) (image' : List ℕ) (r : Answered Assembled AssembleError)
       → Assembles names source table image table' image' r → IsNumbered (answer_meant r)
-  pub opening_numbered : (image : List ℕ) (r : Opened) → opened_meant image r ≡ opening image → IsOpening (opened_meant image r)
-  pub listing_numbered : (image text text' : List ℕ) (r : Listing) → Lists image text text' r → IsListing (listing_meant r)
+  pub opening_numbered : (image : List ℕ) (r : Answered Opened Refusal) → answered (opened_meant image) r ≡ opening image → IsOpening (answered (opened_meant image) r)
+  pub listing_numbered : (image text text' : List ℕ) (r : Answered ℕ ListError) → Lists image text text' r → IsListing (listing_meant r)
   -- After a refusal the image buffer holds what it held before.
-  pub image_kept : (names : List Name) (source : List ℕ) (table : List Entry) (image : List ℕ) (table' : List Entry) (image' : List ℕ) (r : Assembled)
+  pub image_kept : (names : List Name) (source : List ℕ) (table : List Entry) (image : List ℕ) (table' : List Entry) (image' : List ℕ) (r : Answered Assembled AssembleError)
       → Assembles names source table image table' image' r → IsRefusal (answer_meant r) → image' ≡ image
   -- After every call the label table holds the labels entered so far, ahead of its untouched entries.
-  pub table_holds : (names : List Name) (source : List ℕ) (table : List Entry) (image : List ℕ) (table' : List Entry) (image' : List ℕ) (r : Assembled)
+  pub table_holds : (names : List Name) (source : List ℕ) (table : List Entry) (image : List ℕ) (table' : List Entry) (image' : List ℕ) (r : Answered Assembled AssembleError)
       → Assembles names source table image table' image' r
       → TableHolds (entered (assembling names source (length table) (length image))) (label_count (answer_meant r)) table table'
   -- After a refusal the text buffer holds what it held before.
-  pub text_kept : (image text text' : List ℕ) (r : Listing) → Lists image text text' r → IsUnlisted (listing_meant r) → text' ≡ text
+  pub text_kept : (image text text' : List ℕ) (r : Answered ℕ ListError) → Lists image text text' r → IsUnlisted (listing_meant r) → text' ≡ text
 
 -- ---- demand 3
 
@@ -118,7 +122,7 @@ pub record AcceptedCall (names : List Name) (source : List ℕ) : Type 0 where
   pub image : List ℕ
   pub table' : List Entry
   pub image' : List ℕ
-  pub answer : Assembled
+  pub answer : Answered Assembled AssembleError
   pub promised : Assembles names source table image table' image' answer
   pub not_refused : IsRefusal (answer_meant answer) → ⊥
 
@@ -137,19 +141,19 @@ pub record Calls : Type 0 where
   -- The names that calls read by are one of the sets that demand 3 ranges over.
   pub present_is : (N : NameSet) × (N.names ≡ present)
   -- A call is not refused exactly when its source is accepted; then it answers and fills what is read off the source.
-  pub accepted_call : (names : List Name) (source : List ℕ) (table : List Entry) (image : List ℕ) (table' : List Entry) (image' : List ℕ) (r : Assembled)
+  pub accepted_call : (names : List Name) (source : List ℕ) (table : List Entry) (image : List ℕ) (table' : List Entry) (image' : List ℕ) (r : Answered Assembled AssembleError)
       → Assembles names source table image table' image' r
       → (IsRefusal (answer_meant r) → ⊥) ↔ Accepted names source (length table) (length image)
-  pub fills_image : (names : List Name) (source : List ℕ) (table : List Entry) (image : List ℕ) (table' : List Entry) (image' : List ℕ) (r : Assembled)
+  pub fills_image : (names : List Name) (source : List ℕ) (table : List Entry) (image : List ℕ) (table' : List Entry) (image' : List ℕ) (r : Answered Assembled AssembleError)
       → Assembles names source table image table' image' r
       → Accepted names source (length table) (length image)
       → (answer_meant r
       ≡ assembled (length (instructions_of names source)) (length (entered (assembling names source (length table) (length image)))) (settings_of names source))
       × (image' ≡ over (image_of names source) image)
   -- A call is not refused exactly when its image is listed; then it answers and fills what is read off the image.
-  pub listed_call : (image text text' : List ℕ) (r : Listing) → Lists image text text' r
+  pub listed_call : (image text text' : List ℕ) (r : Answered ℕ ListError) → Lists image text text' r
       → (IsUnlisted (listing_meant r) → ⊥) ↔ Listed image (length text)
-  pub fills_text : (image text text' : List ℕ) (r : Listing) → Lists image text text' r → Listed image (length text)
+  pub fills_text : (image text text' : List ℕ) (r : Answered ℕ ListError) → Lists image text text' r → Listed image (length text)
       → (listing_meant r ≡ listed (length (text_of image))) × (text' ≡ over (text_of image) text)
   -- "For every two accepted sources, however they are spelled and whatever label tables and image buffers they were lent, their images
   -- are equal exactly when their final three settings agree and they have equally many instructions, which agree one by one in order":
@@ -160,11 +164,11 @@ pub record Calls : Type 0 where
   -- "Whatever bytes and whatever text buffer the listing is handed, it accepts exactly when some source, with some label table and image
   -- buffer, is accepted with just these bytes as its image, and the text buffer has room for their text": a call of `list` is not
   -- refused exactly when some call of `assemble` has filled just these bytes, and the text has room.
-  pub lists_exactly : (N : NameSet) (bs text text' : List ℕ) (r : Listing) → AreBytes bs → Lists bs text text' r
+  pub lists_exactly : (N : NameSet) (bs text text' : List ℕ) (r : Answered ℕ ListError) → AreBytes bs → Lists bs text text' r
       → (IsUnlisted (listing_meant r) → ⊥) ↔ (HasCall N.names bs × (length (text_of bs) ≤ length text))
   -- "The text written is that text and, taken as a source with any label table, one without entries too, and any image buffer no shorter
   -- than those bytes, is accepted and its image is those bytes again": the text that one call has written, given to another call.
-  pub text_again : (N : NameSet) (bs text text' : List ℕ) (r : Listing) → AreBytes bs → Lists bs text text' r → (IsUnlisted (listing_meant r) → ⊥)
-      → (table : List Entry) (image : List ℕ) (table' : List Entry) (image' : List ℕ) (r' : Assembled) → length bs ≤ length image
+  pub text_again : (N : NameSet) (bs text text' : List ℕ) (r : Answered ℕ ListError) → AreBytes bs → Lists bs text text' r → (IsUnlisted (listing_meant r) → ⊥)
+      → (table : List Entry) (image : List ℕ) (table' : List Entry) (image' : List ℕ) (r' : Answered Assembled AssembleError) → length bs ≤ length image
       → Assembles N.names (take (text_length (listing_meant r)) text') table image table' image' r'
       → (IsRefusal (answer_meant r') → ⊥) × (image' ≡ over bs image)

@@ -1,16 +1,14 @@
--- The checks of settings, and the `.config` line, as the code decides them.
+-- A field of settings set, and the `.config` line, as the code decides them.
 use mathlib.Core.Path.{◌≡◌, refl, ap, ◌∙◌}
-use Prim.Native.Nat.{ℕ, ◌%◌, ◌≤◌}
+use Prim.Native.Nat.{ℕ, ◌≤◌}
 use native.Mathlib.Omega.{arith}
 use mathlib.Core.Bool.{true, false}
-use mathlib.Core.Option.{none, some}
+use mathlib.Core.Option.{none}
 use mathlib.Core.List.{List, [], ◌∷◌, map}
 use lib.ListN.{length, take, drop, get_or}
 use lib.IntN.{ℤ}
-use denote.Enum.Declared.{tag_of}
-use types.Run.{OneOf, miss}
 use borrow.Author.Tests.{eq-eqb, ne_eqb}
-use Rattle.text_lexical.specs.Bytes.{Result, value, refused, between, same}
+use Rattle.text_lexical.specs.Bytes.{Result, value, refused, same}
 use Rattle.text_lexical.specs.Numbers.{residue}
 use Rattle.text.specs.Lines.{Line as Record, kept}
 use Rattle.text.specs.Promised.{extracted, extract_meant, kind_meant, spelling, meant}
@@ -18,45 +16,10 @@ use Rattle.text.specs.declared.lexer.Kind.{Kind}
 use Rattle.text.specs.declared.lexer.Kind.TheVariants.{Identifier, Register, NoRegister, Number, Negative, Hex, Binary, Directive, Comma, Colon, LParen, RParen}
 use Rattle.text.specs.declared.lexer.Token.{Token}
 use Rattle.text.specs.declared.parser.Line.{Line}
-use Rattle.text.specs.contracts.lexer.Kind as kind
 use Rattle.text.proofs.Meanings.{extracted-number}
 use Rattle.instruction.specs.Operands.{read_identifier}
-use Rattle.image.specs.Settings.{Settings, settings, settings_fault, limb_bits_key, data_limbs_key, addr_limbs_key, set_field, checked, configured_by, configured_with, configured}
+use Rattle.image.specs.Settings.{Settings, settings, limb_bits_key, data_limbs_key, addr_limbs_key, set_field, checked, configured_by, configured_with, configured}
 use Rattle.image.specs.Promised.{record_meant}
-
--- ---- the checks, in order
-
-module _ (s : Settings) where
-  -- limb_bits, its range
-  pub fault-10 : between 16 30 s.limb_bits ≡ false → settings_fault s ≡ some 10
-  unfolding settings_fault
-  fault-10 e = rw (settings_fault, e)
-
-  -- limb_bits, odd
-  pub fault-11 : between 16 30 s.limb_bits ≡ true → (s.limb_bits % 2 ≡ 0 → ⊥) → settings_fault s ≡ some 11
-  unfolding settings_fault
-  fault-11 e h = rw (settings_fault, e, ne_eqb (s.limb_bits % 2) 0 h)
-
-  module _ (bits : between 16 30 s.limb_bits ≡ true) (even : s.limb_bits % 2 ≡ 0) where
-    -- data_limbs
-    pub fault-12 : between 1 4 s.data_limbs ≡ false → settings_fault s ≡ some 12
-    unfolding settings_fault
-    fault-12 e = rw (settings_fault, bits, eq-eqb (s.limb_bits % 2) 0 even, e)
-
-    -- addr_limbs
-    pub fault-13 : between 1 4 s.data_limbs ≡ true → between 1 2 s.addr_limbs ≡ false → settings_fault s ≡ some 13
-    unfolding settings_fault
-    fault-13 e f = rw (settings_fault, bits, eq-eqb (s.limb_bits % 2) 0 even, e, f)
-
-  -- the first fault is the answer
-  pub checked-fault : (n : ℕ) → settings_fault s ≡ some n → checked (value s) ≡ refused n
-  unfolding checked
-  checked-fault n e = rw (checked, e)
-
-  -- and without one the settings are
-  pub checked-good : settings_fault s ≡ none → checked (value s) ≡ value s
-  unfolding checked
-  checked-good e = rw (checked, e)
 
 -- ---- a field set
 
@@ -82,14 +45,10 @@ module _ (s : Settings) (key : List ℕ) (v : ℕ) where
 
 -- ---- the line
 
--- The places in `Kind` of the kinds that are no Identifier.
-abbrev pub others : List ℕ
-others = 1 ∷ 2 ∷ 3 ∷ 4 ∷ 5 ∷ 6 ∷ 7 ∷ 8 ∷ 9 ∷ 10 ∷ 11 ∷ []
-
--- None of them is read as an Identifier.
-other-kind : (k : Kind) (u : List ℕ) → OneOf others (tag_of kind.the_type k) → read_identifier (kind_meant k u) ≡ none
+-- A kind that is no Identifier is not read as one.
+other-kind : (k : Kind) (u : List ℕ) → (k ≡ Identifier → ⊥) → read_identifier (kind_meant k u) ≡ none
 unfolding read_identifier
-other-kind Identifier u h = absurd (miss others 0 tt h)
+other-kind Identifier u h = absurd (h refl)
 other-kind (Register r) u h = refl
 other-kind NoRegister u h = refl
 other-kind (Number n) u h = refl
@@ -123,7 +82,7 @@ module _ (setup : Settings) (s : List ℕ) (l : Line) (d : Token) (full : length
       (ap (configured_with setup) (ap (λ (n : ℕ). drop 1 (map (meant s) (take n l.tokens))) three ∙ second-third (meant s) l.tokens d (omega arith)))
 
   -- the second has to be an Identifier
-  pub config-key : OneOf others (tag_of kind.the_type (get_or l.tokens 1 d).kind) → configured setup (record_meant s l) ≡ refused 7
+  pub config-key : ((get_or l.tokens 1 d).kind ≡ Identifier → ⊥) → configured setup (record_meant s l) ≡ refused 7
   unfolding configured_by
   config-key h = config-by ∙ rw (configured_by, other-kind (get_or l.tokens 1 d).kind (spelling s (get_or l.tokens 1 d)) h)
 

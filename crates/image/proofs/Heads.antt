@@ -10,12 +10,10 @@ use lib.Seq.{get_or-drop}
 use borrow.Author.Tests.{eq-eqb, ne_eqb, lt-ltb, le-ltb}
 use Rattle.text_lexical.specs.Bytes.{value, refused}
 use Rattle.text_lexical.specs.Numbers.{unlittle}
-use Rattle.image.specs.Settings.{settings_fault}
-use Rattle.image.specs.Program.{Header, magic, version, header_size, number_at, header_of, code_of, data_of}
+use Rattle.image.specs.Program.{Header, header_size, number_at, header_of, code_of, data_of}
 use Rattle.image.specs.Opening.{header_fault, opening_fault, opening}
 use Rattle.image.specs.Promised.{header_meant, opened_meant}
 use Rattle.image.specs.declared.program.ProgramHeader.{ProgramHeader}
-use Rattle.image.specs.declared.program.Opened.TheVariants.{Is as IsOpened}
 
 -- ---- bytes read
 
@@ -43,26 +41,9 @@ one_of [] h = absurd (omega arith)
 one_of (a ∷ x) h = omega arith
 
 -- The byte at a place.
-pub number-one : (at : ℕ) (b : List ℕ) → at < length b → get_or b at 0 ≡ number_at at 1 b
+pub number_one : (at : ℕ) (b : List ℕ) → at < length b → get_or b at 0 ≡ number_at at 1 b
 unfolding number_at
-number-one at b h = sym (one_of (drop at b) (omega (arith, length-drop at b)) ∙ rw (get_or-drop at b 0 0, add-zero at))
-
--- ---- what a header is refused for
-
-module _ (h : Header) where
-  -- each test in order
-  pub header-magic : (h.magic ≡ magic → ⊥) → header_fault h ≡ some 25
-  unfolding header_fault
-  header-magic e = rw (header_fault, ne_eqb h.magic magic e)
-
-  module _ (m : h.magic ≡ magic) where
-    pub header-version : (h.version ≡ version → ⊥) → header_fault h ≡ some 26
-    unfolding header_fault
-    header-version e = rw (header_fault, eq-eqb h.magic magic m, ne_eqb h.version version e)
-
-    pub header-setup : h.version ≡ version → header_fault h ≡ settings_fault h.setup
-    unfolding header_fault
-    header-setup v = rw (header_fault, eq-eqb h.magic magic m, eq-eqb h.version version v)
+number_one at b h = sym (one_of (drop at b) (omega (arith, length-drop at b)) ∙ rw (get_or-drop at b 0 0, add-zero at))
 
 -- ---- opening
 
@@ -114,7 +95,7 @@ module _ (b : List ℕ) where
 
 -- The parts of an image, by a header that was read from it.
 pub opened-parts : (b : List ℕ) (h : ProgramHeader) → header_meant h ≡ header_of b
-    → opened_meant b (IsOpened h (32 + h.code_size)) ≡ value (record { header = header_of b; code_end = header_size + (header_of b).code_size; code = code_of b; initialized = data_of b })
+    → value (opened_meant b (record { header = h; code_end = 32 + h.code_size })) ≡ value (record { header = header_of b; code_end = header_size + (header_of b).code_size; code = code_of b; initialized = data_of b })
 unfolding code_of data_of header_size
 opened-parts b h e =
     let s : h.code_size ≡ (header_of b).code_size = ap (λ (x : Header). x.code_size) e in

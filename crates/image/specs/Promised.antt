@@ -1,7 +1,5 @@
 -- What the values of settings, header and opening mean in terms of the definitions.
 use Rattle.std.specs.Prelude.{ℕ, ◌-◌, List, [], ◌∷◌, take, drop}
-use Rattle.std.proofs.Math.Option.{Option, none, some}
-use Rattle.text_lexical.specs.Bytes.{Result, value, refused}
 use Rattle.text.specs.Lines.{Line as Record}
 use Rattle.text.specs.Promised.{firsts}
 use Rattle.text.specs.declared.parser.Line.{Line}
@@ -9,13 +7,8 @@ use Rattle.image.specs.Settings.{Settings, settings}
 use Rattle.image.specs.Program.{Header}
 use Rattle.image.specs.Opening.{Opened as MeantOpened}
 use Rattle.image.specs.declared.config.Config.{Config}
-use Rattle.image.specs.declared.config.Checked.{Checked}
-use Rattle.image.specs.declared.config.Checked.TheVariants.{Good, Refused as RefusedCheck}
-use Rattle.image.specs.declared.config.Configured.{Configured}
-use Rattle.image.specs.declared.config.Configured.TheVariants.{Is as IsConfigured, Refused as RefusedConfig}
 use Rattle.image.specs.declared.program.ProgramHeader.{ProgramHeader}
 use Rattle.image.specs.declared.program.Opened.{Opened}
-use Rattle.image.specs.declared.program.Opened.TheVariants.{Is as IsOpened, Refused as RefusedOpening}
 
 -- ---- settings
 
@@ -26,17 +19,9 @@ settings_meant c = settings c.limb_bits c.data_limbs c.addr_limbs
 abbrev pub config_for : Settings → Config
 config_for s = record { limb_bits = s.limb_bits; data_limbs = s.data_limbs; addr_limbs = s.addr_limbs }
 
-abbrev pub fault_meant : Checked → Option ℕ
-fault_meant Good = none
-fault_meant (RefusedCheck n) = some n
-
-abbrev pub configured_meant : Configured → Result Settings
-configured_meant (IsConfigured c) = value (settings_meant c)
-configured_meant (RefusedConfig n) = refused n
-
 -- ---- lines
 
--- The record that a line's record means, if no token is bad.
+-- The record that a line's record means.
 abbrev pub record_meant : List ℕ → Line → Record
 record_meant s l = record { count = l.count; first = firsts s l.tokens l.count }
 
@@ -61,6 +46,5 @@ abbrev pub setting_bytes : Settings → List ℕ
 setting_bytes s = s.limb_bits ∷ s.data_limbs ∷ s.addr_limbs ∷ 0 ∷ []
 
 -- The parts stand where the answer says: the code from 32 to its end, the data behind it.
-abbrev pub opened_meant : List ℕ → Opened → Result MeantOpened
-opened_meant b (IsOpened h end) = value (record { header = header_meant h; code_end = end; code = take (end - 32) (drop 32 b); initialized = drop end b })
-opened_meant b (RefusedOpening n) = refused n
+abbrev pub opened_meant : List ℕ → Opened → MeantOpened
+opened_meant b o = record { header = header_meant o.header; code_end = o.code_end; code = take (o.code_end - 32) (drop 32 b); initialized = drop o.code_end b }

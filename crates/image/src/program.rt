@@ -1,12 +1,14 @@
 // The header of an image: written, read and checked.
 ghost use Rattle.std.specs.Prelude.{◌≡◌, ◌+◌, ◌≤◌, length};
+ghost use Rattle.refusal.specs.Refusals.{answered, fault_of};
 ghost use Rattle.text_writer.specs.Promised.{Written};
 ghost use Rattle.image.specs.Program.{header_bytes, header_for, number_at, header_of};
 ghost use Rattle.image.specs.Opening.{header_fault, opening};
-ghost use Rattle.image.specs.Promised.{settings_meant, fault_meant, setting_bytes, header_meant, opened_meant};
+ghost use Rattle.image.specs.Promised.{settings_meant, setting_bytes, header_meant, opened_meant};
 
-use crate::config::{Checked, Config};
+use crate::config::Config;
 use crate::limits::{HEADER_SIZE, MAGIC, VERSION};
+use refusal::refusal::Refusal;
 
 #[derive(Clone, Copy)]
 pub struct ProgramHeader {
@@ -23,24 +25,19 @@ pub struct ProgramHeader {
 
 // An image's header, and where its code ends, which begins after the header; its data fill the rest.
 #[derive(Clone, Copy)]
-pub enum Opened {
-    Is {
-        header: ProgramHeader,
-        code_end: usize,
-    },
-    Refused(u8),
+pub struct Opened {
+    pub header: ProgramHeader,
+    pub code_end: usize,
 }
 
 // The three settings, a byte each, and no flags.
+#[tactic(auto, unfolding(crate::specs::Settings::settings))]
 fn write_config(out: &mut [u8], at: usize, config: Config) -> usize
     requires { at + 4 ≤ length out.old }
     ensures { Written out.old at (setting_bytes (settings_meant config)) result out.new }
 {
-    out[at] = config.limb_bits;
-    out[at + 1] = config.data_limbs;
-    out[at + 2] = config.addr_limbs;
-    out[at + 3] = 0;
-    at + 4
+    let bytes = [config.limb_bits, config.data_limbs, config.addr_limbs, 0];
+    text_writer::writer::write_bytes(out, at, &bytes)
 }
 
 // The header of a program with settings and a size of code. Entry and stack size are fixed byte strings, as document 01 names that form,
@@ -67,10 +64,10 @@ pub fn read_u32(image: &[u8], at: usize) -> u32
     requires { at + 4 ≤ length image.now }
     ensures { result ≡ number_at at 4 image.now }
 {
-    let low = image[at] as u32 + 0x100 * (image[at + 1] as u32);
-    low + 0x10000 * (image[at + 2] as u32) + 0x1000000 * (image[at + 3] as u32)
+    u32::from_le_bytes([image[at], image[at + 1], image[at + 2], image[at + 3]])
 }
 
+#[tactic(auto, unfolding(crate::specs::Settings::settings, crate::specs::Program::header_of), using(crate::proofs::Heads::number_one))]
 fn read_config(image: &[u8]) -> Config
     requires { 32 ≤ length image.now }
     ensures { settings_meant result ≡ (header_of image.now).setup }
@@ -82,6 +79,7 @@ fn read_config(image: &[u8]) -> Config
     }
 }
 
+#[tactic(auto, unfolding(crate::specs::Program::header_of), using(crate::proofs::Heads::number_one))]
 fn read_header(image: &[u8]) -> ProgramHeader
     requires { 32 ≤ length image.now }
     ensures { header_meant result ≡ header_of image.now }
@@ -100,40 +98,36 @@ fn read_header(image: &[u8]) -> ProgramHeader
 }
 
 impl ProgramHeader {
-    // What a header alone can be refused for: 25, 26, 10 to 13.
-    fn validate(self) -> Checked
-        ensures { fault_meant result ≡ header_fault (header_meant self) }
+    // What a header alone can be refused for.
+    #[tactic(auto, unfolding(crate::specs::Opening::header_fault, crate::specs::Program::magic, crate::specs::Program::version))]
+    fn validate(self) -> Result<(), Refusal>
+        ensures { fault_of result ≡ header_fault (header_meant self) }
     {
         if self.magic != MAGIC {
-            return Checked::Refused(25);
+            return Err(Refusal::WrongMagic);
         }
         if self.version != VERSION {
-            return Checked::Refused(26);
+            return Err(Refusal::WrongVersion);
         }
-        let config = self.config;
-        config.validate()
+        self.config.validate()
     }
 }
 
-// The header of an image and its parts: 24, then what the header is refused for, then 27, 28.
-pub fn open(image: &[u8]) -> Opened
-    ensures { opened_meant image.now result ≡ opening image.now }
+// The header of an image and its parts.
+pub fn open(image: &[u8]) -> Result<Opened, Refusal>
+    ensures { answered (opened_meant image.now) result ≡ opening image.now }
 {
     if image.len() < HEADER_SIZE {
-        return Opened::Refused(24);
+        return Err(Refusal::HeaderCut);
     }
     let header = read_header(image);
-    match header.validate() {
-        Checked::Refused(n) => Opened::Refused(n),
-        Checked::Good => {
-            if header.code_size % 4 != 0 {
-                return Opened::Refused(27);
-            }
-            let code_end = HEADER_SIZE + header.code_size as usize;
-            if image.len() != code_end + header.data_size as usize {
-                return Opened::Refused(28);
-            }
-            Opened::Is { header, code_end }
-        }
+    header.validate()?;
+    if header.code_size % 4 != 0 {
+        return Err(Refusal::CodeSize);
     }
+    let code_end = HEADER_SIZE + header.code_size as usize;
+    if image.len() != code_end + header.data_size as usize {
+        return Err(Refusal::ImageLength);
+    }
+    Ok(Opened { header, code_end })
 }

@@ -1,4 +1,5 @@
 -- Laws of the first walk over a label table: how it begins, goes on from a label to the next, and what it comes to.
+use Rattle.std.specs.Prelude.{Result, Ok, Err}
 use Prim.Native.Nat.{ℕ, suc, ◌+◌, ◌-◌, ◌≤◌, ◌<◌}
 use mathlib.Core.Path.{◌≡◌, refl, sym, ap, ap₂, subst, ◌∙◌}
 use native.Mathlib.Omega.{arith}
@@ -11,19 +12,18 @@ use lib.Dec.{ltb}
 use borrow.Author.Tests.{ltb-true, ltb-false}
 use Rattle.text_lexical.specs.Bytes.{same, find, is_some}
 use Rattle.text_lexical.specs.Names.{Name}
+use Rattle.refusal.specs.Refusals.{fault_of}
 use Rattle.text_lexical.proofs.Tests.{by-test}
 use Rattle.text.specs.NameSets.{Naming}
 use Rattle.image.specs.Assembling.{is_known, most_bytes}
 use Rattle.image.specs.Assembling.{Label as Meant}
 use Rattle.image.specs.Lent.{over}
-use Rattle.image_labels.specs.Promised.{entry_of, InText, spelled, any_named, entry_fault, entered_meant, count_after, Enters, Spelled}
+use Rattle.image_labels.specs.Promised.{entry_of, InText, spelled, any_named, entry_fault, count_after, Enters, Spelled}
 use Rattle.image_labels.specs.Tree.{unlinked, Bare, Tree, TreeAfter, Enterable}
 use Rattle.image_labels.proofs.Named.{spelled-long}
 use Rattle.image_labels.proofs.Finding.{unlinked-long}
 use Rattle.image_labels.specs.declared.label.Label.{Label}
-use Rattle.image_labels.specs.declared.label.Entered.{Entered}
-use Rattle.image_labels.specs.declared.label.Entered.TheVariants.{New, Duplicate, Full}
-use Rattle.image_passes.specs.Promised.{SoundPass, ScannableNext, After, ReadsOn, Begins, Follows, GoesOn}
+use Rattle.image_passes.specs.Promised.{Entry, SoundPass, ScannableNext, After, ReadsOn, Begins, Follows, GoesOn}
 use Rattle.image_passes.proofs.Reaching.{LabelNext, Progress, Resumes, with_entry, label_at}
 use Rattle.image_passes.proofs.Answers.{begins-stand}
 use Rattle.image_passes.proofs.Scanning.{reads-stand, goes-stand}
@@ -36,6 +36,7 @@ use Rattle.image_passes.specs.declared.first_pass.Outcome.{Outcome}
 use Rattle.image.proofs.Over.{take-over, length_over, over-more}
 use Rattle.image_assembler.specs.Promised.{overlong, Finishable, Finishes, Holds, Walks, Assembles}
 use Rattle.image_assembler.specs.declared.assembler.Assembled.{Assembled}
+use Rattle.image_assembler.specs.declared.assembler.AssembleError.{AssembleError}
 use Rattle.image_assembler.proofs.Answers.{ends-ready, ends-answers, overlong-answers}
 
 -- ---- labels and their entries
@@ -68,10 +69,9 @@ module _ (s : List ℕ) (old table : List Label) (ls : List Meant) (e : table �
   table_more l h =
       rw (e, map-append entry_of ls (l ∷ []), ← length-map ls entry_of) (over-more (map entry_of ls) old (entry_of l) (rw (length-map ls entry_of) h))
 
-counted : (ls : List Meant) (l : Meant) (e : Entered) → length (with_entry e ls l) ≡ count_after (length ls) e
-counted ls l New = length-append ls (l ∷ []) ∙ add-one (length ls)
-counted ls l Duplicate = refl
-counted ls l Full = refl
+counted : (ls : List Meant) (l : Meant) (e : Entry) → length (with_entry e ls l) ≡ count_after (length ls) e
+counted ls l (Ok u) = length-append ls (l ∷ []) ∙ add-one (length ls)
+counted ls l (Err r) = refl
 
 -- ---- the walk
 
@@ -161,8 +161,8 @@ module _ {names : List Name} {s : List ℕ} {old table : List Label} {p : LabelL
   known_is : any_named s (take p.labels table) name ≡ is_known ls name
   known_is = rw n.count (table-known s old table ls h.table_is name h.spelled)
 
-  module _ {table' : List Label} {e : Entered} (x : Enters s table p.labels p.label table' e) where
-    fault_is : entered_meant e ≡ entry_fault (is_known ls name) (ltb (length ls) (length old))
+  module _ {table' : List Label} {e : Entry} (x : Enters s table p.labels p.label table' e) where
+    fault_is : fault_of e ≡ entry_fault (is_known ls name) (ltb (length ls) (length old))
     fault_is = x.answer ∙ rw (known_is, n.count, holds-long h)
 
     holds-is : table' ≡ elim (is_known ls name) [ true ↦ table | false ↦ set table (length ls) p.label ]
@@ -183,20 +183,17 @@ module _ {names : List Name} {s : List ℕ} {old table : List Label} {p : LabelL
     unfolding entry_fault
     holds_on = go (is_known ls name) (ltb (length ls) (length old)) refl e fault_is holds-is
       where
-        go : (a b : Bool) → ltb (length ls) (length old) ≡ b → (k : Entered) → entered_meant k ≡ entry_fault a b
+        go : (a b : Bool) → ltb (length ls) (length old) ≡ b → (k : Entry) → fault_of k ≡ entry_fault a b
             → table' ≡ elim a [ true ↦ table | false ↦ set table (length ls) p.label ] → Holds s old table' (with_entry k ls (label_at s p))
-        go true b l Duplicate q k = kept_on k
-        go true b l Full q k = let y : ◌≡◌ {A = ℕ} 4 5 = cc in absurd (omega arith)
-        go true b l New q k = let y : ◌≡◌ {A = ℕ} 0 1 = cc in absurd (omega arith)
-        go false true l New q k = entered_on (ltb-true (length ls) (length old) l) k
-        go false true l Duplicate q k = let y : ◌≡◌ {A = ℕ} 0 1 = cc in absurd (omega arith)
-        go false true l Full q k = let y : ◌≡◌ {A = ℕ} 0 1 = cc in absurd (omega arith)
-        go false false l Full q k = kept_on (k ∙ full l)
+        go true b l (Err r) q k = kept_on k
+        go true b l (Ok u) q k = let y : ◌≡◌ {A = ℕ} 0 1 = cc in absurd (omega arith)
+        go false true l (Ok u) q k = entered_on (ltb-true (length ls) (length old) l) k
+        go false true l (Err r) q k = let y : ◌≡◌ {A = ℕ} 0 1 = cc in absurd (omega arith)
+        go false false l (Err r) q k = kept_on (k ∙ full l)
           where
             full : ltb (length ls) (length old) ≡ false → set table (length ls) p.label ≡ table
             full z = set_out table (length ls) p.label (omega (arith, ltb-false (length ls) (length old) z, holds-long h))
-        go false false l Duplicate q k = let y : ◌≡◌ {A = ℕ} 4 5 = cc in absurd (omega arith)
-        go false false l New q k = let y : ◌≡◌ {A = ℕ} 0 1 = cc in absurd (omega arith)
+        go false false l (Ok u) q k = let y : ◌≡◌ {A = ℕ} 0 1 = cc in absurd (omega arith)
 
 -- It stands at a label.
 module _ {names : List Name} {s : List ℕ} {old table : List Label} {roots : List ℕ} {p : LabelLine} (w : Stopping names s old table roots (AtLabel p)) where
@@ -208,7 +205,7 @@ module _ {names : List Name} {s : List ℕ} {old table : List Label} {roots : Li
       record { in_text = k.in_text; short = k.short; few = omega (arith, k.short, k.line_fits, k.few_labels); near = k.near }
 
   -- It goes on.
-  pub walking_on : {table' : List Label} {roots' : List ℕ} {e : Entered} {r : Next}
+  pub walking_on : {table' : List Label} {roots' : List ℕ} {e : Entry} {r : Next}
       → Enters s (unlinked p.labels table) p.labels p.label (unlinked (count_after p.labels e) table') e
       → TreeAfter s table roots p.labels p.label table' roots' e → GoesOn s p e r → Walking names s old table' roots' r
   walking_on {table'} {roots'} {e} {r} x t g =
@@ -225,17 +222,16 @@ module _ {names : List Name} {s : List ℕ} {old table : List Label} {roots : Li
       kept : (roots' ≡ roots) × (table' ≡ table) → Tree s table' roots' p.labels
       kept t = subst (λ (r : List ℕ). Tree s table' r p.labels) (sym t.0) (subst (λ (z : List Label). Tree s z roots p.labels) (sym t.1) w.tree)
 
-      after : (k : Entered) → TreeAfter s table roots p.labels p.label table' roots' k → Tree s table' roots' (count_after p.labels k)
-      after New t = t.1
-      after Duplicate t = kept t
-      after Full t = kept t
+      after : (k : Entry) → TreeAfter s table roots p.labels p.label table' roots' k → Tree s table' roots' (count_after p.labels k)
+      after (Ok u) t = t.1
+      after (Err r) t = kept t
 
 -- What is left, counted in lines.
 abbrev pub left : List ℕ → Next → ℕ
 left s (From c) = length s + 2 - c.line
 left s (NextEnded o) = 0
 
-pub nearer : {names : List Name} {s : List ℕ} {n : Next} {p : LabelLine} {e : Entered} {r : Next} → ReadsOn names s n (AtLabel p) → GoesOn s p e r → left s r < left s n
+pub nearer : {names : List Name} {s : List ℕ} {n : Next} {p : LabelLine} {e : Entry} {r : Next} → ReadsOn names s n (AtLabel p) → GoesOn s p e r → left s r < left s n
 nearer {names} {s} {n} {p} {e} {r} a g = go n a.after r g.follows
   where
     go : (n : Next) → After n (AtLabel p) → (r : Next) → Follows p e r → left s r < left s n
@@ -260,7 +256,7 @@ module _ {names : List Name} {s : List ℕ} {old table : List Label} {roots : Li
   walks-ready = ends-ready names s (length old) w.labels o.verdict w.ends.judges
 
   -- The second walk has ended too, and the entries are unlinked.
-  pub walks-end : {table' : List Label} {image image' : List ℕ} {r : Assembled} → table' ≡ unlinked o.labels table → Finishes names s o.labels image image' r o.verdict
+  pub walks-end : {table' : List Label} {image image' : List ℕ} {r : Result Assembled AssembleError} → table' ≡ unlinked o.labels table → Finishes names s o.labels image image' r o.verdict
       → Assembles names s old image table' image' r
   walks-end e f =
       let a = ends-answers w.ends f in

@@ -1,7 +1,9 @@
 -- What assembling promises. Quotations are document 01's.
-use Rattle.std.specs.Prelude.{ℕ, ◌≤◌, ◌≡◌, List, map, length}
+use Rattle.std.specs.Prelude.{ℕ, ◌≤◌, ◌≡◌, List, map, length, ⊤, Result, Ok, Err}
 use Rattle.std.proofs.Math.Option.{none, some}
 use Rattle.text_lexical.specs.Names.{Name}
+use Rattle.refusal.specs.Refusals.{number_of}
+use Rattle.refusal.specs.declared.refusal.Refusal.TheVariants.{SourceTooLong}
 use Rattle.image.specs.Assembling.{most_bytes, assembling}
 use Rattle.image.specs.Assembling.{Label as Meant}
 use Rattle.image.specs.Lent.{over, Answer, assembled, refusal as refusal_answer, answer_of, entered, image_after}
@@ -12,44 +14,44 @@ use Rattle.image_labels.specs.Tree.{unlinked, Bare, Tree}
 use Rattle.image_labels.specs.declared.label.Label.{Label}
 use Rattle.image_passes.specs.Promised.{WalkEnds, Ready, Fills}
 use Rattle.image_passes.specs.declared.first_pass.Outcome.{Outcome}
-use Rattle.image_passes.specs.declared.first_pass.Verdict.{Verdict}
-use Rattle.image_passes.specs.declared.first_pass.Verdict.TheVariants.{Refused as Rejected, Finished}
-use Rattle.image_passes.specs.declared.second_pass.Fill.{Fill}
-use Rattle.image_passes.specs.declared.second_pass.Fill.TheVariants.{Filled, TooShort as NotFilled}
+use Rattle.image_passes.specs.declared.first_pass.Finished.{Finished}
+use Rattle.image_passes.specs.declared.first_pass.Stopped.{Stopped}
+use Rattle.image_passes.specs.declared.second_pass.TooShort.{TooShort as Short}
 use Rattle.image_assembler.specs.declared.assembler.Assembled.{Assembled}
-use Rattle.image_assembler.specs.declared.assembler.Assembled.TheVariants.{Is, Refused, TooShort}
+use Rattle.image_assembler.specs.declared.assembler.AssembleError.{AssembleError}
+use Rattle.image_assembler.specs.declared.assembler.AssembleError.TheVariants.{Refused, TooShort}
 
 -- ---- the answer
 
-abbrev pub answer_meant : Assembled → Answer
-answer_meant (Is words labels c) = assembled words labels (settings_meant c)
-answer_meant (Refused n rust line labels) = refusal_answer n rust line labels none
-answer_meant (TooShort labels needed) = refusal_answer 23 0 0 labels (some needed)
+abbrev pub answer_meant : Result Assembled AssembleError → Answer
+answer_meant (Ok a) = assembled a.words a.labels (settings_meant a.config)
+answer_meant (Err (Refused r rust line labels)) = refusal_answer (number_of r) rust line labels none
+answer_meant (Err (TooShort labels needed)) = refusal_answer 23 0 0 labels (some needed)
 
 -- "1 source over 1,048,576 bytes": "1 and 23 give both as 0".
-abbrev pub overlong : Assembled
-overlong = Refused 1 0 0 0
+abbrev pub overlong : Result Assembled AssembleError
+overlong = Err (Refused SourceTooLong 0 0 0)
 
 -- The answer for a source that the first walk has finished, by whether its image fits.
-abbrev pub answer_for : Fill → ℕ → ℕ → Config → Assembled
-answer_for Filled words labels c = Is words labels c
-answer_for (NotFilled needed) words labels c = TooShort labels needed
+abbrev pub answer_for : Result ⊤ Short → ℕ → ℕ → Config → Result Assembled AssembleError
+answer_for (Ok u) words labels c = Ok (record { words = words; labels = labels; config = c })
+answer_for (Err short) words labels c = Err (TooShort labels short.needed)
 
 -- What `finish` asks of a verdict.
-abbrev pub Finishable : List Name → List ℕ → Verdict → Type 0
-Finishable names s (Rejected n rust line) = Unit {0}
-Finishable names s (Finished words c) = Ready names s words (settings_meant c)
+abbrev pub Finishable : List Name → List ℕ → Result Finished Stopped → Type 0
+Finishable names s (Ok f) = Ready names s f.words (settings_meant f.config)
+Finishable names s (Err e) = Unit {0}
 
 -- What a walk that has been finished comes to, with an image buffer before and after.
-pub record Completes (names : List Name) (s : List ℕ) (words labels : ℕ) (c : Config) (old new : List ℕ) (r : Assembled) : Type 0 where
-  pub fill : Fill
+pub record Completes (names : List Name) (s : List ℕ) (words labels : ℕ) (c : Config) (old new : List ℕ) (r : Result Assembled AssembleError) : Type 0 where
+  pub fill : Result ⊤ Short
   pub fills : Fills names s words old new fill
   pub answer : r ≡ answer_for fill words labels c
 
 -- What a first walk that has ended comes to, with so many labels, and an image buffer before and after.
-abbrev pub Finishes : List Name → List ℕ → ℕ → List ℕ → List ℕ → Assembled → Verdict → Type 0
-Finishes names s labels old new r (Rejected n rust line) = (r ≡ Refused n rust line labels) × (new ≡ old)
-Finishes names s labels old new r (Finished words c) = Completes names s words labels c old new r
+abbrev pub Finishes : List Name → List ℕ → ℕ → List ℕ → List ℕ → Result Assembled AssembleError → Result Finished Stopped → Type 0
+Finishes names s labels old new r (Ok f) = Completes names s f.words labels f.config old new r
+Finishes names s labels old new r (Err e) = (r ≡ Err (Refused e.refusal e.rust_line e.line labels)) × (new ≡ old)
 
 -- ---- assembling
 
@@ -72,7 +74,7 @@ pub record Walks (names : List Name) (s : List ℕ) (old table : List Label) (ro
   pub tree : Tree s table roots o.labels
 
 -- Assembling a source, with a label table and an image buffer before and after.
-pub record Assembles (names : List Name) (source : List ℕ) (table : List Label) (image : List ℕ) (table' : List Label) (image' : List ℕ) (r : Assembled) : Type 0 where
+pub record Assembles (names : List Name) (source : List ℕ) (table : List Label) (image : List ℕ) (table' : List Label) (image' : List ℕ) (r : Result Assembled AssembleError) : Type 0 where
   pub answer : answer_meant r ≡ answer_of (assembling names source (length table) (length image))
   pub table_holds : table' ≡ over (map entry_of (entered (assembling names source (length table) (length image)))) table
   pub image_holds : image' ≡ image_after names source (assembling names source (length table) (length image)) image

@@ -2,27 +2,28 @@
 --     PathTo            the path of a spelling to an entry.        Seeking        where a search stands
 --     seek-begin, seek-visit, seek-end       how a search begins, goes on behind an entry, and what it comes to
 use Prim.Native.Nat.{ℕ, zero, suc, ◌+◌, ◌-◌, ◌/◌, ◌%◌, ◌≤◌, ◌<◌}
+use Rattle.std.specs.Prelude.{Result, Ok, Err}
 use mathlib.Core.Path.{◌≡◌, refl, sym, ap, ap₂, subst, ◌∙◌}
 use mathlib.Core.Logic.{◌⊎◌, inl, inr, ⊎_elim}
 use native.Mathlib.Omega.{arith}
 use native.Mathlib.Numerals.{add-one}
 use mathlib.Core.Bool.{Bool, true, false, true≢false}
 use mathlib.Core.Option.{none, some}
-use mathlib.Core.List.{List, [], ◌∷◌}
+use mathlib.Core.List.{List, [], ◌∷◌, ◌++◌}
 use lib.Dec.{ltb, eqb}
-use lib.ListN.{length, take, get_or, set, length-take, length-set}
+use lib.ListN.{length, take, drop, get_or, set, length-take, length-set}
 use lib.Seq.{get_or-take, get_or-set_same, get_or-set_other, set_out, ext_get_or}
 use borrow.Author.Tests.{eqb-true, eqb-false, eq-eqb, ne_eqb, ltb-true, ltb-false}
 use Rattle.text_lexical.specs.Bytes.{same, is_some}
 use Rattle.text_lexical.proofs.Tests.{by-test, no_both, both, and_both, split}
 use Rattle.text_lexical.proofs.Strings.{same-eq, eq-same}
-use Rattle.image_labels.specs.declared.label.Entered.TheVariants.{New, Duplicate, Full}
+use Rattle.refusal.specs.declared.refusal.Refusal.TheVariants.{DuplicateLabel, TableFull}
 use Rattle.image_labels.specs.declared.label.Label.{Label}
 use Rattle.image_labels.specs.declared.tree.PathBits.{PathBits}
+use Rattle.image_labels.specs.declared.tree.Stage.{Stage}
+use Rattle.image_labels.specs.declared.tree.Stage.TheVariants.{At, Known, Missing}
 use Rattle.image_labels.specs.declared.tree.Search.{Search}
 use Rattle.image_labels.specs.declared.label.Gap.{Gap}
-use Rattle.image_labels.specs.declared.label.Found.{Found}
-use Rattle.image_labels.specs.declared.label.Found.TheVariants.{At, Missing}
 use Rattle.image_labels.specs.Promised.{InText, spelled, no_label, any_named, index_of, Enters}
 use Rattle.image_labels.specs.Tree.{plain, unlinked, child_number, link, child_bits, linked, hash_of, first_path, advanced, branch_of, key_of, entry_for, hits, slot_of, root_of, with_root_at, with_root, span, begun_at, begun, visited, gap_of, found_of, Finds, here, there, Tree, TreeAfter, Enterable, joined, addressed, Gaps, Finding, Visitable}
 use Rattle.image_labels.proofs.Hashing.{slot-inside, parity, child-number-odd, child-bits-odd, child-number-even, child-bits-even, link-low, linked-low, link-high, linked-high, visited-hit, visited-last, visited-on}
@@ -121,6 +122,13 @@ unlinked-more n t h = rw (add-one n) (go n t h)
     go zero (e ∷ t) h = refl
     go (suc n) (e ∷ t) h = ap (λ (l : List Label). plain e ∷ l) (go n t (omega arith))
 
+-- So many entries in front of others.
+pub unlinked-front : (n : ℕ) (t : List Label) → n ≤ length t → unlinked n t ≡ unlinked n (take n t) ++ drop n t
+unfolding unlinked
+unlinked-front zero t h = refl
+unlinked-front (suc n) [] h = refl
+unlinked-front (suc n) (e ∷ t) h = ap (λ (l : List Label). plain e ∷ l) (unlinked-front n t (omega arith))
+
 -- ---- paths
 
 -- The first entries of a table are what they were, and lead where they led.
@@ -183,19 +191,19 @@ module _ (s : List ℕ) (u : List ℕ) where
       path-back (step {i = i} {l = l} {z = z} w h miss f) nz x = path-back w (λ e. omega arith) (there {i = i} (omega arith) (g.links i h (branch_of z) l nz f) x)
 
 -- What is found is one thing or the other.
-missing? : Found → Bool
-missing? (At i) = false
-missing? (Missing g) = true
+missing? : Result ℕ Gap → Bool
+missing? (Ok i) = false
+missing? (Err g) = true
 
-found-at : {X : Type 0} {i : ℕ} {g : Gap} → At i ≡ Missing g → X
+found-at : {X : Type 0} {i : ℕ} {g : Gap} → ◌≡◌ {A = Result ℕ Gap} (Ok i) (Err g) → X
 unfolding missing?
 found-at e = absurd (true≢false (sym (ap missing? e)))
 
-gap-in : Gap → Found → Gap
-gap-in h (At i) = h
-gap-in h (Missing g) = g
+gap-in : Gap → Result ℕ Gap → Gap
+gap-in h (Ok i) = h
+gap-in h (Err g) = g
 
-gap_same : {g h : Gap} → Missing g ≡ Missing h → g ≡ h
+gap_same : {g h : Gap} → ◌≡◌ {A = Result ℕ Gap} (Err g) (Err h) → g ≡ h
 unfolding gap-in
 gap_same {g} e = ap (gap-in g) e
 
@@ -203,11 +211,11 @@ gap_same {g} e = ap (gap-in g) e
 
 -- What is left of a search: the entries from the next on.
 abbrev pub left : ℕ → Search → ℕ
-left n q = elim q.more [ true ↦ n - q.next | false ↦ 0 ]
+left n q = elim q.stage [ At i ↦ n - i | Known i ↦ 0 | Missing ↦ 0 ]
 
-pub record AtEntry (s : List ℕ) (t : List Label) (roots : List ℕ) (n : ℕ) (l : Label) (q : Search) : Type 0 where
-  pub inside : q.next < n
-  pub reached : PathTo s (spelled s l) t (root_of roots (spelled s l)) n (suc q.next) q.path
+pub record AtEntry (s : List ℕ) (t : List Label) (roots : List ℕ) (n : ℕ) (l : Label) (z : PathBits) (i : ℕ) : Type 0 where
+  pub inside : i < n
+  pub reached : PathTo s (spelled s l) t (root_of roots (spelled s l)) n (suc i) z
 
 -- A search that has found nothing ends where there is no root, or behind an entry that leads nowhere.
 pub data Lost (s : List ℕ) (t : List Label) (roots : List ℕ) (n : ℕ) (l : Label) (q : Search) : Type 0 where
@@ -217,13 +225,16 @@ pub data Lost (s : List ℕ) (t : List Label) (roots : List ℕ) (n : ℕ) (l : 
       → q.parent ≡ linked (get_or t q.last no_label) (branch_of z) (n + 1) → Lost s t roots n l q
 
 -- Where a search stands.
+abbrev pub Stands : List ℕ → List Label → List ℕ → ℕ → Label → Search → Stage → Type 0
+Stands s t roots n l q (At i) = AtEntry s t roots n l q.path i
+Stands s t roots n l q (Known i) = (i < n) × (hit s (spelled s l) t i ≡ true)
+Stands s t roots n l q Missing = Lost s t roots n l q
+
 pub record Seeking (s : List ℕ) (t : List Label) (roots : List ℕ) (n : ℕ) (l : Label) (q : Search) : Type 0 where
   pub bucket_is : q.bucket ≡ slot_of (hash_of (spelled s l)) (length roots)
   pub entry-is : q.entry ≡ entry_for (spelled s l) l
   pub count-is : q.count ≡ n
-  pub at_entry : q.more ≡ true → AtEntry s t roots n l q
-  pub is_known : q.known ≡ true → (q.next < n) × (hit s (spelled s l) t q.next ≡ true)
-  pub is_lost : q.more ≡ false → q.known ≡ false → Lost s t roots n l q
+  pub stands : Stands s t roots n l q q.stage
 
 module _ (s : List ℕ) (t : List Label) (roots : List ℕ) (n : ℕ) (l : Label) (tree : Tree s t roots n) (ok : Enterable s n l) where
   abbrev u : List ℕ
@@ -245,43 +256,38 @@ module _ (s : List ℕ) (t : List Label) (roots : List ℕ) (n : ℕ) (l : Label
   seek-begin = go root refl
     where
       go : (m : ℕ) → root ≡ m → Seeking s t roots n l (begun_at (slot_of (hash_of u) (length roots)) s n l m)
-      go zero f = record {
-        bucket_is = refl;
-        entry-is = refl;
-        count-is = refl;
-        at_entry = λ e. absurd (true≢false (sym e));
-        is_known = λ e. absurd (true≢false (sym e));
-        is_lost = λ _ _. none_there f refl refl;
-      }
+      go zero f = record { bucket_is = refl; entry-is = refl; count-is = refl; stands = none_there f refl refl }
       go (suc i) f = record {
         bucket_is = refl;
         entry-is = refl;
         count-is = refl;
-        at_entry = λ _. record {
+        stands = record {
           inside = tree.rooted (slot_of (hash_of u) (length roots)) i f;
           reached = subst (λ (m : ℕ). PathTo s u t root n m (first_path u)) f start;
         };
-        is_known = λ e. absurd (true≢false (sym e));
-        is_lost = λ e _. absurd (true≢false e);
       }
 
   module _ (q : Search) (k : Seeking s t roots n l q) where
     spelled_is : spelled s (plain q.entry) ≡ u
     spelled_is = ap (λ (e : Label). spelled s (plain e)) k.entry-is ∙ ap (spelled s) entry-plain
 
-    module _ (more : q.more ≡ true) where
+    -- An entry that it stands before.
+    module _ {i : ℕ} (stage-is : q.stage ≡ At i) where
       abbrev e : Label
-      e = get_or t q.next no_label
+      e = get_or t i no_label
 
-      inside : q.next < n
-      inside = (k.at_entry more).inside
+      here-is : AtEntry s t roots n l q.path i
+      here-is = subst (Stands s t roots n l q) stage-is k.stands
+
+      pub inside : i < n
+      inside = here-is.inside
 
       pub seek-visitable : Visitable s q e
       unfolding link child_number
       seek-visitable =
           record {
             label_in_text = subst (InText s) (sym (ap plain k.entry-is ∙ entry-plain)) ok.in_text;
-            entry_in_text = tree.in_text q.next inside;
+            entry_in_text = tree.in_text i inside;
             low = lead 1 (e.start / 4398046511104) refl;
             low_address = lead 3 (e.address / 4398046511104) refl;
             few = rw k.count-is ok.few;
@@ -289,90 +295,83 @@ module _ (s : List ℕ) (t : List Label) (roots : List ℕ) (n : ℕ) (l : Label
         where
           lead : (c m : ℕ) → link e c ≡ m → m ≤ 1048576
           lead c zero f = omega arith
-          lead c (suc j) f = let h = tree.onward q.next inside c j f in omega (arith, h.1, ok.few)
+          lead c (suc j) f = let h = tree.onward i inside c j f in omega (arith, h.1, ok.few)
 
-      hit-here : hits s e q.entry.length (spelled s (plain q.entry)) ≡ hit s u t q.next
+      hit-here : hits s e q.entry.length (spelled s (plain q.entry)) ≡ hit s u t i
       unfolding entry_for
       hit-here = ap₂ (λ (m : ℕ) (w : List ℕ). hits s e m w) (ap (λ (v : Label). v.length) k.entry-is) spelled_is
 
-      pub seek-visit : Seeking s t roots n l (visited s q e)
-      seek-visit = by-test (hit s u t q.next) found (λ miss. passing miss (link e (branch_of q.path)) refl)
+      pub seek-visit : Seeking s t roots n l (visited s q i e)
+      seek-visit = by-test (hit s u t i) found (λ miss. passing miss (link e (branch_of q.path)) refl)
         where
-          found : hit s u t q.next ≡ true → Seeking s t roots n l (visited s q e)
-          found h = subst (Seeking s t roots n l) (sym (visited-hit s q e (hit-here ∙ h))) (record {
+          found : hit s u t i ≡ true → Seeking s t roots n l (visited s q i e)
+          found h = subst (Seeking s t roots n l) (sym (visited-hit s q i e (hit-here ∙ h))) (record {
             bucket_is = k.bucket_is;
             entry-is = k.entry-is;
             count-is = k.count-is;
-            at_entry = λ f. absurd (true≢false (sym f));
-            is_known = λ _. (inside, h);
-            is_lost = λ _ f. absurd (true≢false f);
+            stands = (inside, h);
           })
 
-          passing : hit s u t q.next ≡ false → (m : ℕ) → link e (branch_of q.path) ≡ m → Seeking s t roots n l (visited s q e)
-          passing miss zero f = subst (Seeking s t roots n l) (sym (visited-last s q e (hit-here ∙ miss) f)) (record {
+          passing : hit s u t i ≡ false → (m : ℕ) → link e (branch_of q.path) ≡ m → Seeking s t roots n l (visited s q i e)
+          passing miss zero f = subst (Seeking s t roots n l) (sym (visited-last s q i e (hit-here ∙ miss) f)) (record {
             bucket_is = k.bucket_is;
             entry-is = k.entry-is;
             count-is = k.count-is;
-            at_entry = λ g. absurd (true≢false (sym g));
-            is_known = λ g. absurd (true≢false (sym g));
-            is_lost = λ _ _. behind q.path inside (k.at_entry more).reached miss f (ap (λ (m : ℕ). linked e (branch_of q.path) (m + 1)) k.count-is);
+            stands = behind q.path inside here-is.reached miss f (ap (λ (m : ℕ). linked e (branch_of q.path) (m + 1)) k.count-is);
           })
-          passing miss (suc i) f = subst (Seeking s t roots n l) (sym (visited-on s q e (hit-here ∙ miss) i f)) (record {
+          passing miss (suc j) f = subst (Seeking s t roots n l) (sym (visited-on s q i e (hit-here ∙ miss) j f)) (record {
             bucket_is = k.bucket_is;
             entry-is = k.entry-is;
             count-is = k.count-is;
-            at_entry = λ _. record {
-              inside = (tree.onward q.next inside (branch_of q.path) i f).1;
-              reached = subst (λ (w : List ℕ). PathTo s u t root n (suc i) (advanced w q.path)) (sym spelled_is) (step (k.at_entry more).reached inside miss f);
+            stands = record {
+              inside = (tree.onward i inside (branch_of q.path) j f).1;
+              reached = subst (λ (w : List ℕ). PathTo s u t root n (suc j) (advanced w q.path)) (sym spelled_is) (step here-is.reached inside miss f);
             };
-            is_known = λ g. absurd (true≢false (sym g));
-            is_lost = λ g _. absurd (true≢false g);
           })
 
       -- An entry less is left.
-      pub seek-nearer : left n (visited s q e) < left n q
-      seek-nearer = by-test (hit s u t q.next) found (λ miss. passing miss (link e (branch_of q.path)) refl)
+      pub seek-nearer : left n (visited s q i e) < left n q
+      seek-nearer = by-test (hit s u t i) found (λ miss. passing miss (link e (branch_of q.path)) refl)
         where
-          now : left n q ≡ n - q.next
-          now = rw more
+          now : left n q ≡ n - i
+          now = rw stage-is
 
-          found : hit s u t q.next ≡ true → left n (visited s q e) < left n q
-          found h = rw (visited-hit s q e (hit-here ∙ h)) (omega (arith, now, inside))
+          found : hit s u t i ≡ true → left n (visited s q i e) < left n q
+          found h = rw (visited-hit s q i e (hit-here ∙ h)) (omega (arith, now, inside))
 
-          passing : hit s u t q.next ≡ false → (m : ℕ) → link e (branch_of q.path) ≡ m → left n (visited s q e) < left n q
-          passing miss zero f = rw (visited-last s q e (hit-here ∙ miss) f) (omega (arith, now, inside))
-          passing miss (suc i) f =
-              let h = tree.onward q.next inside (branch_of q.path) i f in
-              rw (visited-on s q e (hit-here ∙ miss) i f) (omega (arith, now, inside, h.0, h.1))
+          passing : hit s u t i ≡ false → (m : ℕ) → link e (branch_of q.path) ≡ m → left n (visited s q i e) < left n q
+          passing miss zero f = rw (visited-last s q i e (hit-here ∙ miss) f) (omega (arith, now, inside))
+          passing miss (suc j) f =
+              let h = tree.onward i inside (branch_of q.path) j f in
+              rw (visited-on s q i e (hit-here ∙ miss) j f) (omega (arith, now, inside, h.0, h.1))
 
     -- ---- what it comes to
 
-    module _ (ended : q.more ≡ false) where
-      -- What the labels are spelled like.
-      named-at : (i : ℕ) → i < n → spelled s (get_or (take n (unlinked n t)) i no_label) ≡ spelled s (plain (get_or t i no_label))
-      named-at i h = ap (spelled s) (get_or-take n (unlinked n t) i no_label h ∙ unlinked-at n t i h)
+    -- What the labels are spelled like.
+    named-at : (i : ℕ) → i < n → spelled s (get_or (take n (unlinked n t)) i no_label) ≡ spelled s (plain (get_or t i no_label))
+    named-at i h = ap (spelled s) (get_or-take n (unlinked n t) i no_label h ∙ unlinked-at n t i h)
 
-      -- If the label was found, it is the one that is spelled so,
-      index-there : q.known ≡ true → index_of s (take n (unlinked n t)) u ≡ some q.next
-      index-there y =
-          let x = k.is_known y in
-          let e : spelled s (plain (get_or t q.next no_label)) ≡ u = hit-named s u t q.next x.1 in
-          index_at s u (take n (unlinked n t)) q.next (omega (arith, length-take n (unlinked n t), unlinked-long n t, tree.in_table, x.0)) (named-at q.next x.0 ∙ e)
-          (λ j d f. let less : j < n = omega (arith, x.0) in let same = tree.distinct j q.next less x.0 (sym (named-at j less) ∙ f ∙ sym e) in omega arith)
+    -- If the label was found, it is the one that is spelled so,
+    index-there : (i : ℕ) → (i < n) × (hit s u t i ≡ true) → index_of s (take n (unlinked n t)) u ≡ some i
+    index-there i x =
+        let e : spelled s (plain (get_or t i no_label)) ≡ u = hit-named s u t i x.1 in
+        index_at s u (take n (unlinked n t)) i (omega (arith, length-take n (unlinked n t), unlinked-long n t, tree.in_table, x.0)) (named-at i x.0 ∙ e)
+        (λ j d f. let less : j < n = omega (arith, x.0) in let same = tree.distinct j i less x.0 (sym (named-at j less) ∙ f ∙ sym e) in omega arith)
 
+    module _ (lost : Lost s t roots n l q) where
       not_found : Lost s t roots n l q → Finds s t n u root (first_path u) → ⊥
       not_found (none_there f g h) x = not-nowhere s u t root n x f
-      not_found (behind z inside w miss f g) x = not-nowhere s u t root n (past s u t root n (path-finds s u t root n w x) q.last 0 refl miss f) refl
+      not_found (behind z _ w miss f g) x = not-nowhere s u t root n (past s u t root n (path-finds s u t root n w x) q.last 0 refl miss f) refl
 
       -- and if not, none is.
-      none-there-yet : q.known ≡ false → (i : ℕ) → i < n → spelled s (plain (get_or t i no_label)) ≡ u → ⊥
-      none-there-yet y i less g = not_found (k.is_lost ended y) (subst (λ (w : List ℕ). Finds s t n w (root_of roots w) (first_path w)) g (tree.found i less))
+      none-there-yet : (i : ℕ) → i < n → spelled s (plain (get_or t i no_label)) ≡ u → ⊥
+      none-there-yet i less g = not_found lost (subst (λ (w : List ℕ). Finds s t n w (root_of roots w) (first_path w)) g (tree.found i less))
 
-      index-missing : q.known ≡ false → index_of s (take n (unlinked n t)) u ≡ none
-      index-missing y = index-none s u (take n (unlinked n t)) (λ i h f. let less : i < n = omega (arith, length-take n (unlinked n t)) in none-there-yet y i less (sym (named-at i less) ∙ f))
+      index-missing : index_of s (take n (unlinked n t)) u ≡ none
+      index-missing = index-none s u (take n (unlinked n t)) (λ i h f. let less : i < n = omega (arith, length-take n (unlinked n t)) in none-there-yet i less (sym (named-at i less) ∙ f))
 
       -- Then the table has the label's entry behind the others, and they are trees again.
-      module _ (y : q.known ≡ false) (room : n < length t) where
+      module _ (room : n < length t) where
         abbrev t' : List Label
         t' = joined t n (gap_of q)
 
@@ -487,8 +486,8 @@ module _ (s : List ℕ) (t : List Label) (roots : List ℕ) (n : ℕ) (l : Label
             found = each (λ i. Leads (spelled s (plain (get_or t' i no_label)))) (subst (λ (x : Label). Leads (spelled s x)) (sym joined-plain) m.leads)
                 (λ i d. subst (λ (x : Label). Leads (spelled s x)) (sym (m.grown.plains i d)) (still (spelled s (plain (get_or t i no_label))) (tree.found i d)));
             distinct = λ i j h h'. each (λ i. spelled s (plain (get_or t' i no_label)) ≡ spelled s (plain (get_or t' j no_label)) → i ≡ j)
-                (each (λ j. spelled s (plain (get_or t' n no_label)) ≡ spelled s (plain (get_or t' j no_label)) → n ≡ j) (λ _. refl) (λ j d e. absurd (none-there-yet y j d (sym (old j d) ∙ sym e ∙ new))) j h')
-                (λ i d. each (λ j. spelled s (plain (get_or t' i no_label)) ≡ spelled s (plain (get_or t' j no_label)) → i ≡ j) (λ e. absurd (none-there-yet y i d (sym (old i d) ∙ e ∙ new)))
+                (each (λ j. spelled s (plain (get_or t' n no_label)) ≡ spelled s (plain (get_or t' j no_label)) → n ≡ j) (λ _. refl) (λ j d e. absurd (none-there-yet j d (sym (old j d) ∙ sym e ∙ new))) j h')
+                (λ i d. each (λ j. spelled s (plain (get_or t' i no_label)) ≡ spelled s (plain (get_or t' j no_label)) → i ≡ j) (λ e. absurd (none-there-yet i d (sym (old i d) ∙ e ∙ new)))
                 (λ j d' e. tree.distinct i j d d' (sym (old i d) ∙ e ∙ old j d')) j h') i h;
           }
             where
@@ -519,13 +518,8 @@ module _ (s : List ℕ) (t : List Label) (roots : List ℕ) (n : ℕ) (l : Label
               at i = split i (suc n) (upto i) (λ h. unlinked-past (suc n) t' i h ∙ m.later i (omega arith) ∙ sym (get_or-set_other (unlinked n t) n i l no_label (λ x. omega arith) ∙ unlinked-past n t i (omega arith)))
 
       -- What the search comes to then.
-      gap_is : q.known ≡ false → Gaps s t roots n l (gap_of q)
-      gap_is y =
-          record {
-            bucket_is = k.bucket_is;
-            tree = λ room. is-tree y room (joins y room (k.is_lost ended y));
-            holds = λ room. holds y room (joins y room (k.is_lost ended y));
-          }
+      gap_is : Gaps s t roots n l (gap_of q)
+      gap_is = record { bucket_is = k.bucket_is; tree = λ room. is-tree room (joins room lost); holds = λ room. holds room (joins room lost) }
 
 -- A search for a part of the source is one for a label there, at whatever address.
 module _ (s : List ℕ) (t : List Label) (roots : List ℕ) (n start long a : ℕ) (q : Search) where
@@ -535,49 +529,47 @@ module _ (s : List ℕ) (t : List Label) (roots : List ℕ) (n start long a : �
   abbrev moved : Search
   moved =
       let g : Gap = addressed (gap_of q) n a in
-      record { bucket = q.bucket; more = q.more; known = q.known; next = q.next; path = q.path; count = q.count; entry = g.entry; last = q.last; parent = g.parent }
+      record { bucket = q.bucket; stage = q.stage; path = q.path; count = q.count; entry = g.entry; last = q.last; parent = g.parent }
 
-  seeking-moved : Seeking s t roots n (span start long) q → Seeking s t roots n labelled moved
-  unfolding addressed entry_for
-  seeking-moved k =
-      record {
-        bucket_is = k.bucket_is;
-        entry-is = entry-same;
-        count-is = k.count-is;
-        at_entry = λ more. record { inside = (k.at_entry more).inside; reached = (k.at_entry more).reached };
-        is_known = k.is_known;
-        is_lost = λ more known. lost (k.is_lost more known);
-      }
-    where
-      entry-same : moved.entry ≡ entry_for (spelled s labelled) labelled
-      entry-same = ap (λ (e : Label). record { start = e.start; length = e.length; address = a }) k.entry-is
+  module _ (k : Seeking s t roots n (span start long) q) where
+    entry-same : moved.entry ≡ entry_for (spelled s labelled) labelled
+    unfolding addressed entry_for
+    entry-same = ap (λ (e : Label). record { start = e.start; length = e.length; address = a }) k.entry-is
 
-      lost : Lost s t roots n (span start long) q → Lost s t roots n labelled moved
-      lost (none_there f g h) = none_there f g (rw (addressed, eq-eqb q.last n g) entry-same)
-      lost (behind z inside w miss f g) = behind z inside w miss f (rw (addressed, ne_eqb q.last n (λ e. omega arith)) g)
+    lost-moved : Lost s t roots n (span start long) q → Lost s t roots n labelled moved
+    unfolding addressed entry_for
+    lost-moved (none_there f g h) = none_there f g (rw (addressed, eq-eqb q.last n g) entry-same)
+    lost-moved (behind z inside w miss f g) = behind z inside w miss f (rw (addressed, ne_eqb q.last n (λ e. omega arith)) g)
+
+    stands-moved : (v : Stage) → Stands s t roots n (span start long) q v → Stands s t roots n labelled moved v
+    stands-moved (At i) x = record { inside = x.inside; reached = x.reached }
+    stands-moved (Known i) x = x
+    stands-moved Missing x = lost-moved x
+
+    seeking-moved : Seeking s t roots n labelled moved
+    seeking-moved = record { bucket_is = k.bucket_is; entry-is = entry-same; count-is = k.count-is; stands = stands-moved q.stage k.stands }
 
 -- What a search that has ended comes to.
 module _ (s : List ℕ) (t : List Label) (roots : List ℕ) (n start long : ℕ) (tree : Tree s t roots n) (ok : Enterable s n (span start long)) (q : Search) (k : Seeking s t roots n (span start long) q) where
-  pub seek-end : q.more ≡ false → Finding s t roots n start long (found_of q)
+  pub seek-end : ((i : ℕ) → q.stage ≡ At i → ⊥) → Finding s t roots n start long (found_of q)
   unfolding found_of addressed
-  seek-end ended = by-test q.known at missing
+  seek-end ended = go q.stage refl k.stands
     where
-      at : q.known ≡ true → Finding s t roots n start long (found_of q)
-      at y = rw (found_of, y) (record { index_is = sym (index-there s t roots n (span start long) tree ok q k ended y); gap = λ g e. absurd (found-at e) })
-
-      placed : q.known ≡ false → (a : ℕ) → a < 2097152 → Gaps s t roots n (record { start = start; length = long; address = a }) (addressed (gap_of q) n a)
-      placed y a h =
+      placed : Lost s t roots n (span start long) q → (a : ℕ) → a < 2097152 → Gaps s t roots n (record { start = start; length = long; address = a }) (addressed (gap_of q) n a)
+      placed lost a h =
           gap_is s t roots n (record { start = start; length = long; address = a }) tree (record { in_text = ok.in_text; short = ok.short; few = ok.few; near = h })
-          (moved s t roots n start long a q) (seeking-moved s t roots n start long a q k) ended y
+          (moved s t roots n start long a q) (seeking-moved s t roots n start long a q k) (lost-moved s t roots n start long a q k lost)
 
-      missing : q.known ≡ false → Finding s t roots n start long (found_of q)
-      missing y = rw (found_of, y) (record {
-        index_is = sym (index-missing s t roots n (span start long) tree ok q k ended y);
-        gap = λ g e a h. subst (λ (x : Gap). Gaps s t roots n (record { start = start; length = long; address = a }) (addressed x n a)) (gap_same e) (placed y a h);
+      go : (v : Stage) → q.stage ≡ v → Stands s t roots n (span start long) q v → Finding s t roots n start long (found_of q)
+      go (At i) e x = absurd (ended i e)
+      go (Known i) e x = rw (found_of, e) (record { index_is = sym (index-there s t roots n (span start long) tree ok q k i x); gap = λ g e. absurd (found-at e) })
+      go Missing e lost = rw (found_of, e) (record {
+        index_is = sym (index-missing s t roots n (span start long) tree ok q k lost);
+        gap = λ g e a h. subst (λ (x : Gap). Gaps s t roots n (record { start = start; length = long; address = a }) (addressed x n a)) (gap_same e) (placed lost a h);
       })
 
 -- What is found is one of the n, and no other has its spelling (`Tree.distinct`).
-pub found-there : {s : List ℕ} {t : List Label} {roots : List ℕ} {n start long i : ℕ} → Finding s t roots n start long (At i) → (i < n) × (spelled s (plain (get_or t i no_label)) ≡ spelled s (span start long))
+pub found-there : {s : List ℕ} {t : List Label} {roots : List ℕ} {n start long i : ℕ} → Finding s t roots n start long (Ok i) → (i < n) × (spelled s (plain (get_or t i no_label)) ≡ spelled s (span start long))
 found-there {s} {t} {roots} {n} {start} {long} {i} x =
     let h = index-names s (spelled s (span start long)) (take n (unlinked n t)) i (sym x.index_is) in
     let less : i < n = omega (arith, length-take n (unlinked n t), h.0) in
@@ -586,12 +578,12 @@ found-there {s} {t} {roots} {n} {start} {long} {i} x =
 -- ---- a label is entered
 
 module _ {s : List ℕ} {t : List Label} {roots : List ℕ} {n : ℕ} {l : Label} where
-  module _ {i : ℕ} (x : Finding s t roots n l.start l.length (At i)) where
-    pub enter-known : Enters s (unlinked n t) n l (unlinked n t) Duplicate
-    unfolding is_some
-    enter-known = enters-known s (unlinked n t) n l (any-index s (spelled s l) (take n (unlinked n t)) ∙ ap is_some (sym x.index_is))
+  pub enter-known : {r : Result ℕ Gap} → Finding s t roots n l.start l.length r → ((g : Gap) → r ≡ Err g → ⊥) → Enters s (unlinked n t) n l (unlinked n t) (Err DuplicateLabel)
+  unfolding is_some
+  enter-known {r = Ok i} x known = enters-known s (unlinked n t) n l (any-index s (spelled s l) (take n (unlinked n t)) ∙ ap is_some (sym x.index_is))
+  enter-known {r = Err g} x known = absurd (known g refl)
 
-  module _ {bare : Gap} (x : Finding s t roots n l.start l.length (Missing bare)) (near : l.address < 2097152) {g : Gap} (made : g ≡ addressed bare n l.address) where
+  module _ {bare : Gap} (x : Finding s t roots n l.start l.length (Err bare)) (near : l.address < 2097152) {g : Gap} (made : g ≡ addressed bare n l.address) where
     gaps : Gaps s t roots n l g
     gaps = subst (Gaps s t roots n l) (sym made) (x.gap bare refl l.address near)
 
@@ -614,7 +606,7 @@ module _ {s : List ℕ} {t : List Label} {roots : List ℕ} {n : ℕ} {l : Label
         pub full-kept : t₁ ≡ t
         full-kept = f ∙ set_out t n g.entry full
 
-        pub enter-full : Enters s (unlinked n t) n l (unlinked n t₁) Full
+        pub enter-full : Enters s (unlinked n t) n l (unlinked n t₁) (Err TableFull)
         enter-full =
             enters-full s (unlinked n t) n l unnamed (unlinked n t₁)
             (ap (unlinked n) full-kept ∙ sym (set_out (unlinked n t) n l (rw (unlinked-long n t) full))) (rw (unlinked-long n t) h)
@@ -623,11 +615,11 @@ module _ {s : List ℕ} {t : List Label} {roots : List ℕ} {n : ℕ} {l : Label
         joined_is : t₂ ≡ joined t n g
         joined_is = e ∙ ap (λ (z : List Label). set z g.last g.parent) f
 
-        pub enter-new : Enters s (unlinked n t) n l (unlinked (suc n) t₂) New
+        pub enter-new : Enters s (unlinked n t) n l (unlinked (suc n) t₂) (Ok tt)
         enter-new =
             enters-new s (unlinked n t) n l unnamed (unlinked (suc n) t₂) (ap (unlinked (suc n)) joined_is ∙ gaps.holds (ltb-true n (length t) h)) (rw (unlinked-long n t) h)
 
-        pub new-tree : {roots' : List ℕ} → roots' ≡ with_root_at roots n g.bucket → TreeAfter s t roots n l t₂ roots' New
+        pub new-tree : {roots' : List ℕ} → roots' ≡ with_root_at roots n g.bucket → TreeAfter s t roots n l t₂ roots' (Ok tt)
         new-tree {roots'} p =
             let q = with-root-there p in
             (q, subst (λ (r : List ℕ). Tree s t₂ r (suc n)) (sym q) (subst (λ (z : List Label). Tree s z (with_root roots n (spelled s l)) (suc n)) (sym joined_is) (gaps.tree (ltb-true n (length t) h))))

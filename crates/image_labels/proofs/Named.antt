@@ -1,5 +1,6 @@
 -- Whether some labels have a spelling, and entering a label behind them.
 use Prim.Native.Nat.{ℕ, zero, suc, ◌+◌, ◌-◌, ◌<◌}
+use Rattle.std.specs.Prelude.{Ok, Err}
 use mathlib.Core.Path.{◌≡◌, refl, sym, ap, subst, ◌∙◌}
 use mathlib.Core.Option.{Option, none, some}
 use native.Mathlib.Omega.{arith}
@@ -10,7 +11,7 @@ use lib.ListN.{length, take, drop, get_or, set, length-take, length-drop}
 use Rattle.text_lexical.specs.Bytes.{same, is_some}
 use Rattle.text_lexical.proofs.Tests.{by-test}
 use Rattle.text_lexical.proofs.Strings.{same-eq, eq-same}
-use Rattle.image_labels.specs.declared.label.Entered.TheVariants.{New, Duplicate, Full}
+use Rattle.refusal.specs.declared.refusal.Refusal.TheVariants.{DuplicateLabel, TableFull}
 use Rattle.image_labels.specs.declared.label.Label.{Label}
 use Rattle.image_labels.specs.Promised.{InText, spelled, no_label, any_named, index_of, entry_fault, Enters}
 
@@ -85,15 +86,15 @@ module _ (s u : List ℕ) where
   any-index (l ∷ ls) = by-test (same (spelled s l) u) (λ y. rw (any_named, index_of, y)) (λ n. rw (any_named, index_of, n) (any-index ls ∙ some-later (index_of s ls u)))
 
 module _ (s : List ℕ) (table : List Label) (count : ℕ) (l : Label) where
-  pub enters-known : any_named s (take count table) (spelled s l) ≡ true → Enters s table count l table Duplicate
+  pub enters-known : any_named s (take count table) (spelled s l) ≡ true → Enters s table count l table (Err DuplicateLabel)
   unfolding entry_fault
   enters-known e = record { answer = rw e; holds = rw e }
 
   module _ (e : any_named s (take count table) (spelled s l) ≡ false) (table' : List Label) (h : table' ≡ set table count l) where
-    pub enters-new : ltb count (length table) ≡ true → Enters s table count l table' New
+    pub enters-new : ltb count (length table) ≡ true → Enters s table count l table' (Ok tt)
     unfolding entry_fault
     enters-new f = record { answer = rw (e, f); holds = rw e h }
 
-    pub enters-full : ltb count (length table) ≡ false → Enters s table count l table' Full
+    pub enters-full : ltb count (length table) ≡ false → Enters s table count l table' (Err TableFull)
     unfolding entry_fault
     enters-full f = record { answer = rw (e, f); holds = rw e h }

@@ -11,6 +11,7 @@ use borrow.Author.Tests.{eqb-true, eqb-false, eq-eqb}
 use Rattle.text_lexical.proofs.Tests.{by-test}
 use Rattle.image_labels.specs.declared.label.Label.{Label}
 use Rattle.image_labels.specs.Promised.{spelled}
+use Rattle.image_labels.specs.declared.tree.Stage.TheVariants.{At, Missing}
 use Rattle.image_labels.specs.Tree.{hash_of, first_path, entry_for, slot_of, root_of, with_root_at, with_root, started_at, begun_at, begun}
 use Rattle.image_labels.proofs.Hashing.{slot-inside}
 
@@ -53,8 +54,8 @@ module _ (roots : List ℕ) (n : ℕ) (u : List ℕ) where
 
 -- How a search begins: without a root, or at one.
 module _ (s roots : List ℕ) (n : ℕ) (l : Label) where
-  pub begun-none : root_of roots (spelled s l) ≡ 0 → begun s roots n l ≡ started_at (slot_of (hash_of (spelled s l)) (length roots)) false 0 (first_path (spelled s l)) n (entry_for (spelled s l) l)
+  pub begun-none : root_of roots (spelled s l) ≡ 0 → begun s roots n l ≡ started_at (slot_of (hash_of (spelled s l)) (length roots)) Missing (first_path (spelled s l)) n (entry_for (spelled s l) l)
   begun-none f = ap (begun_at (slot_of (hash_of (spelled s l)) (length roots)) s n l) f
 
-  pub begun-some : (i : ℕ) → root_of roots (spelled s l) ≡ suc i → begun s roots n l ≡ started_at (slot_of (hash_of (spelled s l)) (length roots)) true i (first_path (spelled s l)) n (entry_for (spelled s l) l)
+  pub begun-some : (i : ℕ) → root_of roots (spelled s l) ≡ suc i → begun s roots n l ≡ started_at (slot_of (hash_of (spelled s l)) (length roots)) (At i) (first_path (spelled s l)) n (entry_for (spelled s l) l)
   begun-some i f = ap (begun_at (slot_of (hash_of (spelled s l)) (length roots)) s n l) f

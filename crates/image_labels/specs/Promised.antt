@@ -1,11 +1,11 @@
 -- What a lent label table holds, and what its functions promise. Quotations are document 01's.
-use Rattle.std.specs.Prelude.{ℕ, suc, ◌+◌, ◌≤◌, ◌≡◌, Bool, true, false, List, [], ◌∷◌, length, take, drop, set, ltb}
+use Rattle.std.specs.Prelude.{ℕ, suc, ◌+◌, ◌≤◌, ◌≡◌, Bool, true, false, List, [], ◌∷◌, length, take, drop, set, ltb, ⊤, Result, Ok, Err}
 use Rattle.std.proofs.Math.Option.{Option, none, some}
 use Rattle.text_lexical.specs.Bytes.{same}
+use Rattle.refusal.specs.Refusals.{fault_of}
+use Rattle.refusal.specs.declared.refusal.Refusal.{Refusal}
 use Rattle.image.specs.Assembling.{Label as Meant}
 use Rattle.image_labels.specs.declared.label.Label.{Label}
-use Rattle.image_labels.specs.declared.label.Entered.{Entered}
-use Rattle.image_labels.specs.declared.label.Entered.TheVariants.{New, Duplicate, Full}
 
 -- "entries of start, length, address": the entry of a label.
 abbrev pub entry_of : Meant → Label
@@ -37,21 +37,15 @@ index_of s (l ∷ ls) u = elim (same (spelled s l) u) [ true ↦ some 0 | false 
 unfoldable pub entry_fault : Bool → Bool → Option ℕ
 entry_fault known room = elim known [ true ↦ some 4 | false ↦ elim room [ true ↦ none | false ↦ some 5 ] ]
 
-abbrev pub entered_meant : Entered → Option ℕ
-entered_meant New = none
-entered_meant Duplicate = some 4
-entered_meant Full = some 5
-
 -- How many labels there are after an attempt to enter one.
-abbrev pub count_after : ℕ → Entered → ℕ
-count_after count New = suc count
-count_after count Duplicate = count
-count_after count Full = count
+abbrev pub count_after : ℕ → Result ⊤ Refusal → ℕ
+count_after count (Ok u) = suc count
+count_after count (Err r) = count
 
 -- Entering a label after `count` others of a table: the answer, and the table afterwards. (`set` leaves a list as it is at a place
 -- after its end.)
-pub record Enters (s : List ℕ) (table : List Label) (count : ℕ) (l : Label) (table' : List Label) (r : Entered) : Type 0 where
-  pub answer : entered_meant r ≡ entry_fault (any_named s (take count table) (spelled s l)) (ltb count (length table))
+pub record Enters (s : List ℕ) (table : List Label) (count : ℕ) (l : Label) (table' : List Label) (r : Result ⊤ Refusal) : Type 0 where
+  pub answer : fault_of r ≡ entry_fault (any_named s (take count table) (spelled s l)) (ltb count (length table))
   pub holds : table' ≡ elim (any_named s (take count table) (spelled s l)) [ true ↦ table | false ↦ set table count l ]
 
 -- The spellings of labels stand in a source, where their entries say.

@@ -1,18 +1,17 @@
 -- While labels are entered, their entries are the nodes of 4-way tries, in which a spelling is looked for from the root of its hash bucket
 -- on. These definitions follow the code; document 01 knows nothing of them: which bucket and which branches a spelling takes and how it is
 -- hashed could be otherwise, and what is found does not depend on it.
-use Rattle.std.specs.Prelude.{ℕ, zero, suc, ◌+◌, ◌*◌, ◌/◌, ◌%◌, ◌≤◌, ◌<◌, ◌≡◌, Bool, true, false, List, [], ◌∷◌, length, take, get_or, set, leb, ltb, eqb}
+use Rattle.std.specs.Prelude.{ℕ, zero, suc, ◌+◌, ◌*◌, ◌/◌, ◌%◌, ◌≤◌, ◌<◌, ◌≡◌, Bool, true, false, List, [], ◌∷◌, length, take, get_or, set, leb, ltb, eqb, ⊤, Result, Ok, Err}
 use Rattle.std.proofs.Math.Option.{Option, none, some}
 use Rattle.text_lexical.specs.Bytes.{same}
+use Rattle.refusal.specs.declared.refusal.Refusal.{Refusal}
 use Rattle.image_labels.specs.Promised.{InText, spelled, no_label, index_of}
 use Rattle.image_labels.specs.declared.label.Label.{Label}
-use Rattle.image_labels.specs.declared.label.Entered.{Entered}
-use Rattle.image_labels.specs.declared.label.Entered.TheVariants.{New, Duplicate, Full}
 use Rattle.image_labels.specs.declared.label.Gap.{Gap}
-use Rattle.image_labels.specs.declared.label.Found.{Found}
-use Rattle.image_labels.specs.declared.label.Found.TheVariants.{At, Missing}
 use Rattle.image_labels.specs.declared.tree.Digest.{Digest}
 use Rattle.image_labels.specs.declared.tree.PathBits.{PathBits}
+use Rattle.image_labels.specs.declared.tree.Stage.{Stage}
+use Rattle.image_labels.specs.declared.tree.Stage.TheVariants.{At, Known, Missing}
 use Rattle.image_labels.specs.declared.tree.Search.{Search}
 
 -- ---- entries
@@ -139,45 +138,35 @@ unfoldable pub hits : List ℕ → Label → ℕ → List ℕ → Bool
 hits s e key u = elim (eqb e.length key) [ true ↦ same (spelled s (plain e)) u | false ↦ false ]
 
 -- The search for a label after `count` others, from its root on,
-abbrev pub started_at : ℕ → Bool → ℕ → PathBits → ℕ → Label → Search
-started_at bucket more next path count e = record { bucket = bucket; more = more; known = false; next = next; path = path; count = count; entry = e; last = count; parent = e }
+abbrev pub started_at : ℕ → Stage → PathBits → ℕ → Label → Search
+started_at bucket stage path count e = record { bucket = bucket; stage = stage; path = path; count = count; entry = e; last = count; parent = e }
 
 abbrev pub begun_at : ℕ → List ℕ → ℕ → Label → ℕ → Search
-begun_at slot s count l zero = started_at slot false 0 (first_path (spelled s l)) count (entry_for (spelled s l) l)
-begun_at slot s count l (suc i) = started_at slot true i (first_path (spelled s l)) count (entry_for (spelled s l) l)
+begun_at slot s count l zero = started_at slot Missing (first_path (spelled s l)) count (entry_for (spelled s l) l)
+begun_at slot s count l (suc i) = started_at slot (At i) (first_path (spelled s l)) count (entry_for (spelled s l) l)
 
 abbrev pub begun : List ℕ → List ℕ → ℕ → Label → Search
 begun s roots count l = begun_at (slot_of (hash_of (spelled s l)) (length roots)) s count l (root_of roots (spelled s l))
 
--- and after an entry that it has come to: it has ended, or goes on.
-abbrev pub ended_at : Search → Bool → Label → Search
-ended_at q known e =
-    record { bucket = q.bucket; more = false; known = known; next = q.next; path = q.path; count = q.count; entry = q.entry; last = q.next; parent = e }
+-- and after the entry at a place: it has ended, or goes on.
+abbrev pub ended_at : Search → Stage → ℕ → Label → Search
+ended_at q stage last e = record { bucket = q.bucket; stage = stage; path = q.path; count = q.count; entry = q.entry; last = last; parent = e }
 
-abbrev pub passed : List ℕ → Search → Label → ℕ → Search
-passed s q e zero = ended_at q false (linked e (branch_of q.path) (q.count + 1))
-passed s q e (suc i) =
-    record {
-      bucket = q.bucket;
-      more = true;
-      known = false;
-      next = i;
-      path = advanced (spelled s (plain q.entry)) q.path;
-      count = q.count;
-      entry = q.entry;
-      last = q.next;
-      parent = e;
-    }
+abbrev pub passed : List ℕ → Search → ℕ → Label → ℕ → Search
+passed s q at e zero = ended_at q Missing at (linked e (branch_of q.path) (q.count + 1))
+passed s q at e (suc i) =
+    record { bucket = q.bucket; stage = At i; path = advanced (spelled s (plain q.entry)) q.path; count = q.count; entry = q.entry; last = at; parent = e }
 
-unfoldable pub visited : List ℕ → Search → Label → Search
-visited s q e = elim (hits s e q.entry.length (spelled s (plain q.entry))) [ true ↦ ended_at q true e | false ↦ passed s q e (link e (branch_of q.path)) ]
+unfoldable pub visited : List ℕ → Search → ℕ → Label → Search
+visited s q at e =
+    elim (hits s e q.entry.length (spelled s (plain q.entry))) [ true ↦ ended_at q (Known at) at e | false ↦ passed s q at e (link e (branch_of q.path)) ]
 
 -- What a search that has ended comes to.
 abbrev pub gap_of : Search → Gap
 gap_of q = record { bucket = q.bucket; entry = q.entry; last = q.last; parent = q.parent }
 
-unfoldable pub found_of : Search → Found
-found_of q = elim q.known [ true ↦ At q.next | false ↦ Missing (gap_of q) ]
+unfoldable pub found_of : Search → Result ℕ Gap
+found_of q = elim q.stage [ Known i ↦ Ok i | At i ↦ Err (gap_of q) | Missing ↦ Err (gap_of q) ]
 
 -- ---- trees
 
@@ -200,10 +189,9 @@ pub record Tree (s : List ℕ) (t : List Label) (roots : List ℕ) (n : ℕ) : T
 
 -- What entering a label after n others leaves: trees again, once it is entered, which is a root where there was none; table and roots as
 -- they were, if it is refused.
-abbrev pub TreeAfter : List ℕ → List Label → List ℕ → ℕ → Label → List Label → List ℕ → Entered → Type 0
-TreeAfter s t roots n l t' roots' New = (roots' ≡ with_root roots n (spelled s l)) × Tree s t' roots' (suc n)
-TreeAfter s t roots n l t' roots' Duplicate = (roots' ≡ roots) × (t' ≡ t)
-TreeAfter s t roots n l t' roots' Full = (roots' ≡ roots) × (t' ≡ t)
+abbrev pub TreeAfter : List ℕ → List Label → List ℕ → ℕ → Label → List Label → List ℕ → Result ⊤ Refusal → Type 0
+TreeAfter s t roots n l t' roots' (Ok u) = (roots' ≡ with_root roots n (spelled s l)) × Tree s t' roots' (suc n)
+TreeAfter s t roots n l t' roots' (Err r) = (roots' ≡ roots) × (t' ≡ t)
 
 -- A label may be entered after n others: what an entry holds has room.
 pub record Enterable (s : List ℕ) (n : ℕ) (l : Label) : Type 0 where
@@ -228,15 +216,15 @@ pub record Gaps (s : List ℕ) (t : List Label) (roots : List ℕ) (n : ℕ) (l 
   pub tree : n < length t → Tree s (joined t n g) (with_root roots n (spelled s l)) (suc n)
   pub holds : n < length t → unlinked (suc n) (joined t n g) ≡ set (unlinked n t) n l
 
-abbrev pub index_meant : Found → Option ℕ
-index_meant (At i) = some i
-index_meant (Missing g) = none
+abbrev pub index_meant : Result ℕ Gap → Option ℕ
+index_meant (Ok i) = some i
+index_meant (Err g) = none
 
 -- The label that is spelled as a part of a source, looked for among n: which of them it is; or none, and where it would be entered at an
 -- address.
-pub record Finding (s : List ℕ) (t : List Label) (roots : List ℕ) (n start long : ℕ) (r : Found) : Type 0 where
+pub record Finding (s : List ℕ) (t : List Label) (roots : List ℕ) (n start long : ℕ) (r : Result ℕ Gap) : Type 0 where
   pub index_is : index_meant r ≡ index_of s (take n (unlinked n t)) (spelled s (span start long))
-  pub gap : (g : Gap) → r ≡ Missing g → (a : ℕ) → a < 2097152 → Gaps s t roots n (record { start = start; length = long; address = a }) (addressed g n a)
+  pub gap : (g : Gap) → r ≡ Err g → (a : ℕ) → a < 2097152 → Gaps s t roots n (record { start = start; length = long; address = a }) (addressed g n a)
 
 -- What a search asks of an entry that it has come to.
 pub record Visitable (s : List ℕ) (q : Search) (e : Label) : Type 0 where

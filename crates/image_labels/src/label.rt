@@ -3,6 +3,9 @@ ghost use Rattle.std.specs.Prelude.{◌≡◌, ◌≤◌, length, set, ltb};
 ghost use Rattle.image_labels.specs.Promised.{count_after, Enters};
 ghost use Rattle.image_labels.specs.Tree.{unlinked, span, Tree, TreeAfter, Enterable, Finding};
 
+use crate::tree::Stage;
+use refusal::refusal::Refusal;
+
 // Where a label's spelling stands in the source, and its address.
 #[repr(C)]
 #[derive(Clone, Copy)]
@@ -22,15 +25,8 @@ pub struct Gap {
     pub(crate) parent: Label,
 }
 
-// The index of the label that has a spelling, or that none has it.
-#[derive(Clone, Copy)]
-pub enum Found {
-    At(usize),
-    Missing(Gap),
-}
-
-// Finds the label that is spelled as a part of the source, among the first `count` entries of a table. Nothing is changed. The part is
-// given by two numbers, since a label would be passed through memory.
+// The index of the label that is spelled as a part of the source, among the first `count` entries of a table; or where it would be entered.
+// Nothing is changed. The part is given by two numbers, since a label would be passed through memory.
 pub fn find(
     source: &[u8],
     table: &[Label],
@@ -38,20 +34,19 @@ pub fn find(
     count: usize,
     start: usize,
     length: usize,
-) -> Found
+) -> Result<usize, Gap>
     requires tree { Tree source.now table.now roots.now count }
     requires enterable { Enterable source.now count (span start «length») }
     ensures { Finding source.now table.now roots.now count start «length» result }
 {
     let mut search = crate::tree::begin(source, roots, count, start, length);
-    while search.more {
-        let at = search.next;
-        search = crate::tree::visit(source, search, table[at]);
+    while let Stage::At(at) = search.stage {
+        search = crate::tree::visit(source, search, at, table[at]);
     }
     crate::tree::found(search)
 }
 
-// An entry stored at a place, where there is room; whether there was.
+// An entry stored at a place, where there is room; whether there was, which each caller has a refusal of its own for.
 fn append(table: &mut [Label], at: usize, entry: Label) -> bool
     ensures value { result ≡ ltb at (length table.old) }
     ensures stored { table.new ≡ set table.old at entry }
@@ -63,40 +58,30 @@ fn append(table: &mut [Label], at: usize, entry: Label) -> bool
     true
 }
 
-// What entering a label comes to: a new label is stored, or it is refused as a duplicate (4) or for want of room (5).
-#[derive(Clone, Copy)]
-pub enum Entered {
-    New,
-    Duplicate,
-    Full,
-}
-
-// Enters a label after `count` others. A refused label leaves everything as it was.
+// Enters a label after `count` others. It is refused as a duplicate or for want of room, and then leaves everything as it was.
 pub fn enter(
     source: &[u8],
     table: &mut [Label],
     roots: &mut [u32],
     count: usize,
     label: Label,
-) -> Entered
+) -> Result<(), Refusal>
     requires tree { Tree source.now table.old roots.old count }
     requires enterable { Enterable source.now count label }
     ensures enters { Enters source.now (unlinked count table.old) count label (unlinked (count_after count result) table.new) result }
     ensures tree_after { TreeAfter source.now table.old roots.old count label table.new roots.new result }
 {
-    let found = find(source, table, roots, count, label.start, label.length);
-    let bare = match found {
-        Found::At(_) => return Entered::Duplicate,
-        Found::Missing(gap) => gap,
+    let Err(bare) = find(source, table, roots, count, label.start, label.length) else {
+        return Err(Refusal::DuplicateLabel);
     };
     let gap = crate::tree::addressed(bare, count, label.address);
     if append(table, count, gap.entry) {
         // its parent leads to it (a root is stored again)
         append(table, gap.last, gap.parent);
         crate::tree::set_root(roots, gap.bucket, count);
-        return Entered::New;
+        return Ok(());
     }
-    Entered::Full
+    Err(Refusal::TableFull)
 }
 
 // The first `count` entries of a table are left as labels.
@@ -104,9 +89,7 @@ pub fn unlink(table: &mut [Label], count: usize)
     requires { count ≤ length table.old }
     ensures { table.new ≡ unlinked count table.old }
 {
-    let mut i = 0;
-    while i < count {
-        table[i] = crate::tree::plain(table[i]);
-        i += 1;
+    for entry in &mut table[..count] {
+        *entry = crate::tree::plain(*entry);
     }
 }

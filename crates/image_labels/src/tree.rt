@@ -6,7 +6,7 @@ ghost use Rattle.text_lexical.specs.Bytes.{same};
 ghost use Rattle.image_labels.specs.Promised.{InText, spelled};
 ghost use Rattle.image_labels.specs.Tree.{plain as plain_of, child_number, link as link_of, child_bits, linked as linkedOf, mixed, three_at, hash_of, advanced, hits as hitsOf, Rootable, slot_of, with_root_at, started_at, begun, found_of, span, addressed as addressed_at, ended_at, visited, Enterable, Visitable};
 
-use crate::label::{Found, Gap, Label};
+use crate::label::{Gap, Label};
 
 // A label's start, length and address are below 2^21. What an entry holds above them counts in units of it.
 const FIELD: usize = 2097152;
@@ -32,14 +32,20 @@ pub(crate) struct PathBits {
     pub(crate) used: usize,
 }
 
+// Where a search stands: before an entry that it is to visit, or at its end, which is an entry of the spelling, or behind all entries.
+#[derive(Clone, Copy)]
+pub(crate) enum Stage {
+    At(usize),
+    Known(usize),
+    Missing,
+}
+
 // A spelling that is looked for, from the root of a hash bucket on. `entry` is that of its label, after `count` others; `parent` is the
 // entry that is to lead to it, and stands at `last`: for a label that becomes a root, to which no entry leads, its own.
 #[derive(Clone, Copy)]
 pub(crate) struct Search {
     pub(crate) bucket: usize,
-    pub(crate) more: bool,
-    pub(crate) known: bool,
-    pub(crate) next: usize,
+    pub(crate) stage: Stage,
     pub(crate) path: PathBits,
     pub(crate) count: usize,
     pub(crate) entry: Label,
@@ -59,6 +65,7 @@ pub(crate) fn plain(entry: Label) -> Label
 }
 
 // One of the two child numbers that are packed above a part of an entry: the upper one for an odd branch.
+#[tactic(auto, unfolding(crate::specs::Tree::child_number))]
 fn child_number(part: usize, branch: u64) -> usize
     ensures { result ≡ child_number part branch }
 {
@@ -70,6 +77,7 @@ fn child_number(part: usize, branch: u64) -> usize
 
 // The child of an entry at a branch: none (0), or the entry before that number. Both parts are looked at, so that the processor
 // need not guess which.
+#[tactic(auto, unfolding(crate::specs::Tree::link))]
 fn link(entry: Label, branch: u64) -> usize
     ensures { result ≡ link_of entry branch }
 {
@@ -82,6 +90,7 @@ fn link(entry: Label, branch: u64) -> usize
 }
 
 // A child number, which has 21 bits, moved up to where it is packed.
+#[tactic(auto, unfolding(crate::specs::Tree::child_bits))]
 fn child_bits(to: usize, branch: u64) -> usize
     requires { to < 2097152 }
     ensures { result ≡ child_bits to branch }
@@ -93,6 +102,7 @@ fn child_bits(to: usize, branch: u64) -> usize
 }
 
 // An entry with a child at a branch where it had none.
+#[tactic(auto, unfolding(crate::specs::Tree::linked))]
 fn linked(entry: Label, branch: u64, to: usize) -> Label
     requires upper_start_fits { entry.start / 4398046511104 ≤ 1048576 }
     requires upper_address_fits { entry.address / 4398046511104 ≤ 1048576 }
@@ -119,6 +129,7 @@ fn linked(entry: Label, branch: u64, to: usize) -> Label
 
 // A hash with up to three bytes more, as one number. Its two numbers are mixed with one another; the bytes are added too, since a factor
 // of 0 would lose them.
+#[tactic(auto, unfolding(crate::specs::Tree::mixed))]
 fn mix(hash: Digest, bytes: u64) -> Digest
     requires { bytes < 16777216 }
     ensures { result ≡ mixed hash bytes }
@@ -132,12 +143,13 @@ fn mix(hash: Digest, bytes: u64) -> Digest
 }
 
 // The three bytes from `at` on as one number.
+#[tactic(auto, unfolding(crate::specs::Tree::three_at))]
 fn three_bytes(source: &[u8], at: usize) -> u64
     requires { at + 3 ≤ length source.now }
     ensures value { result ≡ three_at source.now at }
     ensures bound { result < 16777216 }
 {
-    source[at] as u64 + 256 * (source[at + 1] as u64) + 65536 * (source[at + 2] as u64)
+    u64::from(source[at]) + 256 * u64::from(source[at + 1]) + 65536 * u64::from(source[at + 2])
 }
 
 fn hash(source: &[u8], label: Label) -> Digest
@@ -150,26 +162,20 @@ fn hash(source: &[u8], label: Label) -> Digest
         first: 11400714819323198485,
         second: 13787848793156543929,
     };
+    // in a `for` over its threes the part would be divided by three first
     while 3 <= end - at {
         hash = mix(hash, three_bytes(source, at));
         at += 3;
     }
-    while at < end {
-        hash = mix(hash, source[at] as u64);
-        at += 1;
+    for byte in &source[at..end] {
+        hash = mix(hash, u64::from(*byte));
     }
     // so that the last bytes reach the lowest bits, by which the first branches are chosen
     mix(hash, 0)
 }
 
-// The bits of a byte, with a 1 after them.
-fn bits_of(byte: u8) -> u64
-    ensures { result ≡ 256 + byte }
-{
-    256 + (byte as u64)
-}
-
 // Advances to the next two path bits.
+#[tactic(auto, unfolding(crate::specs::Tree::advanced))]
 fn advance(source: &[u8], label: Label, path: PathBits) -> PathBits
     requires { InText source.now label }
     ensures { result ≡ advanced (spelled source.now label) path }
@@ -196,7 +202,8 @@ fn advance(source: &[u8], label: Label, path: PathBits) -> PathBits
     }
     let at = label.start + used;
     PathBits {
-        bits: bits_of(source[at]),
+        // with a 1 after them
+        bits: 256 + u64::from(source[at]),
         rest: 0,
         used: used + 1,
     }
@@ -216,6 +223,7 @@ fn same_spelling(source: &[u8], a: Label, b: Label) -> bool
 }
 
 // Whether an entry is of a label's spelling, given what the label's own entry holds for its length.
+#[tactic(auto, unfolding(crate::specs::Tree::hits))]
 fn hits(source: &[u8], at: Label, key: usize, label: Label) -> bool
     requires entry_in_text { InText source.now (plain_of at) }
     requires label_in_text { InText source.now label }
@@ -228,21 +236,12 @@ fn hits(source: &[u8], at: Label, key: usize, label: Label) -> bool
 }
 
 // A search that has come to no entry as yet.
-fn started(
-    bucket: usize,
-    more: bool,
-    next: usize,
-    path: PathBits,
-    count: usize,
-    entry: Label,
-) -> Search
-    ensures { result ≡ started_at bucket more next path count entry }
+fn started(bucket: usize, stage: Stage, path: PathBits, count: usize, entry: Label) -> Search
+    ensures { result ≡ started_at bucket stage path count entry }
 {
     Search {
         bucket,
-        more,
-        known: false,
-        next,
+        stage,
         path,
         count,
         entry,
@@ -252,6 +251,7 @@ fn started(
 }
 
 // The place of a hash among so many: 32 bits of it, in proportion.
+#[tactic(auto, unfolding(crate::specs::Tree::slot_of))]
 fn slot(hash: Digest, places: usize) -> usize
     requires some_place { 0 < places }
     requires places_few { places ≤ 65536 }
@@ -293,12 +293,13 @@ pub(crate) fn begin(
     let slot = slot(hash, roots.len());
     let root = roots[slot] as usize;
     if root == 0 {
-        return started(slot, false, 0, path, count, entry);
+        return started(slot, Stage::Missing, path, count, entry);
     }
-    started(slot, true, root - 1, path, count, entry)
+    started(slot, Stage::At(root - 1), path, count, entry)
 }
 
 // An empty bucket gets a root: the label that is entered after `count` others.
+#[tactic(auto, unfolding(crate::specs::Tree::with_root_at))]
 pub(crate) fn set_root(roots: &mut [u32], bucket: usize, count: usize)
     requires bucket_in_roots { bucket < length roots.old }
     requires count_fits { count ≤ 1048576 }
@@ -310,72 +311,62 @@ pub(crate) fn set_root(roots: &mut [u32], bucket: usize, count: usize)
 }
 
 // A search that has ended at an entry.
-fn ended(search: Search, known: bool, parent: Label) -> Search
-    ensures { result ≡ ended_at search known parent }
+fn ended(search: Search, stage: Stage, last: usize, parent: Label) -> Search
+    ensures { result ≡ ended_at search stage last parent }
 {
-    let path = search.path;
-    let entry = search.entry;
     Search {
-        bucket: search.bucket,
-        more: false,
-        known,
-        next: search.next,
-        path,
-        count: search.count,
-        entry,
-        last: search.next,
+        stage,
+        last,
         parent,
+        ..search
     }
 }
 
-// The search after an entry.
-pub(crate) fn visit(source: &[u8], search: Search, at: Label) -> Search
-    requires { Visitable source.now search at }
-    ensures { result ≡ visited source.now search at }
+// The search after the entry at a place.
+#[tactic(auto, unfolding(crate::specs::Tree::visited, crate::specs::Tree::branch_of))]
+pub(crate) fn visit(source: &[u8], search: Search, at: usize, entry: Label) -> Search
+    requires { Visitable source.now search entry }
+    ensures { result ≡ visited source.now search at entry }
 {
-    let entry = search.entry;
+    let own = search.entry;
     let path = search.path;
-    let count = search.count;
-    let label = plain(entry);
-    if hits(source, at, entry.length, label) {
-        return ended(search, true, at);
+    let label = plain(own);
+    if hits(source, entry, own.length, label) {
+        return ended(search, Stage::Known(at), at, entry);
     }
     let branch = path.bits % 4;
-    let to = link(at, branch);
+    let to = link(entry, branch);
     if to == 0 {
-        return ended(search, false, linked(at, branch, count + 1));
+        let parent = linked(entry, branch, search.count + 1);
+        return ended(search, Stage::Missing, at, parent);
     }
     Search {
-        bucket: search.bucket,
-        more: true,
-        known: false,
-        next: to - 1,
+        stage: Stage::At(to - 1),
         path: advance(source, label, path),
-        count,
-        entry,
-        last: search.next,
-        parent: at,
+        last: at,
+        parent: entry,
+        ..search
     }
 }
 
 // What a search that has ended comes to.
-pub(crate) fn found(search: Search) -> Found
+#[tactic(auto, unfolding(crate::specs::Tree::found_of))]
+pub(crate) fn found(search: Search) -> Result<usize, Gap>
     ensures { result ≡ found_of search }
 {
-    if search.known {
-        return Found::At(search.next);
+    if let Stage::Known(at) = search.stage {
+        return Ok(at);
     }
-    let entry = search.entry;
-    let parent = search.parent;
-    Found::Missing(Gap {
+    Err(Gap {
         bucket: search.bucket,
-        entry,
+        entry: search.entry,
         last: search.last,
-        parent,
+        parent: search.parent,
     })
 }
 
 // The gap of a label with an address, after `count` others: a label that becomes a root is stored again as its own parent.
+#[tactic(auto, unfolding(crate::specs::Tree::addressed))]
 pub(crate) fn addressed(gap: Gap, count: usize, address: u64) -> Gap
     ensures { result ≡ addressed_at gap count address }
 {

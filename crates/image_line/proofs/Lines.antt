@@ -5,43 +5,48 @@ use native.Mathlib.Omega.{arith}
 use mathlib.Core.Bool.{true, false, not, and-eq-true_iff, true≢false}
 use mathlib.Core.Option.{Option, none, some}
 use mathlib.Core.List.{List, [], ◌∷◌, map}
-use lib.ListN.{length, drop, get_or, get_or-eq_default}
-use lib.Seq.{take_all}
+use lib.ListN.{length, take, drop, get_or, length-take, length-drop, get_or-eq_default}
+use lib.Seq.{take_all, get_or-take, get_or-drop}
 use lib.Dec.{eqb}
 use borrow.Author.Tests.{eq-eqb, ne_eqb, eqb-true}
+use Rattle.std.specs.Prelude.{Some, None, Ok}
+use Rattle.std.specs.Prelude.{Option as Maybe, is_some as is_there}
 use Rattle.text_lexical.specs.Bytes.{Result, value, bytes, between, name_start, name_part, lower, blank, same, run, find, is_some, each}
 use Rattle.text_lexical.specs.Names.{Name, name, named, numbered, conventional, present}
-use Rattle.text_lexical.specs.Promised.{key_of, name_number}
-use Rattle.text_lexical.specs.Words.{word_end, part}
-use Rattle.text_lexical.specs.declared.name.RegisterName.TheVariants.{Other}
-use Rattle.text_lexical.proofs.Keys.{Below}
+use Rattle.text_lexical.specs.Promised.{key_of, name_number, name_meant}
+use Rattle.text_lexical.specs.Words.{word_end, part, WordIs}
+use Rattle.text_lexical.specs.declared.name.Word.{Word}
+use Rattle.text_lexical.specs.declared.name.RegisterName.{RegisterName}
+use Rattle.text_lexical.specs.declared.name.RegisterName.TheVariants.{Is, NoSuch, Other}
+use Rattle.text_lexical.proofs.Naming.{long-none}
+use Rattle.text_lexical.proofs.Keys.{Below, lowered-below}
 use Rattle.text_lexical.proofs.Tests.{split, no_both}
 use Rattle.text_lexical.proofs.Strings.{same-eq, found}
 use Rattle.text.specs.Tokens.{Token, identifier, register, number, hex, binary, directive, comma, colon, opening, closing, infront, tokens}
 use Rattle.text.specs.Lines.{Line, kept, line_of, record_of, read_line}
 use Rattle.text.specs.NameSets.{Naming}
+use Rattle.text.proofs.NameSets.{present-naming}
 use Rattle.text.specs.Places.{rest_at, left_at, end_at, StartsAt}
 use Rattle.text.specs.declared.lexer.Kind.TheVariants.{Identifier}
 use Rattle.text.proofs.Left.{start-solid}
 use Rattle.text.proofs.Fronts.{run_in, word_at}
 use Rattle.text.proofs.Stepping.{solid-step}
 use Rattle.instruction.specs.Table.{reg, Form, R, I, Shift, Load, Store, Branch, Jump, System, places, row, table, row_named}
+use Rattle.instruction.specs.declared.opcode.Mnemonic.{Mnemonic}
 use Rattle.instruction.specs.Operands.{Operands, Instruction, read_identifier, read_register, mark_byte, read_place, read_operands, made, read_row, read_mnemonic, read_instruction, behind}
-use Rattle.instruction.specs.Promised.{IsRow, row_at, form_at, form_number, operands_meant, SettledFor, parts_meant, Settled}
+use Rattle.instruction.specs.Promised.{row_of, operands_meant, SettledFor, parts_meant, Settled}
 use Rattle.instruction.specs.declared.instruction.Operands.{Operands as Kept}
-use Rattle.instruction.specs.declared.opcode.Row.{Row as Looked}
-use Rattle.instruction.specs.declared.opcode.Row.TheVariants.{At}
-use Rattle.instruction.proofs.Columns.{form-numbered}
-use Rattle.instruction_operands.proofs.Line.{six-places, below-part, named-by-key}
+use Rattle.instruction.proofs.Lookup.{row-by-key}
+use Rattle.instruction_operands.proofs.Line.{six-places}
 use Rattle.instruction.specs.Kinds.{plain, identifier_kind, kind_of}
 use Rattle.image.specs.Assembling.{Context, nothing, codes, coding, after_label, read_kind, read_on}
-use Rattle.image_line.specs.Promised.{Reads, TailIs, is_label, Labels, OptionalLabel, without, with_label, WordAfter, InTable, EffectSettled, read_meant, end_of, LineIs, ReadsAs}
-use Rattle.image_line.specs.declared.fast.LabelPart.{LabelPart}
+use Rattle.image_line.specs.Promised.{Reads, TailIs, is_label, Labels, OptionalLabel, WordAfter, EffectSettled, read_meant, end_of, LineIs, ReadsAs}
 use Rattle.image_line.specs.declared.line.Effect.TheVariants.{Nothing, Codes}
 use Rattle.image_line.specs.declared.line.Read.{Read}
+use Rattle.image_line.specs.declared.line.Span.{Span}
 use Rattle.image_line.proofs.Answers.{answered}
 use Rattle.image_line.proofs.Starts.{starts-here, content-reads}
-use Rattle.image_line.proofs.Places.{stepped-reads, word-goes, colon-reads, blanks-after}
+use Rattle.image_line.proofs.Places.{some-same, not-some, stepped-reads, word-goes, colon-reads, blanks-after}
 
 -- ---- a mnemonic is no register's name
 
@@ -61,6 +66,13 @@ unnamed names free u (some n) e h =
     let k : not (is_some (row_named (map lower u))) ≡ true = rw (same-eq n.spelling u p) at q in
     absurd (true≢false (sym k ∙ rw h))
 
+-- A part of a text of bytes.
+below-part : (k n : ℕ) (s : List ℕ) → Below s → Below (part s k n)
+below-part k n s h i =
+    split i n
+    (λ l. rw (get_or-take n (drop k s) i 0 l, get_or-drop k s i 0) (h (k + i)))
+    (λ l. rw (get_or-eq_default (take n (drop k s)) 0 {n = i} (omega (arith, length-take n (drop k s)))) (omega arith))
+
 some-row : {A : Type 0} (o : Option A) (a : A) → o ≡ some a → is_some o ≡ true
 unfolding is_some
 some-row o a e = rw e
@@ -79,13 +91,13 @@ module _ (s : List ℕ) (at end : ℕ) (l : at < length s) (start : name_start (
     name-reads n =
         stepped-reads names ok s at (record { kind = Identifier; start = at; length = end - at }) end (solid-step names s at _ l (start-solid _ start) (word_at names ok s at end Other l start (omega (arith, word-goes s at l start)) (sym n)))
 
-    -- A row that is found by the key of the word.
-    mnemonic-reads : NoMnemonics names → (key i : ℕ) (r : Looked) → Below s → key ≡ key_of (map lower (part s at (end - at))) → IsRow r (find (λ q. eqb (key_of q.mnemonic) key) table) → r ≡ At i
-        → (i < 50) × ((row_named (map lower (part s at (end - at))) ≡ some (row_at i)) × Reads names s at (identifier (part s at (end - at))) end)
-    mnemonic-reads free key i r below k row f =
+    -- A mnemonic that is found by the key of the word.
+    mnemonic-reads : NoMnemonics names → (key : ℕ) (m : Mnemonic) → Below s → key ≡ key_of (map lower (part s at (end - at))) → some (row_of m) ≡ find (λ q. eqb (key_of q.mnemonic) key) table
+        → (row_named (map lower (part s at (end - at))) ≡ some (row_of m)) × Reads names s at (identifier (part s at (end - at))) end
+    mnemonic-reads free key m below k found_it =
         let u = part s at (end - at) in
-        let (in_table, n) : (i < 50) × (row_named (map lower u) ≡ some (row_at i)) = rw (← named-by-key u key (below-part at (end - at) s below) k) (rw f at row) in
-        (in_table, (n, name-reads (unnamed names free u (named names u) refl (some-row _ _ n))))
+        let n : row_named (map lower u) ≡ some (row_of m) = row-by-key (map lower u) (lowered-below u (below-part at (end - at) s below)) ∙ sym (rw k at found_it) in
+        (n, name-reads (unnamed names free u (named names u) refl (some-row _ _ n)))
 
     -- A colon after a name that is no register's.
     label-reads : end < length s → get_or s end 0 ≡ 58 → name_number (named names (part s at (end - at))) ≡ none → Labels names s at end (end + 1)
@@ -93,20 +105,32 @@ module _ (s : List ℕ) (at end : ℕ) (l : at < length s) (start : name_start (
 
 -- Whether a word is a label, by the byte after it and by its name.
 module _ (names : List Name) (s : List ℕ) (at end : ℕ) where
-  pub no-colon : (get_or s end 0 ≡ 58 → ⊥) → false ≡ is_label names s at end
+  pub no_colon : (get_or s end 0 ≡ 58 → ⊥) → false ≡ is_label names s at end
   unfolding is_label
-  no-colon h = sym (rw (is_label, ne_eqb (get_or s end 0) 58 h))
+  no_colon h = sym (rw (is_label, ne_eqb (get_or s end 0) 58 h))
 
   pub no_byte : length s ≤ end → false ≡ is_label names s at end
-  no_byte h = no-colon (λ e. let z : get_or s end 0 ≡ 0 = get_or-eq_default s 0 {n = end} h in omega arith)
+  no_byte h = no_colon (λ e. let z : get_or s end 0 ≡ 0 = get_or-eq_default s 0 {n = end} h in omega arith)
 
   pub no_name : get_or s end 0 ≡ 58 → name_number (named names (part s at (end - at))) ≡ none → true ≡ is_label names s at end
   unfolding is_label is_some
   no_name c n = sym (rw (is_label, c, n))
 
+  -- A word that is longer than any name.
+  pub long_word : names ≡ present → get_or s end 0 ≡ 58 → end ≤ length s → 4 < end - at → true ≡ is_label names s at end
+  long_word e c h l =
+      no_name c (rw e (long-none (part s at (end - at)) (omega (arith, length-take (end - at) (drop at s), length-drop at s))))
+
   pub a-name : (o : Option ℕ) → get_or s end 0 ≡ 58 → name_number (named names (part s at (end - at))) ≡ some o → false ≡ is_label names s at end
   unfolding is_label is_some
   a-name o c n = sym (rw (is_label, c, n))
+
+-- The name that the code finds in a word after which a colon stands.
+pub found_name : (s : List ℕ) (at end : ℕ) (r : RegisterName) → get_or s end 0 ≡ 58 → name_meant r ≡ name_number (named present (part s at (end - at)))
+    → (r ≡ Other → true ≡ is_label present s at end) × ((r ≡ Other → ⊥) → false ≡ is_label present s at end)
+found_name s at end Other c e = (λ h. no_name present s at end c (sym e), λ h. absurd (h refl))
+found_name s at end (Is r) c e = (λ h. let z : ◌≡◌ {A = ℕ} 0 1 = cc in absurd (omega arith), λ h. a-name present s at end _ c (sym e))
+found_name s at end NoSuch c e = (λ h. let z : ◌≡◌ {A = ℕ} 0 1 = cc in absurd (omega arith), λ h. a-name present s at end _ c (sym e))
 
 no_number : (o : Option (Option ℕ)) → not (is_some o) ≡ true → o ≡ none
 unfolding is_some
@@ -121,31 +145,38 @@ is-label-reads names ok s at end l start ends h =
     let inside_text : end < length s = split end (length s) (λ i. i) (λ i. no_both h (sym (no_byte names s at end i))) in
     (inside_text, label-reads s at end l start ends names ok inside_text (eqb-true (get_or s end 0) 58 c) (no_number _ n))
 
--- The first word of a line, its label aside, whose key is found in a row.
-pub word_row : {names : List Name} {s : List ℕ} {start key end : ℕ} {p : LabelPart} (w : WordAfter names s start p key end) → Naming names → NoMnemonics names → Below s → (r : Looked) (row : ℕ)
-    → IsRow r (find (λ q. eqb (key_of q.mnemonic) key) table) → r ≡ At row
-    → (row < 50) × ((row_named (map lower (part s w.at (end - w.at))) ≡ some (row_at row)) × Reads names s w.at (identifier (part s w.at (end - w.at))) end)
-word_row {names} {s} {key = key} {end = end} w ok free below r row is f = mnemonic-reads s w.at end w.in_text w.begins w.word.ends names ok free key row r below w.word.key_is is f
+-- A word and the colon after it stand within the text.
+pub word_bounds : (s : List ℕ) (at : ℕ) (w : Word) → WordIs s at w → at < length s → name_start (get_or s at 0) ≡ true → (at < w.end) × (w.end ≤ length s)
+word_bounds s at w h l b = (word_some s at w.end l b h.ends, word_in s at w.end l b h.ends)
 
-pub word-ends : {names : List Name} {s : List ℕ} {start key end : ℕ} {p : LabelPart} → WordAfter names s start p key end → end ≤ length s
+pub label_bound : (s : List ℕ) (at : ℕ) (w : Word) → WordIs s at w → at < length s → name_start (get_or s at 0) ≡ true → is_label present s at w.end ≡ true → w.end < length s
+label_bound s at w h l b i = (is-label-reads present present-naming s at w.end l b h.ends i).0
+
+-- The first word of a line, its label aside, whose key is a mnemonic's.
+pub word_row : {names : List Name} {s : List ℕ} {start key end : ℕ} {p : Maybe Span} (w : WordAfter names s start p key end) → Naming names → NoMnemonics names → Below s → (m : Mnemonic)
+    → some (row_of m) ≡ find (λ q. eqb (key_of q.mnemonic) key) table
+    → (row_named (map lower (part s w.at (end - w.at))) ≡ some (row_of m)) × Reads names s w.at (identifier (part s w.at (end - w.at))) end
+word_row {names} {s} {key = key} {end = end} w ok free below m found_it = mnemonic-reads s w.at end w.in_text w.begins w.word.ends names ok free key m below w.word.key_is found_it
+
+pub word-ends : {names : List Name} {s : List ℕ} {start key end : ℕ} {p : Maybe Span} → WordAfter names s start p key end → end ≤ length s
 word-ends {s = s} {end = end} w = word_in s w.at end w.in_text w.begins w.word.ends
 
 -- ---- the turns of the loop
 
-pub before-label : {names : List Name} {s : List ℕ} {start : ℕ} → OptionalLabel names s start (record { labelled = false; length = 0 }) start
-before-label = without refl refl refl
+-- Where nothing stands before the first word, a label there is the line's, and blanks after it are skipped.
+pub after-label : (names : List Name) (s : List ℕ) (start at end next : ℕ) → at ≡ start → at < end → Labels names s at end (end + 1)
+    → next ≡ end + 1 + run blank (drop (end + 1) s) → OptionalLabel names s start (Some (record { start = at; length = end - at })) next
+after-label names s start at end next a b is q =
+    let e : start + (end - at) ≡ end = omega arith in
+    (a, rw e (record { name = rw a at is.name; mark = blanks-after names s end (end + 1) next colon is.mark q }))
 
--- Nothing stands before the first word, so a label there is the line's, and blanks after it are skipped.
-pub after-label : (names : List Name) (s : List ℕ) (start at end next : ℕ) (p : LabelPart) → OptionalLabel names s start p at → p.labelled ≡ false → at < end → end < length s → Labels names s at end (end + 1)
-    → next ≡ end + 1 + run blank (drop (end + 1) s) → OptionalLabel names s start (record { labelled = true; length = end - at }) next
-after-label names s start at end next p (without f n a) b h l is q =
-    let e : at + (end - at) ≡ end = omega arith in
-    with_label refl (rw (← a, e) (record { name = is.name; mark = blanks-after names s end (end + 1) next colon is.mark q }))
-after-label names s start at end next p (with_label t is') b h l is q = absurd (true≢false (sym t ∙ b))
+pub unlabelled : (names : List Name) (s : List ℕ) (start at : ℕ) (p : Maybe Span) → is_there p ≡ false → OptionalLabel names s start p at → at ≡ start
+unlabelled names s start at None h a = a
+unlabelled names s start at (Some p) h a = absurd (true≢false h)
 
-pub label-in : {names : List Name} {s : List ℕ} {start at : ℕ} {p : LabelPart} → start ≤ length s → OptionalLabel names s start p at → at ≤ length s
-label-in l (without f n a) = omega arith
-label-in l (with_label t is) = is.mark.in_text
+pub label-in : (names : List Name) (s : List ℕ) (start at : ℕ) (p : Maybe Span) → start ≤ length s → OptionalLabel names s start p at → at ≤ length s
+label-in names s start at None l a = omega arith
+label-in names s start at (Some p) l (a, is) = is.mark.in_text
 
 -- ---- the line
 
@@ -180,11 +211,11 @@ is_plain Jump u (t ∷ ts) o l h = no_label u t ts (register-first _ t _ o h)
 is_plain System u (t ∷ ts) o l h = absurd (omega arith)
 
 -- The tokens of a mnemonic and operands, read as an instruction.
-row_read : (i : ℕ) (u : List ℕ) (ts : List Token) (o : Kept) → row_named (map lower u) ≡ some (row_at i) → length ts ≡ length (places (row_at i).form)
-    → read_operands (places (row_at i).form) ts ≡ value (operands_meant (places (row_at i).form) o)
-    → read_mnemonic (identifier u) (length ts) ts ≡ value (parts_meant (record { row = i; operands = o }))
+row_read : (m : Mnemonic) (u : List ℕ) (ts : List Token) (o : Kept) → row_named (map lower u) ≡ some (row_of m) → length ts ≡ length (places (row_of m).form)
+    → read_operands (places (row_of m).form) ts ≡ value (operands_meant (places (row_of m).form) o)
+    → read_mnemonic (identifier u) (length ts) ts ≡ value (parts_meant (record { mnemonic = m; operands = o }))
 unfolding read_mnemonic read_identifier read_row made
-row_read i u ts o n l h = rw (read_mnemonic, n, read_row, eq-eqb (length ts) (length (places (row_at i).form)) l, h)
+row_read m u ts o n l h = rw (read_mnemonic, n, read_row, eq-eqb (length ts) (length (places (row_of m).form)) l, h)
 
 kept-all : (ts : List Token) → length ts ≤ kept → line_of ts ≡ record { count = length ts; first = ts }
 unfolding line_of
@@ -218,86 +249,80 @@ unfolding read_instruction
 first-row u ts = let e : suc (length ts) - 1 ≡ length ts = omega arith in rw e
 
 -- The tokens of an instruction.
-record Written (row : ℕ) (o : Kept) (u : List ℕ) (ts : List Token) : Type 0 where
+record Written (m : Mnemonic) (o : Kept) (u : List ℕ) (ts : List Token) : Type 0 where
   few : length ts ≤ 6
   is_plain : kind_of (identifier u ∷ ts) ≡ plain
-  mnemonic-read : read_mnemonic (identifier u) (length ts) ts ≡ value (parts_meant (record { row = row; operands = o }))
-  settled : Settled (record { row = row; operands = o })
+  mnemonic-read : read_mnemonic (identifier u) (length ts) ts ≡ value (parts_meant (record { mnemonic = m; operands = o }))
+  settled : Settled (record { mnemonic = m; operands = o })
 
-module _ (c : Context) (row : ℕ) (o : Kept) (u : List ℕ) (ts : List Token) (w : Written row o u ts) where
-  read-instruction : read_on c (some (record { count = suc (length ts); first = identifier u ∷ ts })) ≡ record { label = none; effect = codes (parts_meant (record { row = row; operands = o })) }
+module _ (c : Context) (m : Mnemonic) (o : Kept) (u : List ℕ) (ts : List Token) (w : Written m o u ts) where
+  read-instruction : read_on c (some (record { count = suc (length ts); first = identifier u ∷ ts })) ≡ record { label = none; effect = codes (parts_meant (record { mnemonic = m; operands = o })) }
   unfolding read_on read_kind coding
   read-instruction = rw w.is_plain (ap (λ (x : Result Instruction). record { label = none; effect = coding x }) (first-row u ts ∙ w.mnemonic-read))
 
   read-labelled : (v : List ℕ) → read_on c (some (record { count = suc (suc (suc (length ts))); first = identifier v ∷ colon ∷ identifier u ∷ ts }))
-      ≡ record { label = some v; effect = codes (parts_meant (record { row = row; operands = o })) }
+      ≡ record { label = some v; effect = codes (parts_meant (record { mnemonic = m; operands = o })) }
   unfolding read_on read_kind kind_of identifier_kind mark_byte after_label behind coding
   read-labelled v =
       let e : suc (suc (suc (length ts))) - 2 ≡ suc (length ts) = omega arith in
       rw e (ap (λ (x : Result Instruction). record { label = some v; effect = coding x }) (first-row u ts ∙ w.mnemonic-read))
 
-written : (form row : ℕ) (u : List ℕ) (ts : List Token) (o : Kept) → row_named (map lower u) ≡ some (row_at row) → form_at form ≡ (row_at row).form
-    → length ts ≡ length (places (form_at form)) → read_operands (places (form_at form)) ts ≡ value (operands_meant (places (form_at form)) o)
-    → SettledFor (places (form_at form)) o → Written row o u ts
-written form row u ts o named-is g l h k =
-    let n : length ts ≡ length (places (row_at row).form) = rw (← g) l in
-    let r : read_operands (places (row_at row).form) ts ≡ value (operands_meant (places (row_at row).form) o) = rw (← g) h in
+written : (m : Mnemonic) (u : List ℕ) (ts : List Token) (o : Kept) → row_named (map lower u) ≡ some (row_of m)
+    → length ts ≡ length (places (row_of m).form) → read_operands (places (row_of m).form) ts ≡ value (operands_meant (places (row_of m).form) o)
+    → SettledFor (places (row_of m).form) o → Written m o u ts
+written m u ts o named-is n r k =
     record {
-      few = omega (arith, n, six-places (row_at row).form);
-      is_plain = is_plain (row_at row).form u ts _ n r;
-      mnemonic-read = row_read row u ts o named-is n r;
-      settled = rw g at k;
+      few = omega (arith, n, six-places (row_of m).form);
+      is_plain = is_plain (row_of m).form u ts _ n r;
+      mnemonic-read = row_read m u ts o named-is n r;
+      settled = k;
     }
 
 -- The line whose content starts at a place.
 module _ (names : List Name) (s : List ℕ) (start : ℕ) (q : StartsAt s start) where
-  line-some : (c : Context) (r : Read) (x : Line) → read_line names (rest_at s start) ≡ some x → read_meant s r ≡ read_on c (some x) → r.start ≡ start
-      → (r.labelled ≡ false → r.length ≡ 0) → r.end ≡ end_at s start → r.start + r.length ≤ length s → InTable r.effect → EffectSettled r.effect → LineIs names s start c r
+  line-some : (c : Context) (r : Read) (x : Line) → read_line names (rest_at s start) ≡ some x → read_meant s r ≡ read_on c (some x) → ((p : Span) → r.label ≡ Some p → p.start ≡ start)
+      → r.end ≡ end_at s start → ((p : Span) → r.label ≡ Some p → p.start + p.length ≤ length s) → EffectSettled r.effect → LineIs names s start c r
   unfolding end_of
-  line-some c r x e reads b u n t k v = answered names s start c r (rw e reads) (b ∙ starts-here q) u (rw (end_of, e) n) t k v
+  line-some c r x e reads b n t k = answered names s start c r (rw e reads) (λ p f. b p f ∙ starts-here q) (rw (end_of, e) n) t k
 
   -- A label alone, or nothing.
-  pub bare-line : (p : LabelPart) (at e : ℕ) → OptionalLabel names s start p at → tokens names (left_at s at) ≡ some [] → e ≡ end_at s at
-      → ReadsAs names s start (record { labelled = p.labelled; start = start; length = p.length; effect = Nothing; end = e })
-  bare-line p at e (without f n a) none_left ends c =
+  pub bare-line : (p : Maybe Span) (at e : ℕ) → OptionalLabel names s start p at → tokens names (left_at s at) ≡ some [] → e ≡ end_at s at
+      → ReadsAs names s start (record { label = p; effect = Ok Nothing; end = e })
+  bare-line None at e a none_left ends c =
       let t : tokens names (left_at s start) ≡ some [] = rw a at none_left in
-      rw (f, n)
-      (line-some c (record { labelled = false; start = start; length = 0; effect = Nothing; end = e }) _ (tokens-line names s start [] q t (omega arith)) (sym (read_none c)) refl
-      (λ _. refl) (ends ∙ ap (end_at s) a) (omega (arith, q.in_text)) tt tt)
-  bare-line p at e (with_label f is) none_left ends c =
+      line-some c (record { label = None; effect = Ok Nothing; end = e }) _ (tokens-line names s start [] q t (omega arith)) (sym (read_none c))
+      (λ p f. not-some f) (ends ∙ ap (end_at s) a) (λ p f. not-some f) tt
+  bare-line (Some p) at e (a, is) none_left ends c =
       let v = part s start p.length in
       let k : start + p.length - start ≡ p.length = omega arith in
       let t : tokens names (left_at s start) ≡ some (identifier v ∷ colon ∷ []) = label-tokens (rw k at is.name.means) is.mark.means none_left in
-      rw f
-      (line-some c (record { labelled = true; start = start; length = p.length; effect = Nothing; end = e }) _ (tokens-line names s start (identifier v ∷ colon ∷ []) q t (omega arith))
-      (sym (read-label c v)) refl (λ g. absurd (true≢false g)) (ends ∙ is.mark.ends ∙ is.name.ends) is.name.in_text tt tt)
+      line-some c (record { label = Some p; effect = Ok Nothing; end = e }) _ (tokens-line names s start (identifier v ∷ colon ∷ []) q t (omega arith))
+      (rw a (sym (read-label c v))) (λ x f. rw (← some-same f) a) (ends ∙ is.mark.ends ∙ is.name.ends) (λ x f. rw (← some-same f, a) is.name.in_text) tt
 
   -- An instruction, after a label or not.
-  instruction-line : (p : LabelPart) (at end form row : ℕ) (u : List ℕ) (o : Kept) (e : ℕ) → OptionalLabel names s start p at → row < 50 → row_named (map lower u) ≡ some (row_at row)
-      → Reads names s at (identifier u) end → form_at form ≡ (row_at row).form → TailIs names s end form o e
-      → ReadsAs names s start (record { labelled = p.labelled; start = start; length = p.length; effect = Codes row o; end = e })
-  instruction-line p at end form row u o e (without f n a) in_table named-is rd g tail c =
+  instruction-line : (p : Maybe Span) (at end : ℕ) (m : Mnemonic) (u : List ℕ) (o : Kept) (e : ℕ) → OptionalLabel names s start p at → row_named (map lower u) ≡ some (row_of m)
+      → Reads names s at (identifier u) end → TailIs names s end (row_of m).form o e
+      → ReadsAs names s start (record { label = p; effect = Ok (Codes m o); end = e })
+  instruction-line None at end m u o e a named-is rd tail c =
       let ts = tail.operands in
-      let w = written form row u ts o named-is g tail.count tail.read tail.settled in
+      let w = written m u ts o named-is tail.count tail.read tail.settled in
       let t : tokens names (left_at s start) ≡ some (identifier u ∷ ts) = rw a at (one_more_lem rd.means tail.means) in
-      rw (f, n)
-      (line-some c (record { labelled = false; start = start; length = 0; effect = Codes row o; end = e }) _ (tokens-line names s start (identifier u ∷ ts) q t (omega (arith, w.few)))
-      (sym (read-instruction c row o u ts w)) refl (λ _. refl) (tail.ends ∙ rd.ends ∙ ap (end_at s) a) (omega (arith, q.in_text)) in_table w.settled)
-  instruction-line p at end form row u o e (with_label f is) in_table named-is rd g tail c =
+      line-some c (record { label = None; effect = Ok (Codes m o); end = e }) _ (tokens-line names s start (identifier u ∷ ts) q t (omega (arith, w.few)))
+      (sym (read-instruction c m o u ts w)) (λ p f. not-some f) (tail.ends ∙ rd.ends ∙ ap (end_at s) a) (λ p f. not-some f) w.settled
+  instruction-line (Some p) at end m u o e (a, is) named-is rd tail c =
       let ts = tail.operands in
       let v = part s start p.length in
-      let w = written form row u ts o named-is g tail.count tail.read tail.settled in
+      let w = written m u ts o named-is tail.count tail.read tail.settled in
       let k : start + p.length - start ≡ p.length = omega arith in
       let t : tokens names (left_at s start) ≡ some (identifier v ∷ colon ∷ identifier u ∷ ts) = label-tokens (rw k at is.name.means) is.mark.means (one_more_lem rd.means tail.means) in
-      rw f
-      (line-some c (record { labelled = true; start = start; length = p.length; effect = Codes row o; end = e }) _
+      line-some c (record { label = Some p; effect = Ok (Codes m o); end = e }) _
       (tokens-line names s start (identifier v ∷ colon ∷ identifier u ∷ ts) q t (omega (arith, w.few)))
-      (sym (read-labelled c row o u ts w v)) refl (λ g. absurd (true≢false g)) (tail.ends ∙ rd.ends ∙ is.mark.ends ∙ is.name.ends) is.name.in_text in_table w.settled)
+      (rw a (sym (read-labelled c m o u ts w v))) (λ x f. rw (← some-same f) a) (tail.ends ∙ rd.ends ∙ is.mark.ends ∙ is.name.ends) (λ x f. rw (← some-same f, a) is.name.in_text) w.settled
 
-  -- The same by the line's first word and the row that its key is found in.
-  pub word_line : {p : LabelPart} {key end : ℕ} → WordAfter names s start p key end → Naming names → NoMnemonics names → Below s → (r : Looked) (row form : ℕ)
-      → IsRow r (find (λ q. eqb (key_of q.mnemonic) key) table) → r ≡ At row → form ≡ form_number (row_at row).form → (o : Kept) (e : ℕ) → TailIs names s end form o e
-      → ReadsAs names s start (record { labelled = p.labelled; start = start; length = p.length; effect = Codes row o; end = e })
-  word_line {p} {key} {end} w ok free below r row form is f g o e tail =
-      let (in_table, (named-is, rd)) = word_row w ok free below r row is f in
-      instruction-line p w.at end form row _ o e w.label in_table named-is rd (ap form_at g ∙ form-numbered (row_at row).form) tail
+  -- The same by the line's first word and the mnemonic that its key is found at.
+  pub word_line : {p : Maybe Span} {key end : ℕ} → WordAfter names s start p key end → Naming names → NoMnemonics names → Below s → (m : Mnemonic)
+      → some (row_of m) ≡ find (λ q. eqb (key_of q.mnemonic) key) table → (o : Kept) (e : ℕ) → TailIs names s end (row_of m).form o e
+      → ReadsAs names s start (record { label = p; effect = Ok (Codes m o); end = e })
+  word_line {p} {key} {end} w ok free below m found_it o e tail =
+      let (named-is, rd) = word_row w ok free below m found_it in
+      instruction-line p w.at end m _ o e w.label named-is rd tail

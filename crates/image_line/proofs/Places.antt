@@ -1,37 +1,50 @@
 -- A token at a place of a line, as the fast path finds it.
-use Prim.Native.Nat.{ℕ, zero, suc, ◌+◌, ◌-◌, ◌≤◌, ◌<◌}
+use Prim.Native.Nat.{ℕ, suc, ◌+◌, ◌-◌, ◌≤◌, ◌<◌}
 use mathlib.Core.Path.{◌≡◌, refl, sym, ap, ◌∙◌}
 use native.Mathlib.Omega.{arith}
 use native.Mathlib.Numerals.{add-one}
 use mathlib.Core.Bool.{true}
 use mathlib.Core.Option.{Option, none, some}
-use mathlib.Core.List.{List, [], ◌∷◌}
+use mathlib.Core.List.{List, ◌∷◌}
 use lib.ListN.{length, take, drop, get_or, length-drop}
+use Rattle.std.specs.Prelude.{Some, None, Ok}
+use Rattle.std.specs.Prelude.{Option as Maybe}
 use Rattle.text_lexical.specs.Bytes.{between, letter, digit, mark, name_start, name_part, blank, inside, every, before, run, is_some}
 use Rattle.text_lexical.specs.Names.{Name}
 use Rattle.text_lexical.specs.Promised.{name_number}
 use Rattle.text_lexical.specs.Words.{RegisterWordIs}
 use Rattle.text_lexical.specs.declared.name.RegisterName.TheVariants.{Is as Named}
 use Rattle.text_lexical.specs.declared.name.RegisterWord.{RegisterWord}
-use Rattle.text_lexical.specs.declared.name.RegisterWord.TheVariants.{Is as IsRegister, Other}
+use Rattle.text_lexical.specs.declared.number.Whole.{Whole}
 use Rattle.text_lexical.proofs.Tests.{both, or_left}
 use Rattle.text_lexical.proofs.Strings.{every-mono, every-run, take-run, run-yes, run-le}
 use Rattle.text.specs.Tokens.{Token, is_identifier, is_register, comma, colon, opening, closing, mark_token, infront, tokens}
 use Rattle.text.specs.NameSets.{Naming}
 use Rattle.text.specs.Places.{left_at, end_at}
-use Rattle.text.specs.Promised.{meant, scan_at, number_start, NoWord}
+use Rattle.text.specs.Promised.{meant, spelling, extracted, scan_at, token_at, number_start, NoWord}
 use Rattle.text.specs.declared.lexer.Token.{Token as KeptToken}
 use Rattle.text.specs.declared.lexer.Kind.TheVariants.{Register as RegisterKind, Comma, Colon, LParen, RParen}
 use Rattle.text.specs.declared.lexer.Scan.TheVariants.{Found}
 use Rattle.text.proofs.Scanning.{register-identifier}
 use Rattle.text.proofs.Left.{start-solid, blank-inside, blanks_at, end_on}
 use Rattle.text.proofs.Fronts.{part-cons, word_at}
-use Rattle.text.proofs.Stepping.{solid-step, mark-step, blank_step, stepped}
-use Rattle.instruction.specs.Table.{a-comma, an-opening, a-closing, Place}
-use Rattle.instruction.specs.Operands.{mark_byte}
-use Rattle.instruction.specs.Forms.{mark_of, MarkPlace, a_mark, MarkPlaces, no_mark, one_mark}
-use Rattle.instruction.specs.declared.form.Mark.TheVariants.{Is}
-use Rattle.image_line.specs.Promised.{Reads, RegisterIs, MarkRead}
+use Rattle.text.proofs.Meanings.{extracted-for}
+use Rattle.instruction.proofs.Results.{extracted-is}
+use Rattle.text.proofs.Stepping.{solid-step, mark-step, number_step, blank_step, stepped}
+use Rattle.instruction.specs.Table.{Separator, a-comma, an-opening, a-closing}
+use Rattle.instruction.specs.Operands.{mark_byte, separator_byte}
+use Rattle.instruction.specs.Forms.{mark_of}
+use Rattle.instruction.specs.declared.form.Mark.{Mark}
+use Rattle.instruction.specs.declared.form.Operand.{Operand}
+use Rattle.instruction.specs.declared.form.Operand.TheVariants.{RegisterComma, NumberOpening, RegisterClosing, Register, Number}
+use Rattle.image_line.specs.Promised.{Reads, RegisterIs, NumberRead, MarkRead}
+
+-- A value that is there is no other, and one that is missing is none.
+pub some-same : {A : Type 0} {a b : A} → Some a ≡ Some b → a ≡ b
+some-same e = cc
+
+pub not-some {ℓ} : {X : Type ℓ} {A : Type 0} {a : A} → ◌≡◌ {A = Maybe A} None (Some a) → X
+not-some e = let z : ◌≡◌ {A = ℕ} 0 1 = cc in absurd (omega arith)
 
 -- ---- what a scan finds
 
@@ -72,24 +85,39 @@ unfolding name_part
 word-goes s at l h = rw (add-one at) (run-yes name_part s at l (or_left (name_start (get_or s at 0)) (digit (get_or s at 0)) h))
 
 -- A word past blanks that names a register.
-pub register-reads : (names : List Name) (ok : Naming names) (s : List ℕ) (from at : ℕ) (r : RegisterWord) → from ≤ length s → at ≡ from + run blank (drop from s) → RegisterWordIs names s at r
+pub register-reads : (names : List Name) (ok : Naming names) (s : List ℕ) (from at : ℕ) (r : Maybe RegisterWord) → from ≤ length s → at ≡ from + run blank (drop from s) → RegisterWordIs names s at r
     → RegisterIs names s from r
 unfolding is_register
-register-reads names ok s from at Other fl q h = tt
-register-reads names ok s from at (IsRegister r e) fl q (room, g, m, n) =
+register-reads names ok s from at None fl q h = tt
+register-reads names ok s from at (Some r) fl q (room, g, m, n) =
+    let e = r.end in
     let l : at < length s = omega (arith, run-le name_part (drop at s), length-drop at s) in
     let i = register-identifier names ok.identifiers (take (e - at) (drop at s)) (some-named _ _ n) in
     let b = identifier-start (get_or s at 0) _ (rw (part-cons s at e g l) at i) in
-    let w = word_at names ok s at e (Named r) l b (omega (arith, word-goes s at l b)) (sym n) in
-    stepped-reads names ok s from (record { kind = RegisterKind r; start = at; length = e - at }) e (blank_step names s from at _ fl q l (solid-step names s at _ l (start-solid _ b) w))
+    let w = word_at names ok s at e (Named r.register) l b (omega (arith, word-goes s at l b)) (sym n) in
+    stepped-reads names ok s from (record { kind = RegisterKind r.register; start = at; length = e - at }) e (blank_step names s from at _ fl q l (solid-step names s at _ l (start-solid _ b) w))
+
+-- ---- numbers
+
+pub number-reads : (names : List Name) (ok : Naming names) (s : List ℕ) (from at : ℕ) → from ≤ length s → at ≡ from + run blank (drop from s) → at < length s
+    → number_start (get_or s at 0) ≡ true → (t : KeptToken) (next : ℕ) → Found t next ≡ token_at names s at → (w : Whole) → Ok w ≡ extracted t.kind → NumberRead names s from w next
+number-reads names ok s from at fl q l b t next f w e =
+    let (z, (v, k)) = extracted-is _ (e ∙ extracted-for t.kind (spelling s t)) in
+    record {
+      token = _;
+      number = z;
+      number_is = v;
+      settled = k;
+      reads = stepped-reads names ok s from t next (blank_step names s from at _ fl q l (number_step names s at _ l b f));
+    }
 
 -- ---- marks
 
-mark-plain : {p : Place} {byte n : ℕ} → MarkPlace p byte n → NoWord byte
+mark-plain : (m : Separator) → NoWord (separator_byte m)
 unfolding blank name_start letter digit between number_start
-mark-plain (a_mark a-comma) = record { no_blank = refl; no_start = refl; no_number = refl; no_dot = λ h. absurd (omega arith) }
-mark-plain (a_mark an-opening) = record { no_blank = refl; no_start = refl; no_number = refl; no_dot = λ h. absurd (omega arith) }
-mark-plain (a_mark a-closing) = record { no_blank = refl; no_start = refl; no_number = refl; no_dot = λ h. absurd (omega arith) }
+mark-plain a-comma = record { no_blank = refl; no_start = refl; no_number = refl; no_dot = λ h. absurd (omega arith) }
+mark-plain an-opening = record { no_blank = refl; no_start = refl; no_number = refl; no_dot = λ h. absurd (omega arith) }
+mark-plain a-closing = record { no_blank = refl; no_start = refl; no_number = refl; no_dot = λ h. absurd (omega arith) }
 
 -- A colon.
 colon-plain : NoWord 58
@@ -101,26 +129,19 @@ unfolding mark mark_token
 colon-reads names ok s at l b = stepped-reads names ok s at _ (at + 1) (mark-step names ok s at Colon colon l (rw b colon-plain) (rw b) (rw b) (λ u. refl) (λ u. refl))
 
 -- The mark that follows an operand is one of three.
-marked : (d : ℕ) → (ms : List Place) × MarkPlaces (mark_of d) ms
-unfolding mark_of
-marked zero = ([], no_mark)
-marked (suc zero) = (_, one_mark (a_mark a-comma))
-marked (suc (suc zero)) = (_, one_mark (a_mark an-opening))
-marked (suc (suc (suc zero))) = (_, one_mark (a_mark a-closing))
-marked (suc (suc (suc (suc d)))) = ([], no_mark)
-
-one-marked : {byte n : ℕ} {ms : List Place} → MarkPlaces (Is byte n) ms → (p : Place) × MarkPlace p byte n
-one-marked (one_mark {p = p} m) = (p, m)
-
 module _ (names : List Name) (ok : Naming names) (s : List ℕ) (from at : ℕ) (fl : from ≤ length s) (q : at ≡ from + run blank (drop from s)) (l : at < length s) where
-  place-reads : {p : Place} {byte n : ℕ} → MarkPlace p byte n → get_or s at 0 ≡ byte → MarkRead names s from byte (at + 1)
+  place-reads : (m : Separator) → get_or s at 0 ≡ separator_byte m → MarkRead names s from (separator_byte m) (at + 1)
   unfolding mark mark_token mark_byte
-  place-reads (a_mark a-comma) b =
-      record { token = comma; mark_is = refl; reads = stepped-reads names ok s from _ (at + 1) (blank_step names s from at _ fl q l (mark-step names ok s at Comma comma l (rw b (mark-plain (a_mark a-comma))) (rw b) (rw b) (λ u. refl) (λ u. refl))) }
-  place-reads (a_mark an-opening) b =
-      record { token = opening; mark_is = refl; reads = stepped-reads names ok s from _ (at + 1) (blank_step names s from at _ fl q l (mark-step names ok s at LParen opening l (rw b (mark-plain (a_mark an-opening))) (rw b) (rw b) (λ u. refl) (λ u. refl))) }
-  place-reads (a_mark a-closing) b =
-      record { token = closing; mark_is = refl; reads = stepped-reads names ok s from _ (at + 1) (blank_step names s from at _ fl q l (mark-step names ok s at RParen closing l (rw b (mark-plain (a_mark a-closing))) (rw b) (rw b) (λ u. refl) (λ u. refl))) }
+  place-reads a-comma b =
+      record { token = comma; mark_is = refl; reads = stepped-reads names ok s from _ (at + 1) (blank_step names s from at _ fl q l (mark-step names ok s at Comma comma l (rw b (mark-plain a-comma)) (rw b) (rw b) (λ u. refl) (λ u. refl))) }
+  place-reads an-opening b =
+      record { token = opening; mark_is = refl; reads = stepped-reads names ok s from _ (at + 1) (blank_step names s from at _ fl q l (mark-step names ok s at LParen opening l (rw b (mark-plain an-opening)) (rw b) (rw b) (λ u. refl) (λ u. refl))) }
+  place-reads a-closing b =
+      record { token = closing; mark_is = refl; reads = stepped-reads names ok s from _ (at + 1) (blank_step names s from at _ fl q l (mark-step names ok s at RParen closing l (rw b (mark-plain a-closing)) (rw b) (rw b) (λ u. refl) (λ u. refl))) }
 
-  pub mark-reads : (d byte n : ℕ) → mark_of d ≡ Is byte n → get_or s at 0 ≡ byte → MarkRead names s from byte (at + 1)
-  mark-reads d byte n e b = let (ms, h) = marked d in let (p, m) = one-marked (rw e at h) in place-reads m b
+  pub mark-reads : (o : Operand) (m : Mark) → mark_of o ≡ Some m → get_or s at 0 ≡ m.byte → MarkRead names s from m.byte (at + 1)
+  mark-reads RegisterComma m e b = rw (← some-same e) (place-reads a-comma (rw (← some-same e) at b))
+  mark-reads NumberOpening m e b = rw (← some-same e) (place-reads an-opening (rw (← some-same e) at b))
+  mark-reads RegisterClosing m e b = rw (← some-same e) (place-reads a-closing (rw (← some-same e) at b))
+  mark-reads Register m e b = not-some e
+  mark-reads Number m e b = not-some e

@@ -2,12 +2,15 @@
 use Prim.Native.Nat.{ℕ, suc, ◌+◌, ◌-◌, ◌≤◌, ◌<◌}
 use mathlib.Core.Path.{◌≡◌, refl, sym, ap, ◌∙◌}
 use native.Mathlib.Omega.{arith}
-use mathlib.Core.Bool.{Bool, true, false, true≢false}
+use mathlib.Core.Bool.{Bool, true, false}
 use mathlib.Core.Option.{none, some}
 use mathlib.Core.List.{List, [], ◌∷◌}
 use lib.ListN.{length, take, drop, get_or, length-take, length-map, drop_of_length-le, get_or-map}
 use lib.Seq.{drop-cons, get_or-take}
 use lib.Dec.{eqb}
+use Rattle.std.specs.Prelude.{Some, None, Ok, Err}
+use Rattle.std.specs.Prelude.{Result as Answer}
+use Rattle.refusal.specs.declared.refusal.Refusal.{Refusal}
 use Rattle.text_lexical.specs.Bytes.{bytes, same}
 use Rattle.text_lexical.specs.Names.{Name}
 use Rattle.text_lexical.proofs.Tests.{split}
@@ -19,31 +22,39 @@ use Rattle.text.specs.NameSets.{Naming}
 use Rattle.text.specs.Places.{rest_at, StartsAt}
 use Rattle.text.specs.Promised.{kind_meant, filler, firsts, meant, spelling, record_at}
 use Rattle.text.specs.declared.lexer.Kind.{Kind as TokenKind}
-use Rattle.text.specs.declared.lexer.Kind.TheVariants.{Directive}
+use Rattle.text.specs.declared.lexer.Kind.TheVariants.{Identifier, Directive}
 use Rattle.text.specs.declared.lexer.Token.{Token}
 use Rattle.text.specs.declared.parser.Line.{Line}
 use Rattle.text.proofs.Fronts.{part-cons}
 use Rattle.text.proofs.Recording.{LineRead, line_read_lem}
 use Rattle.instruction.specs.Operands.{mark_byte, read_instruction, behind}
-use Rattle.instruction_operands.proofs.Line.{behind-none}
+use Rattle.instruction_operands.proofs.Line.{get_d_any, behind-none}
 use Rattle.image.specs.Settings.{configured}
 use Rattle.instruction.specs.Kinds.{Kind, empty, labelled, config, ignored, plain, identifier_kind, kind_of}
 use Rattle.image.specs.Assembling.{Context, nothing, setting, coding, after_label, read_kind, read_on}
 use Rattle.image.specs.Assembling.{Effect as MeantEffect}
 use Rattle.image.specs.Promised.{record_meant}
-use Rattle.image_line.specs.Promised.{effect_meant, InTable, EffectSettled, EffectIs, end_of, LineIs, Recorded, RecordIs}
+use Rattle.image_line.specs.Promised.{effect_meant, EffectSettled, EffectIs, end_of, LineIs, Recorded, RecordIs}
 use Rattle.image_line.specs.declared.line.Effect.{Effect}
-use Rattle.image_line.specs.declared.line.Effect.TheVariants.{Nothing, Faulty}
+use Rattle.image_line.specs.declared.line.Effect.TheVariants.{Nothing}
 use Rattle.image_line.specs.declared.line.Read.{Read}
 use Rattle.image_line.proofs.Answers.{answered}
 use Rattle.image_line.proofs.Starts.{starts-here}
+use Rattle.image_line.proofs.Places.{some-same, not-some}
 
 -- ---- the tokens of a record
 
-pub recorded : (names : List Name) → Naming names → (s : List ℕ) (from : ℕ) (l : Line) → l ≡ record_at names s from → Recorded s l
+pub recorded : (names : List Name) → Naming names → (s : List ℕ) (from : ℕ) (l : Line) → Ok l ≡ record_at names s from → Recorded s l
 recorded names ok s from l e =
-    let r = line_read_lem names ok s from l e in
+    let r = (line_read_lem names ok s from (Ok l) e).places in
     record { kept = record { places = r.places; inside_text = r.inside_text }; solid = r.solid }
+
+-- What an array of tokens is read as past its end; the token that the code reads at one of the first two places.
+abbrev pub past : Token
+past = record { kind = Identifier; start = 0; length = 0 }
+
+pub first-token : (ts : List Token) (i : ℕ) → length ts ≡ kept → i < 2 → get_or ts i past ≡ get_or ts i filler
+first-token ts i n h = get_d_any ts i past filler (omega arith)
 
 module _ (s : List ℕ) (ts : List Token) (count : ℕ) where
   firsts-length : length (firsts s ts count) ≤ count
@@ -124,60 +135,56 @@ module _ (s : List ℕ) (l : Line) where
 
 module _ (s : List ℕ) (l : Line) (c : Context) where
   -- A line with the label that it begins with.
-  pub record-labelled : Recorded s l → 2 ≤ l.count → labelled (spelling s (get_or l.tokens 0 filler)) ≡ kind_of (firsts s l.tokens l.count)
-      → (e : Effect) → EffectIs e (after_label (behind 2 (record_meant s l)))
+  pub record-labelled : Recorded s l → labelled (spelling s (get_or l.tokens 0 filler)) ≡ kind_of (firsts s l.tokens l.count)
+      → (e : Answer Effect Refusal) → EffectIs e (after_label (behind 2 (record_meant s l)))
       → RecordIs s l (get_or l.tokens 0 filler).start c
       (record {
-        labelled = true;
-        start = (get_or l.tokens 0 filler).start;
-        length = (get_or l.tokens 0 filler).length;
+        label = Some (record { start = (get_or l.tokens 0 filler).start; length = (get_or l.tokens 0 filler).length });
         effect = e;
         end = l.end;
       })
   unfolding read_on read_kind
-  record-labelled t some-tokens reads_label e q =
+  record-labelled t reads_label e q =
       record {
         reads = ap (λ (x : MeantEffect). record { label = some (spelling s (get_or l.tokens 0 filler)); effect = x }) q.means ∙ ap (read_kind c (record_meant s l)) reads_label;
-        starts = refl;
-        unlabelled = λ f. absurd (true≢false f);
+        starts = λ p f. rw (← some-same f);
         ends = refl;
-        in_text = t.kept.inside_text 0;
-        in_table = q.in_table;
+        in_text = λ p f. rw (← some-same f) (t.kept.inside_text 0);
         settled = q.settled;
       }
 
   -- A line without a label, whose content starts at a place.
-  module _ (start : ℕ) (inside : start ≤ length s) where
-    abbrev pub bare : Effect → Read
-    bare e = record { labelled = false; start = start; length = 0; effect = e; end = l.end }
+  module _ (start : ℕ) where
+    abbrev pub bare : Answer Effect Refusal → Read
+    bare e = record { label = None; effect = e; end = l.end }
 
-    record-bare : (e : Effect) (k : Kind) → k ≡ kind_of (firsts s l.tokens l.count) → record { label = none; effect = effect_meant e } ≡ read_kind c (record_meant s l) k → InTable e → EffectSettled e
+    record-bare : (e : Answer Effect Refusal) (k : Kind) → k ≡ kind_of (firsts s l.tokens l.count) → record { label = none; effect = effect_meant e } ≡ read_kind c (record_meant s l) k → EffectSettled e
         → RecordIs s l start c (bare e)
     unfolding read_on
-    record-bare e k h q t v =
-        record { reads = q ∙ ap (read_kind c (record_meant s l)) h; starts = refl; unlabelled = λ _. refl; ends = refl; in_text = omega arith; in_table = t; settled = v }
+    record-bare e k h q v =
+        record { reads = q ∙ ap (read_kind c (record_meant s l)) h; starts = λ p f. not-some f; ends = refl; in_text = λ p f. not-some f; settled = v }
 
     -- An empty line, and a directive that does nothing.
-    pub record-empty : empty ≡ kind_of (firsts s l.tokens l.count) → RecordIs s l start c (bare Nothing)
+    pub record-empty : empty ≡ kind_of (firsts s l.tokens l.count) → RecordIs s l start c (bare (Ok Nothing))
     unfolding read_kind
-    record-empty e = record-bare Nothing empty e refl tt tt
+    record-empty e = record-bare (Ok Nothing) empty e refl tt
 
-    pub record-ignored : ignored ≡ kind_of (firsts s l.tokens l.count) → RecordIs s l start c (bare Nothing)
+    pub record-ignored : ignored ≡ kind_of (firsts s l.tokens l.count) → RecordIs s l start c (bare (Ok Nothing))
     unfolding read_kind
-    record-ignored e = record-bare Nothing ignored e refl tt tt
+    record-ignored e = record-bare (Ok Nothing) ignored e refl tt
 
     -- A `.config` line.
-    pub record-config : (e : Effect) → config ≡ kind_of (firsts s l.tokens l.count) → EffectIs e (setting (configured c.setup (record_meant s l)))
+    pub record-config : (e : Answer Effect Refusal) → config ≡ kind_of (firsts s l.tokens l.count) → EffectIs e (setting (configured c.setup (record_meant s l)))
         → RecordIs s l start c (bare e)
     unfolding read_kind
-    record-config e h q = record-bare e config h (ap (λ (x : MeantEffect). record { label = none; effect = x }) q.means) q.in_table q.settled
+    record-config e h q = record-bare e config h (ap (λ (x : MeantEffect). record { label = none; effect = x }) q.means) q.settled
 
     -- An instruction.
-    pub record-plain : (e : Effect) → plain ≡ kind_of (firsts s l.tokens l.count) → EffectIs e (coding (read_instruction (behind 0 (record_meant s l))))
+    pub record-plain : (e : Answer Effect Refusal) → plain ≡ kind_of (firsts s l.tokens l.count) → EffectIs e (coding (read_instruction (behind 0 (record_meant s l))))
         → RecordIs s l start c (bare e)
     unfolding read_kind
     record-plain e h q =
-        record-bare e plain h (ap (λ (x : MeantEffect). record { label = none; effect = x }) (q.means ∙ ap coding (behind-none (record_meant s l)))) q.in_table q.settled
+        record-bare e plain h (ap (λ (x : MeantEffect). record { label = none; effect = x }) (q.means ∙ ap coding (behind-none (record_meant s l)))) q.settled
 
 -- 1 for a label, 0 for other kinds.
 abbrev labels : Kind → ℕ
@@ -216,24 +223,26 @@ two-tokens s ts count u e =
 
 -- ---- the line at a place
 
-module _ (names : List Name) (ok : Naming names) (s : List ℕ) (start : ℕ) (starts : StartsAt s start) (l : Line) (is : l ≡ record_at names s start) (c : Context) where
-  h : LineRead names s start l
-  h = line_read_lem names ok s start l is
+module _ (names : List Name) (ok : Naming names) (s : List ℕ) (start : ℕ) (starts : StartsAt s start) (c : Context) where
+  module _ (l : Line) (is : Ok l ≡ record_at names s start) where
+    h : LineRead names s start (Ok l)
+    h = line_read_lem names ok s start (Ok l) is
 
-  pub line-record : (r : Read) → l.bad ≡ false → RecordIs s l start c r → LineIs names s start c r
-  unfolding end_of
-  line-record r b q =
-      let e : read_line names (rest_at s start) ≡ some (record_meant s l) = h.means ∙ rw b in
-      answered names s start c r (rw e q.reads) (q.starts ∙ starts-here starts) q.unlabelled (rw (end_of, e) (q.ends ∙ h.ends b)) q.in_text q.in_table q.settled
+    pub line-record : (r : Read) → RecordIs s l start c r → LineIs names s start c r
+    unfolding end_of
+    line-record r q =
+        let e : read_line names (rest_at s start) ≡ some (record_meant s l) = h.means in
+        answered names s start c r (rw e q.reads) (λ p f. q.starts p f ∙ starts-here starts) (rw (end_of, e) (q.ends ∙ h.places.ends)) q.in_text q.settled
 
-  -- Its first token stands where its content starts.
-  pub first-starts : 0 < l.count → (get_or l.tokens 0 filler).start ≡ start
-  first-starts n = h.begins n ∙ sym (starts-here starts)
+    -- Its first token stands where its content starts.
+    pub first-starts : 0 < l.count → (get_or l.tokens 0 filler).start ≡ start
+    first-starts n = h.places.begins n ∙ sym (starts-here starts)
 
   -- A line with a bad token.
-  pub line-bad : l.bad ≡ true → LineIs names s start c (record { labelled = false; start = start; length = 0; effect = Faulty 3; end = l.end })
+  pub line-bad : (r : Refusal) → Err r ≡ record_at names s start → LineIs names s start c (record { label = None; effect = Err r; end = start })
   unfolding read_on end_of
-  line-bad b =
-      let e : read_line names (rest_at s start) ≡ none = h.means ∙ rw b in
-      answered names s start c (record { labelled = false; start = start; length = 0; effect = Faulty 3; end = l.end }) (rw e) (starts-here starts) (λ _. refl)
-      (rw (end_of, e) (h.bad-ends b ∙ starts-here starts)) (omega (arith, starts.in_text)) tt tt
+  line-bad r e =
+      let h : LineRead names s start (Err r) = line_read_lem names ok s start (Err r) e in
+      let q : read_line names (rest_at s start) ≡ none = h.means in
+      answered names s start c (record { label = None; effect = Err r; end = start }) (rw q (rw h.places)) (λ p f. not-some f)
+      (rw (end_of, q) (starts-here starts)) (λ p f. not-some f) tt

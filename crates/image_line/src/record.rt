@@ -1,5 +1,5 @@
 // A line by the record of its tokens: what it is, and what it reads as.
-ghost use Rattle.std.specs.Prelude.{◌≡◌, false, ◌≤◌, length, get_or};
+ghost use Rattle.std.specs.Prelude.{◌≡◌, ◌≤◌, length, get_or};
 ghost use Rattle.text_lexical.specs.Names.{present};
 ghost use Rattle.text.specs.Promised.{firsts, filler};
 ghost use Rattle.instruction.specs.Operands.{read_instruction, behind};
@@ -8,11 +8,11 @@ ghost use Rattle.instruction.specs.Kinds.{kind_of};
 ghost use Rattle.image.specs.Assembling.{Context, setting, coding, after_label};
 ghost use Rattle.image.specs.Promised.{record_meant, settings_meant};
 ghost use Rattle.text.specs.Places.{StartsAt};
-ghost use Rattle.image_line.specs.Promised.{Tables, Recorded, Labelled, kind_meant, context_for, EffectIs, RecordIs, LineIs};
+ghost use Rattle.image_line.specs.Promised.{Recorded, Labelled, kind_meant, context_for, EffectIs, RecordIs, LineIs};
 
-use crate::line::{Effect, Read};
-use image::config::{Config, Configured};
-use instruction_operands::assembler::Parsed;
+use crate::line::{Effect, Read, Span};
+use image::config::Config;
+use refusal::refusal::Refusal;
 use text::lexer::Kind;
 use text::parser::Line;
 
@@ -25,25 +25,20 @@ enum LineKind {
     Plain,
 }
 
-fn line_kind(source: &[u8], line: Line) -> LineKind
-    requires { Recorded source.now line }
-    ensures { kind_meant source.now line result ≡ kind_of (firsts source.now line.tokens line.count) }
+fn line_kind(source: &[u8], line: &Line) -> LineKind
+    requires { Recorded source.now line.now }
+    ensures { kind_meant source.now line.now result ≡ kind_of (firsts source.now line.now.tokens line.now.count) }
 {
-    let tokens = line.tokens;
-    let count = line.count;
-    if count == 0 {
+    if line.count == 0 {
         return LineKind::Empty;
     }
-    let first = tokens[0];
-    let kind = first.kind;
-    match kind {
+    let first = line.tokens[0];
+    match first.kind {
         Kind::Identifier => {
-            if count < 2 {
+            if line.count < 2 {
                 return LineKind::Plain;
             }
-            let second = tokens[1];
-            let mark = second.kind;
-            match mark {
+            match line.tokens[1].kind {
                 Kind::Colon => LineKind::Label,
                 _ => LineKind::Plain,
             }
@@ -61,120 +56,79 @@ fn line_kind(source: &[u8], line: Line) -> LineKind
     }
 }
 
-// A line without a label.
-fn unlabelled(start: usize, effect: Effect, end: usize) -> Read
-    ensures { result ≡ record { labelled = false; start = start; length = 0; effect = effect; end = end } }
-{
-    Read {
-        labelled: false,
-        start,
-        length: 0,
-        effect,
-        end,
-    }
-}
-
 // The instruction that begins at a token of a line's record, or why there is none.
-fn read_instruction(
-    source: &[u8],
-    line: Line,
-    at: usize,
-    mnemonics: &[u64; 50],
-    forms: &[u8; 50],
-    slots: &[u8; 293],
-) -> Effect
-    requires recorded { Recorded source.now line }
+fn read_instruction(source: &[u8], line: &Line, at: usize) -> Result<Effect, Refusal>
+    requires recorded { Recorded source.now line.now }
     requires place_in_range { at ≤ 2 }
-    requires tables { Tables mnemonics.now forms.now slots.now }
-    ensures { EffectIs result (coding (read_instruction (behind at (record_meant source.now line)))) }
+    ensures { EffectIs result (coding (read_instruction (behind at (record_meant source.now line.now)))) }
 {
-    match instruction_operands::assembler::parse_instruction(
-        source, line, at, mnemonics, forms, slots,
-    ) {
-        Parsed::Refused(n) => Effect::Faulty(n),
-        Parsed::Is { row, operands } => Effect::Codes { row, operands },
-    }
+    let parsed = instruction_operands::assembler::parse_instruction(source, *line, at)?;
+    Ok(Effect::Codes {
+        mnemonic: parsed.mnemonic,
+        operands: parsed.operands,
+    })
 }
 
 // A `.config` line.
-fn read_config(source: &[u8], line: Line, config: Config) -> Effect
-    requires { Recorded source.now line }
-    ensures { EffectIs result (setting (configured (settings_meant config) (record_meant source.now line))) }
+fn read_config(source: &[u8], line: &Line, config: Config) -> Result<Effect, Refusal>
+    requires { Recorded source.now line.now }
+    ensures { EffectIs result (setting (configured (settings_meant config) (record_meant source.now line.now))) }
 {
-    match image::config::parse_config(source, line, config) {
-        Configured::Refused(n) => Effect::Faulty(n),
-        Configured::Is(changed) => Effect::Sets(changed),
-    }
+    let changed = image::config::parse_config(source, *line, config)?;
+    Ok(Effect::Sets(changed))
 }
 
 // What follows a label: nothing, or an instruction.
-fn after_label(
-    source: &[u8],
-    line: Line,
-    mnemonics: &[u64; 50],
-    forms: &[u8; 50],
-    slots: &[u8; 293],
-) -> Effect
-    requires recorded { Recorded source.now line }
-    requires two_tokens { 2 ≤ line.count }
-    requires tables { Tables mnemonics.now forms.now slots.now }
-    ensures { EffectIs result (after_label (behind 2 (record_meant source.now line))) }
+fn after_label(source: &[u8], line: &Line) -> Result<Effect, Refusal>
+    requires recorded { Recorded source.now line.now }
+    requires two_tokens { 2 ≤ line.now.count }
+    ensures { EffectIs result (after_label (behind 2 (record_meant source.now line.now))) }
 {
     if line.count == 2 {
-        return Effect::Nothing;
+        return Ok(Effect::Nothing);
     }
-    read_instruction(source, line, 2, mnemonics, forms, slots)
+    read_instruction(source, line, 2)
 }
 
 // A line that begins with a label; an instruction may follow it.
-fn read_label(
-    source: &[u8],
-    line: Line,
-    mnemonics: &[u64; 50],
-    forms: &[u8; 50],
-    slots: &[u8; 293],
-) -> Read
-    requires labelled { Labelled source.now line }
-    requires tables { Tables mnemonics.now forms.now slots.now }
-    ensures { (c : Context) → RecordIs source.now line (get_or line.tokens 0 filler).start c result }
+fn read_label(source: &[u8], line: &Line) -> Read
+    requires { Labelled source.now line.now }
+    ensures { (c : Context) → RecordIs source.now line.now (get_or line.now.tokens 0 filler).start c result }
 {
-    let tokens = line.tokens;
-    let label = tokens[0];
+    let label = line.tokens[0];
     Read {
-        labelled: true,
-        start: label.start,
-        length: label.length,
-        effect: after_label(source, line, mnemonics, forms, slots),
+        label: Some(Span {
+            start: label.start,
+            length: label.length,
+        }),
+        effect: after_label(source, line),
         end: line.end,
     }
 }
 
 // The line whose content starts at `start`, by the record of its tokens.
-pub(crate) fn read_record(
-    source: &[u8],
-    start: usize,
-    config: Config,
-    mnemonics: &[u64; 50],
-    forms: &[u8; 50],
-    slots: &[u8; 293],
-) -> Read
-    requires starts { StartsAt source.now start }
-    requires tables { Tables mnemonics.now forms.now slots.now }
+pub(crate) fn read_record(source: &[u8], start: usize, config: Config) -> Read
+    requires { StartsAt source.now start }
     ensures { LineIs present source.now start (context_for config) result }
 {
-    let line = text::parser::tokenize(source, start);
-    let end = line.end;
-    if line.bad {
-        return unlabelled(start, Effect::Faulty(3), end);
-    }
-    match line_kind(source, line) {
-        LineKind::Empty | LineKind::Ignored => unlabelled(start, Effect::Nothing, end),
-        LineKind::Config => unlabelled(start, read_config(source, line, config), end),
-        LineKind::Label => read_label(source, line, mnemonics, forms, slots),
-        LineKind::Plain => unlabelled(
-            start,
-            read_instruction(source, line, 0, mnemonics, forms, slots),
-            end,
-        ),
+    match text::parser::tokenize(source, start) {
+        Err(refusal) => Read {
+            label: None,
+            effect: Err(refusal),
+            end: start,
+        },
+        Ok(line) => {
+            let effect = match line_kind(source, &line) {
+                LineKind::Empty | LineKind::Ignored => Ok(Effect::Nothing),
+                LineKind::Config => read_config(source, &line, config),
+                LineKind::Label => return read_label(source, &line),
+                LineKind::Plain => read_instruction(source, &line, 0),
+            };
+            Read {
+                label: None,
+                effect,
+                end: line.end,
+            }
+        }
     }
 }

@@ -9,6 +9,8 @@ use lib.ListN.{length, take, length-map}
 use lib.Seq.{take_all}
 use lib.Dec.{leb}
 use borrow.Author.Tests.{le-leb, lt-leb}
+use Rattle.std.specs.Prelude.{Ok, Err}
+use Rattle.refusal.specs.declared.refusal.Refusal.TheVariants.{NotAscii}
 use Rattle.text_lexical.specs.Bytes.{ascii, every, run, before}
 use Rattle.text_lexical.specs.Numbers.{little}
 use Rattle.text_lexical.specs.Names.{Name}
@@ -27,7 +29,6 @@ use Rattle.image_passes.specs.Promised.{all_read, code_bytes, refused_at, first_
 use Rattle.image.specs.declared.config.Config.{Config}
 use Rattle.image_passes.specs.declared.first_pass.Next.{Next}
 use Rattle.image_passes.specs.declared.first_pass.Next.TheVariants.{From, Ended as NextEnded}
-use Rattle.image_passes.specs.declared.second_pass.Fill.TheVariants.{Filled, TooShort}
 use Rattle.image.proofs.Images.{code-length, header-length}
 use Rattle.image.proofs.Walking.{MeansIf, reading-means}
 use Rattle.image.proofs.Over.{written_over}
@@ -69,7 +70,7 @@ module _ {names : List Name} {s : List ℕ} {words : ℕ} {setup : Settings} (r 
 
   -- The header, and the words behind it, are the image.
   pub fills_image : {old m new : List ℕ} {p q : ℕ} → 32 + 4 * words ≤ length old → Written old 0 (header_bytes (header_for setup (4 * words) 0)) p m → Written m 32 (code_bytes names s) q new
-      → Fills names s words old new Filled
+      → Fills names s words old new (Ok tt)
   unfolding image_length header_size
   fills_image {old} {m} {new} {p} {q} h a b =
       let l : leb (32 + 4 * words) (length old) ≡ true = le-leb (32 + 4 * words) (length old) h in
@@ -80,7 +81,7 @@ module _ {names : List Name} {s : List ℕ} {words : ℕ} {setup : Settings} (r 
       }
 
   -- The buffer is too short.
-  pub fills-not : (old : List ℕ) → length old < 32 + 4 * words → Fills names s words old old (TooShort (32 + 4 * words))
+  pub fills-not : (old : List ℕ) → length old < 32 + 4 * words → Fills names s words old old (Err (record { needed = 32 + 4 * words }))
   unfolding image_length header_size
   fills-not old h =
       let l : leb (32 + 4 * words) (length old) ≡ false = lt-leb (32 + 4 * words) (length old) h in
@@ -97,7 +98,7 @@ module _ (s : List ℕ) where
 
 -- What the walk begins with.
 module _ {s : List ℕ} (short : length s ≤ most_bytes) where
-  pub begins-high : {line : ℕ} → run ascii s < length s → line ≡ length (lines (take (run ascii s) s)) → Begins s (NextEnded (refused_at 2 0 line 0))
+  pub begins-high : {line : ℕ} → run ascii s < length s → line ≡ length (lines (take (run ascii s) s)) → Begins s (NextEnded (refused_at NotAscii 0 line 0))
   unfolding begun
   begins-high h e = record { answer = rw (begun, not-every s h, e, take-run ascii s); sound = tt }
 
@@ -114,7 +115,7 @@ module _ {s : List ℕ} (short : length s ≤ most_bytes) where
   unfolding begun reading start settings
   begins-stand names b room = rw b.answer (go (every ascii s) refl)
     where
-      go : (v : Bool) → every ascii s ≡ v → Resumes names s room [] (elim v [ true ↦ From first_line | false ↦ NextEnded (refused_at 2 0 (length (lines (before ascii s))) 0) ])
+      go : (v : Bool) → every ascii s ≡ v → Resumes names s room [] (elim v [ true ↦ From first_line | false ↦ NextEnded (refused_at NotAscii 0 (length (lines (before ascii s))) 0) ])
       go true e =
           record {
             count = refl;

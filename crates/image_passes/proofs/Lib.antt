@@ -1,3 +1,4 @@
+pub mod Faults
 pub mod Reaching
 mod Spelling
 pub mod Steps

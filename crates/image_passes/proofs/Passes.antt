@@ -1,14 +1,14 @@
 -- Laws of the two walks over a source.
-use Prim.Native.Nat.{ℕ, zero, suc, ◌+◌, ◌≤◌, ◌<◌}
+use Prim.Native.Nat.{ℕ, suc, ◌+◌, ◌-◌, ◌≤◌, ◌<◌}
 use mathlib.Core.Path.{◌≡◌, refl, sym, ap, ◌∙◌}
 use native.Mathlib.Omega.{arith}
 use mathlib.Core.Bool.{Bool, true, false, true≢false}
 use mathlib.Core.Option.{Option, none, some}
 use mathlib.Core.List.{List, [], ◌∷◌, ◌++◌, map, flat_map, append-nil, append_assoc, map-append}
-use lib.ListN.{length, take, drop, get_or, length-take, length-append}
+use lib.ListN.{length, drop, length-append}
 use lib.Dec.{eqb}
-use borrow.Author.Tests.{eq-eqb, ne_eqb}
-use native.Mathlib.Numerals.{add-one}
+use Rattle.std.specs.Prelude.{Some, None, cond, count_by}
+use Rattle.std.proofs.lemmas.List.Sums.{sum_by-cons}
 use Rattle.text_lexical.specs.Numbers.{little}
 use Rattle.text_lexical.specs.Names.{Name}
 use Rattle.text.specs.Lines.{extended, lines, indent, read_line}
@@ -30,54 +30,16 @@ use Rattle.image_passes.specs.declared.second_pass.CodedLine.{CodedLine}
 
 -- ---- counting lines
 
-lines-some : (u : List ℕ) → 1 ≤ length (lines u)
+-- There is one line more than line ends.
+pub lines_count : (u : List ℕ) → 1 + count_by (λ b. eqb b 10) u ≡ length (lines u)
 unfolding lines extended
-lines-some [] = omega arith
-lines-some (b ∷ u) = go (eqb b 10) (lines u)
+lines_count [] = refl
+lines_count (b ∷ u) = ap (λ (n : ℕ). 1 + n) (sum_by-cons (λ b. cond (eqb b 10) 1 0) b u) ∙ go (eqb b 10) (lines u) (lines_count u)
   where
-    go : (v : Bool) (ls : List (List ℕ)) → 1 ≤ length {A = List ℕ} (elim v [ true ↦ [] ∷ ls | false ↦ extended b ls ])
-    go true ls = omega arith
-    go false [] = omega arith
-    go false (l ∷ ls) = omega arith
-
--- A byte in front is in the first line, or it ends a line before that.
-count-front : (b : ℕ) (u : List ℕ) (v : Bool) → eqb b 10 ≡ v → length (lines (b ∷ u)) ≡ elim v [ true ↦ 1 | false ↦ 0 ] + length (lines u)
-unfolding lines extended
-count-front b u v e = rw (lines, e) (go v (lines u) (lines-some u))
-  where
-    go : (w : Bool) (ls : List (List ℕ)) → 1 ≤ length ls → length {A = List ℕ} (elim w [ true ↦ [] ∷ ls | false ↦ extended b ls ]) ≡ elim w [ true ↦ 1 | false ↦ 0 ] + length ls
-    go true ls h = omega arith
-    go false [] h = absurd (omega arith)
-    go false (l ∷ ls) h = omega arith
-
-count_next : (s : List ℕ) (i : ℕ) (v : Bool) → i < length s → eqb (get_or s i 0) 10 ≡ v
-    → length (lines (take (suc i) s)) ≡ elim v [ true ↦ 1 | false ↦ 0 ] + length (lines (take i s))
-count_next [] i v h e = absurd (omega arith)
-count_next (b ∷ s) zero v h e = count-front b [] v e
-count_next (b ∷ s) (suc i) v h e =
-    let f = count-front b (take (suc i) s) (eqb b 10) refl in
-    let g = count-front b (take i s) (eqb b 10) refl in
-    let k = count_next s i v (omega arith) e in
-    omega (arith, f, g, k)
-
--- There is at most one line more than bytes.
-few_lines : (u : List ℕ) → length (lines u) ≤ suc (length u)
-unfolding lines
-few_lines [] = omega arith
-few_lines (b ∷ u) = let f = count-front b u (eqb b 10) refl in let k = one (eqb b 10) in omega (arith, f, k, few_lines u)
-  where
-    one : (v : Bool) → elim v [ true ↦ 1 | false ↦ 0 ] ≤ 1
-    one true = omega arith
-    one false = omega arith
-
-pub lines-few : (s : List ℕ) (i : ℕ) → length (lines (take i s)) ≤ i + 1
-lines-few s i = omega (arith, few_lines (take i s), length-take i s)
-
-pub next-line : (s : List ℕ) (i : ℕ) → i < length s → get_or s i 0 ≡ 10 → length (lines (take i s)) + 1 ≡ length (lines (take (i + 1) s))
-next-line s i h e = let k = count_next s i true h (eq-eqb (get_or s i 0) 10 e) in rw (add-one i) (omega (arith, k))
-
-pub same_line_lem : (s : List ℕ) (i : ℕ) → i < length s → (get_or s i 0 ≡ 10 → ⊥) → length (lines (take i s)) ≡ length (lines (take (i + 1) s))
-same_line_lem s i h e = let k = count_next s i false h (ne_eqb (get_or s i 0) 10 e) in rw (add-one i) (omega (arith, k))
+    go : (v : Bool) (ls : List (List ℕ)) → 1 + count_by (λ b. eqb b 10) u ≡ length ls → 1 + (cond v 1 0 + count_by (λ b. eqb b 10) u) ≡ length {A = List ℕ} (elim v [ true ↦ [] ∷ ls | false ↦ extended b ls ])
+    go true ls h = omega (arith, h)
+    go false [] h = absurd (omega (arith, h))
+    go false (l ∷ ls) h = omega (arith, h)
 
 -- ---- the words of the lines, written
 
@@ -85,6 +47,15 @@ flat_append : {A : Type 0} (f : A → List ℕ) (xs ys : List A) → flat_map f 
 unfolding flat_map
 flat_append f [] ys = refl
 flat_append f (x ∷ xs) ys = ap (λ (l : List ℕ). f x ++ l) (flat_append f xs ys) ∙ sym (append_assoc (f x) (flat_map f xs) (flat_map f ys))
+
+-- The bytes of a line's word.
+pub word_bytes : (w : ℕ) → flat_map (little 4) (coded_meant (Some w)) ≡ little 4 w
+unfolding flat_map
+word_bytes w = append-nil (little 4 w)
+
+pub no_bytes : flat_map (little 4) (coded_meant None) ≡ []
+unfolding flat_map
+no_bytes = refl
 
 -- The bytes of the words of some lines, where the settings are these.
 unfoldable pub line_bytes : List Name → Settings → List (List ℕ) → List ℕ
@@ -110,9 +81,9 @@ pub record Worded (names : List Name) (old s m : List ℕ) (place at : ℕ) (c :
   pub whole : code_bytes names s ≡ front ++ line_bytes names (settings_meant c) (lines (drop at s))
   pub so_far : Written old 32 front place m
 
-pub worded-none : (names : List Name) (old s : List ℕ) (c : Config) → settings_meant c ≡ begin → Readable names s → Worded names old s old 32 0 c
+pub worded_none : {names : List Name} {old s : List ℕ} (c : Config) → settings_meant c ≡ begin → Readable names s → Worded names old s old 32 0 c
 unfolding code_bytes line_bytes instructions_of reads
-worded-none names old s c e h = record { in_text = omega arith; readable = h; front = []; whole = rw e; so_far = written_none old 32 }
+worded_none {old = old} c e h = record { in_text = omega arith; readable = h; front = []; whole = rw e; so_far = written_none old 32 }
 
 -- A line and those behind it.
 pub line-split : (s : List ℕ) (at : ℕ) → at ≤ length s → (rest : List (List ℕ)) × (lines (drop at s) ≡ rest_at s at ∷ rest)
@@ -131,7 +102,7 @@ read-on names l ls h = go (read_line names l) h
         no_record z = let y : ◌≡◌ {A = ℕ} 0 1 = cc in absurd (omega arith)
 
 module _ {names : List Name} {old s m : List ℕ} {place at : ℕ} {c : Config} (d : Worded names old s m place at c) (room : 32 + length (code_bytes names s) ≤ length old) where
-  module _ (r : CodedLine) (h : CodesLine names s at (settings_meant c) r) where
+  module _ {r : CodedLine} (h : CodesLine names s at (settings_meant c) r) where
     -- its word, and the settings after it
     abbrev word : List ℕ
     word = flat_map (little 4) (coded_meant r.coded)
@@ -147,10 +118,10 @@ module _ {names : List Name} {old s m : List ℕ} {place at : ℕ} {c : Config} 
         go none k = absurd (k refl)
         go (some x) k = refl
 
-    -- it ends where it begins, or behind that
-    pub ends-behind : at ≤ r.end
+    -- what is left after it is less
+    pub worded_less : r.end < length s → length s - (r.end + 1) < length s - at
     unfolding end_at
-    ends-behind = omega (arith, ends)
+    worded_less k = omega (arith, ends)
 
     -- what is written, the line's word and the rest
     parted : (rest : List (List ℕ)) → lines (drop at s) ≡ rest_at s at ∷ rest → code_bytes names s ≡ d.front ++ (word ++ line_bytes names (settings_meant r.config) rest)
@@ -161,16 +132,16 @@ module _ {names : List Name} {old s m : List ℕ} {place at : ℕ} {c : Config} 
         ∙ ap (λ (x : Settings). d.front ++ (word ++ line_bytes names x rest)) (sym h.settings)
 
     -- the word has room
-    pub worded-room : place + length word ≤ length m
-    worded-room =
+    pub worded_room : place + length word ≤ length m
+    worded_room =
         let (rest, q) = line-split s at d.in_text in
         room-before m place word _
         (room-behind d.so_far (word ++ line_bytes names (settings_meant r.config) rest) (omega (arith, ap length (parted rest q))))
 
     module _ {m' : List ℕ} {q : ℕ} (w : Written m place word q m') where
       -- and is written behind the others
-      pub worded-more : r.end < length s → Worded names old s m' q (r.end + 1) r.config
-      worded-more k =
+      pub worded_more : r.end < length s → Worded names old s m' q (r.end + 1) r.config
+      worded_more k =
           let v = line_at s at d.in_text (rw (← ends) k) in
           let n : suc (end_at s at) ≡ r.end + 1 = omega (arith, ends) in
           let v' : lines (drop at s) ≡ rest_at s at ∷ lines (drop (r.end + 1) s) = v ∙ ap (λ (x : ℕ). rest_at s at ∷ lines (drop x s)) n in
@@ -183,9 +154,9 @@ module _ {names : List Name} {old s m : List ℕ} {place at : ℕ} {c : Config} 
           }
 
       -- behind the last line all are written
-      pub worded-all : length s ≤ r.end → Written old 32 (code_bytes names s) q m'
+      pub worded_all : length s ≤ r.end → Written old 32 (code_bytes names s) q m'
       unfolding line_bytes coded_in reads_from flat_map
-      worded-all k =
+      worded_all k =
           let v = last_line s at d.in_text (rw (← ends) k) in
           let t : code_bytes names s ≡ d.front ++ word = parted [] v ∙ ap (λ (x : List ℕ). d.front ++ x) (append-nil word) in
           rw t (written-append d.so_far (omega (arith, ap length d.whole, length-append d.front (line_bytes names (settings_meant c) (lines (drop at s))))) w)

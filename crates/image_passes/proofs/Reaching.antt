@@ -1,5 +1,6 @@
 -- What the first walk's pieces mean in terms of document 01's walk: where a walk that comes from the first line stands.
 use Prim.Native.Nat.{ℕ, ◌+◌, ◌*◌, ◌≤◌}
+use Rattle.std.specs.Prelude.{Ok, Err}
 use mathlib.Core.Path.{◌≡◌}
 use mathlib.Core.Option.{some}
 use mathlib.Core.List.{List, [], ◌∷◌, ◌++◌}
@@ -12,16 +13,13 @@ use Rattle.image.specs.Assembling.{Label as Meant, State, start, Walk, walk, rea
 use Rattle.image.specs.Promised.{settings_meant}
 use Rattle.image.specs.declared.config.Config.{Config}
 use Rattle.image_labels.specs.Promised.{spelled}
-use Rattle.image_labels.specs.declared.label.Entered.{Entered}
-use Rattle.image_labels.specs.declared.label.Entered.TheVariants.{New, Duplicate, Full}
-use Rattle.image_passes.specs.Promised.{read_at, effect_at, rest_for, WalkEnds}
+use Rattle.image_passes.specs.Promised.{read_at, effect_at, Rest, rest_for, Entry, WalkEnds}
 use Rattle.image_passes.specs.declared.first_pass.Next.{Next}
 use Rattle.image_passes.specs.declared.first_pass.Next.TheVariants.{From, Ended as NextEnded}
 use Rattle.image_passes.specs.declared.first_pass.Cursor.{Cursor}
 use Rattle.image_passes.specs.declared.first_pass.Pass.{Pass}
 use Rattle.image_passes.specs.declared.first_pass.Pass.TheVariants.{AtLabel, Ended as PassEnded}
 use Rattle.image_passes.specs.declared.first_pass.LabelLine.{LabelLine}
-use Rattle.image_passes.specs.declared.first_pass.Rest.{Rest}
 
 -- What the line at a place comes to, its label aside.
 abbrev pub comes_to : List Name → List ℕ → ℕ → ℕ → Config → Rest
@@ -72,10 +70,9 @@ Resumes names s room labels (From c) = LineNext names s room labels c
 Resumes names s room labels (NextEnded o) = WalkEnds names s room labels o
 
 -- The labels after an attempt to enter one.
-abbrev pub with_entry : Entered → List Meant → Meant → List Meant
-with_entry New ls l = ls ++ (l ∷ [])
-with_entry Duplicate ls l = ls
-with_entry Full ls l = ls
+abbrev pub with_entry : Entry → List Meant → Meant → List Meant
+with_entry (Ok _) ls l = ls ++ (l ∷ [])
+with_entry (Err r) ls l = ls
 
 -- The label that a pass stands at.
 abbrev pub label_at : List ℕ → LabelLine → Meant

@@ -1,6 +1,6 @@
 -- Laws of the first walk. First what document 01's walk does at a line that has been reached and at a label that is entered or refused;
 -- then that the pieces of the first walk do the same; last, that the code's loop follows the pieces.
-use Prim.Native.Nat.{ℕ, zero, suc, ◌+◌, ◌*◌, ◌≤◌, ◌<◌}
+use Prim.Native.Nat.{ℕ, zero, suc, ◌+◌, ◌-◌, ◌*◌, ◌≤◌, ◌<◌}
 use mathlib.Core.Path.{◌≡◌, refl, sym, ap, ap₂, subst, ◌∙◌}
 use native.Mathlib.Omega.{arith}
 use native.Mathlib.Numerals.{add-one}
@@ -10,6 +10,10 @@ use mathlib.Core.List.{List, [], ◌∷◌, ◌++◌}
 use lib.ListN.{length, take, drop, length-append, length-take, length-drop}
 use lib.Dec.{ltb}
 use borrow.Author.Tests.{lt-ltb, le-ltb}
+use Rattle.std.specs.Prelude.{Some, None, Ok, Err}
+use Rattle.std.specs.Prelude.{Option as Maybe}
+use Rattle.refusal.specs.Refusals.{number_of, fault_of}
+use Rattle.refusal.specs.declared.refusal.Refusal.{Refusal}
 use Rattle.text_lexical.specs.Names.{Name}
 use Rattle.text_lexical.proofs.Tests.{split}
 use Rattle.text.specs.Lines.{lines, indent, read_line}
@@ -23,12 +27,11 @@ use Rattle.image.specs.Assembling.{Label as Meant}
 use Rattle.image.specs.Meaning.{coded_by}
 use Rattle.image.specs.Promised.{settings_meant}
 use Rattle.image.specs.declared.config.Config.{Config}
-use Rattle.image_labels.specs.Promised.{spelled, entry_fault, entered_meant}
-use Rattle.image_labels.specs.declared.label.Entered.{Entered}
-use Rattle.image_labels.specs.declared.label.Entered.TheVariants.{New, Duplicate, Full}
-use Rattle.image_line.specs.Promised.{context_for, effect_meant, label_if, LineIs}
+use Rattle.image_labels.specs.Promised.{spelled, entry_fault}
+use Rattle.image_line.specs.Promised.{context_for, effect_meant, label_meant, LineIs}
 use Rattle.image_line.specs.declared.line.Read.{Read}
-use Rattle.image_passes.specs.Promised.{read_at, effect_at, rest_for, WalkEnds, line_refused, finished_with, label_pass, scanned, scanned_from, resumed, line_after, followed, RestFits, Sound, ScannableNext, Scannable, ReadsOn, Follows, GoesOn}
+use Rattle.image_line.specs.declared.line.Span.{Span}
+use Rattle.image_passes.specs.Promised.{read_at, effect_at, Rest, rest_for, Entry, WalkEnds, line_refused, finished_with, label_pass, scanned, scanned_from, resumed, line_after, followed, RestFits, Sound, ScannableNext, Scannable, ReadsOn, Follows, GoesOn}
 use Rattle.image_passes.specs.declared.first_pass.Next.{Next}
 use Rattle.image_passes.specs.declared.first_pass.Next.TheVariants.{From, Ended as NextEnded}
 use Rattle.image_passes.specs.declared.first_pass.Cursor.{Cursor}
@@ -36,12 +39,11 @@ use Rattle.image_passes.specs.declared.first_pass.Pass.{Pass}
 use Rattle.image_passes.specs.declared.first_pass.Pass.TheVariants.{Ended as PassEnded}
 use Rattle.image_passes.specs.declared.first_pass.Outcome.{Outcome}
 use Rattle.image_passes.specs.declared.first_pass.LabelLine.{LabelLine}
-use Rattle.image_passes.specs.declared.first_pass.Rest.{Rest}
-use Rattle.image_passes.specs.declared.first_pass.Rest.TheVariants.{Refused, Done}
+use Rattle.image_passes.specs.declared.first_pass.Done.{Done}
 use Rattle.image_passes.proofs.Reaching.{comes_to, whole, Clean, Reached, LabelNext, Progress, Resumes, with_entry, label_at}
 use Rattle.image_passes.proofs.Passes.{line-split}
 use Rattle.image_passes.proofs.Spelling.{label-part}
-use Rattle.image_passes.proofs.Steps.{grown, RestDone, rest-is, rest_fits, comes-to}
+use Rattle.image_passes.proofs.Steps.{grown, RestDone, line-is, rest_fits, comes-to}
 
 -- ---- after a line
 
@@ -61,47 +63,47 @@ record Doing (names : List Name) (s : List ℕ) (room line at : ℕ) (labels : L
   pub setup_is : state.setup ≡ settings_meant c
 
 -- The walk has ended with the refusal of a line.
-ends-refused : {names : List Name} {s : List ℕ} {room line n labels : ℕ} {ls : List Meant} → labels ≡ length ls → Clean names s room → (st : State) → whole names s room ≡ stopped n line st
-    → st.labels ≡ ls → WalkEnds names s room ls (line_refused n line labels)
+ends-refused : {names : List Name} {s : List ℕ} {room line labels : ℕ} {r : Refusal} {ls : List Meant} → labels ≡ length ls → Clean names s room → (st : State)
+    → whole names s room ≡ stopped (number_of r) line st → st.labels ≡ ls → WalkEnds names s room ls (line_refused r line labels)
 unfolding read_to
-ends-refused {line = line} {n = n} count c st e l =
-    record { count = count; judges = c ∙ ap read_to e ∙ ap (λ (x : List Meant). refusing n (rust_line_of n line) line x none) l }
+ends-refused {line = line} {r = r} count c st e l =
+    record { count = count; judges = c ∙ ap read_to e ∙ ap (λ (x : List Meant). refusing (number_of r) (rust_line_of (number_of r) line) line x none) l }
 
 module _ {names : List Name} {s : List ℕ} {room line at : ℕ} {ls : List Meant} {words : ℕ} {c : Config} (d : Doing names s room line at ls words c) where
   -- The line is refused.
-  doing-refused : {n labels : ℕ} → comes_to names s at words c ≡ Refused n → labels ≡ length ls → WalkEnds names s room ls (line_refused n line labels)
+  doing-refused : {r : Refusal} {labels : ℕ} → comes_to names s at words c ≡ Err r → labels ≡ length ls → WalkEnds names s room ls (line_refused r line labels)
   unfolding after_line
   doing-refused e count =
-      let h = rw e at (rest-is words c (end_at s at) (effect_at names s at (settings_meant c))) in
+      let h = rw e at (line-is names s at words c) in
       ends-refused count d.clean d.state (d.comes ∙ ap (after_line names s room line (end_at s at)) (h d.state d.words_are)) d.labels_are
 
   -- It is not.
-  module _ {words' end : ℕ} {c' : Config} (e : comes_to names s at words c ≡ Done words' c' end) where
+  module _ {d' : Done} (e : comes_to names s at words c ≡ Ok d') where
     abbrev effect : MeantEffect
     effect = effect_at names s at (settings_meant c)
 
-    done : RestDone effect words c (end_at s at) words' c' end
-    done = rw e at (rest-is words c (end_at s at) effect)
+    done : RestDone effect words c (end_at s at) d'
+    done = rw e at (line-is names s at words c)
 
     abbrev after : State
     after = grown d.state effect
 
-    comes-after : whole names s room ≡ after_line names s room line end (next after)
+    comes-after : whole names s room ≡ after_line names s room line d'.end (next after)
     comes-after =
         d.comes ∙ ap (after_line names s room line (end_at s at)) (done.does d.state d.words_are)
         ∙ ap (λ (n : ℕ). after_line names s room line n (next after)) (sym done.ends)
 
-    after-words : length after.instructions ≡ words'
+    after-words : length after.instructions ≡ d'.words
     after-words = length-append d.state.instructions (coded_by effect) ∙ omega (arith, done.counts, d.words_are)
 
-    after-setup : after.setup ≡ settings_meant c'
+    after-setup : after.setup ≡ settings_meant d'.config
     after-setup = ap (λ (x : Settings). changed_by x effect) d.setup_is ∙ sym done.settings
 
     -- It is the last line,
-    doing-last : {labels : ℕ} → length s ≤ end → labels ≡ length ls → WalkEnds names s room ls (finished_with labels words' c')
+    doing-last : {labels : ℕ} → length s ≤ d'.end → labels ≡ length ls → WalkEnds names s room ls (finished_with labels d'.words d'.config)
     unfolding after_line read_to
     doing-last z count =
-        let q : whole names s room ≡ finished after = comes-after ∙ rw (after_line, le-ltb end (length s) z) in
+        let q : whole names s room ≡ finished after = comes-after ∙ rw (after_line, le-ltb d'.end (length s) z) in
         record {
           count = count;
           judges =
@@ -115,13 +117,13 @@ module _ {names : List Name} {s : List ℕ} {room line at : ℕ} {ls : List Mean
         }
 
     -- or there is another after it.
-    doing-on : end < length s → Reached names s room (suc line) (suc end) ls words' c'
+    doing-on : d'.end < length s → Reached names s room (suc line) (suc d'.end) ls d'.words d'.config
     unfolding after_line
     doing-on z =
         record {
           clean = d.clean;
           state = after;
-          on = sym (comes-after ∙ rw (after_line, lt-ltb end (length s) z));
+          on = sym (comes-after ∙ rw (after_line, lt-ltb d'.end (length s) z));
           labels_are = d.labels_are;
           words_are = after-words;
           setup_is = after-setup;
@@ -190,7 +192,7 @@ module _ {names : List Name} (s : List ℕ) (ok : Naming names) (room : ℕ) (ls
     comes = comes_to names s at words c
 
     -- A line that has been reached, by what follows it where it is not refused.
-    line-stands : (ls' : List (List ℕ)) → ((read_at names s at (settings_meant c)).label ≡ none → (words' end : ℕ) (c' : Config) → comes ≡ Done words' c' end → Stands (suc line) words' c' (suc end) ls')
+    line-stands : (ls' : List (List ℕ)) → ((read_at names s at (settings_meant c)).label ≡ none → (d : Done) → comes ≡ Ok d → Stands (suc line) d.words d.config (suc d.end) ls')
         → Stands line words c at (rest_at s at ∷ ls')
     unfolding scanned end_at entry
     line-stands ls' more = go (read_at names s at (settings_meant c)).label refl
@@ -198,7 +200,7 @@ module _ {names : List Name} (s : List ℕ) (ok : Naming names) (room : ℕ) (ls
         go : (o : Option (List ℕ)) → (read_at names s at (settings_meant c)).label ≡ o
             → Progress names s room ls (elim o [
               | some u ↦ label_pass (at + indent (rest_at s at)) (length u) words line labels comes
-              | none ↦ elim comes [ Refused n ↦ PassEnded (line_refused n line labels) | Done words' c' end ↦ scanned names labels (suc line) words' c' (suc end) ls' ]
+              | none ↦ elim comes [ Err r ↦ PassEnded (line_refused r line labels) | Ok d ↦ scanned names labels (suc line) d.words d.config (suc d.end) ls' ]
             ])
         go (some u) e =
             record {
@@ -215,12 +217,12 @@ module _ {names : List Name} (s : List ℕ) (ok : Naming names) (room : ℕ) (ls
             }
         go none e = on comes refl
           where
-            on : (x : Rest) → comes ≡ x → Progress names s room ls (elim x [ Refused n ↦ PassEnded (line_refused n line labels) | Done words' c' end ↦ scanned names labels (suc line) words' c' (suc end) ls' ])
-            on (Refused n) k = doing-refused (plain-doing q inside e) k count
-            on (Done words' c' end) k = more e words' end c' k
+            on : (x : Rest) → comes ≡ x → Progress names s room ls (elim x [ Err r ↦ PassEnded (line_refused r line labels) | Ok d ↦ scanned names labels (suc line) d.words d.config (suc d.end) ls' ])
+            on (Err r) k = doing-refused (plain-doing q inside e) k count
+            on (Ok d) k = more e d k
 
-    ended : {words' end : ℕ} {c' : Config} → comes ≡ Done words' c' end → end_at s at ≡ end
-    ended k = sym (rw k at (rest-is words c (end_at s at) (effect_at names s at (settings_meant c)))).ends
+    ended : {d : Done} → comes ≡ Ok d → end_at s at ≡ d.end
+    ended k = sym (rw k at (line-is names s at words c)).ends
 
     lines-stand : ((words' : ℕ) (c' : Config) → end_at s at < length s → Reached names s room (suc line) (suc (end_at s at)) ls words' c'
         → Stands (suc line) words' c' (suc (end_at s at)) (lines (drop (suc (end_at s at)) s)))
@@ -229,14 +231,14 @@ module _ {names : List Name} (s : List ℕ) (ok : Naming names) (room : ℕ) (ls
     lines-stand more = split (end_at s at) (length s) another last
       where
         last : length s ≤ end_at s at → Stands line words c at (lines (drop at s))
-        last b = rw (last_line s at inside b) (line-stands [] (λ e words' end c' k. doing-last (plain-doing q inside e) k (omega (arith, ended k, b)) count))
+        last b = rw (last_line s at inside b) (line-stands [] (λ e d k. doing-last (plain-doing q inside e) k (omega (arith, ended k, b)) count))
 
         another : end_at s at < length s → Stands line words c at (lines (drop at s))
         another b =
             rw (line_at s at inside b)
-            (line-stands (lines (drop (suc (end_at s at)) s)) (λ e words' end c' k.
-            subst (λ (x : ℕ). Stands (suc line) words' c' (suc x) (lines (drop (suc (end_at s at)) s))) (ended k)
-            (more words' c' b (subst (λ (x : ℕ). Reached names s room (suc line) (suc x) ls words' c') (sym (ended k)) (doing-on (plain-doing q inside e) k (omega (arith, ended k, b)))))))
+            (line-stands (lines (drop (suc (end_at s at)) s)) (λ e d k.
+            subst (λ (x : ℕ). Stands (suc line) d.words d.config (suc x) (lines (drop (suc (end_at s at)) s))) (ended k)
+            (more d.words d.config b (subst (λ (x : ℕ). Reached names s room (suc line) (suc x) ls d.words d.config) (sym (ended k)) (doing-on (plain-doing q inside e) k (omega (arith, ended k, b)))))))
 
   -- From a line that has been reached, with so many bytes left at most.
   stands_from : (left line words : ℕ) (c : Config) (at : ℕ) → length s ≤ at + left → at ≤ length s → Reached names s room line at ls words c → Stands line words c at (lines (drop at s))
@@ -296,10 +298,10 @@ module _ {names : List Name} {s : List ℕ} {p : LabelLine} {room : ℕ} {ls : L
       ∙ ap (λ (n : ℕ). after_line names s room p.line (end_at s a.at) (doing does (enter room st n name))) (sym a.starts)
 
   -- The label is refused.
-  label-refused : {n : ℕ} → some n ≡ entry_fault known (ltb (length ls) room) → WalkEnds names s room ls (line_refused n p.line p.labels)
+  label-refused : {r : Refusal} → some (number_of r) ≡ entry_fault known (ltb (length ls) room) → WalkEnds names s room ls (line_refused r p.line p.labels)
   unfolding after_line doing
-  label-refused {n} e =
-      let x : enter room st p.label.start name ≡ stop n st = enter-refused room st p.label.start name n (rw a.reached.labels_are e) in
+  label-refused {r} e =
+      let x : enter room st p.label.start name ≡ stop (number_of r) st = enter-refused room st p.label.start name (number_of r) (rw a.reached.labels_are e) in
       ends-refused a.count a.reached.clean st (comes-there ∙ rw x) a.reached.labels_are
 
   -- It is entered.
@@ -330,21 +332,20 @@ module _ {names : List Name} {s : List ℕ} {p : LabelLine} {room : ℕ} {ls : L
     label-on = go p.rest (sym a.rest-is)
       where
         go : (x : Rest) → comes_to names s a.at a.words a.config ≡ x → Resumes names s room (ls ++ (label_at s p ∷ [])) (line_after (length s) p.line (p.labels + 1) x)
-        go (Refused n) k = doing-refused label-doing k named_count
-        go (Done words c end) k =
-            split end (length s)
-            (λ b. rw (line_after, lt-ltb end (length s) b) (record { count = named_count; reached = rw (add-one p.line, add-one end) (doing-on label-doing k b) }))
-            (λ b. rw (line_after, le-ltb end (length s) b) (doing-last label-doing k b named_count))
+        go (Err r) k = doing-refused label-doing k named_count
+        go (Ok d) k =
+            split d.end (length s)
+            (λ b. rw (line_after, lt-ltb d.end (length s) b) (record { count = named_count; reached = rw (add-one p.line, add-one d.end) (doing-on label-doing k b) }))
+            (λ b. rw (line_after, le-ltb d.end (length s) b) (doing-last label-doing k b named_count))
 
 -- What follows a label that has been entered, or refused, as document 01 has it.
-pub goes-stand : {names : List Name} {s : List ℕ} {p : LabelLine} {e : Entered} {n : Next} → GoesOn s p e n → (room : ℕ) (ls : List Meant) → LabelNext names s room ls p
-    → entered_meant e ≡ entry_fault (is_known ls (spelled s p.label)) (ltb (length ls) room) → Resumes names s room (with_entry e ls (label_at s p)) n
+pub goes-stand : {names : List Name} {s : List ℕ} {p : LabelLine} {e : Entry} {n : Next} → GoesOn s p e n → (room : ℕ) (ls : List Meant) → LabelNext names s room ls p
+    → fault_of e ≡ entry_fault (is_known ls (spelled s p.label)) (ltb (length ls) room) → Resumes names s room (with_entry e ls (label_at s p)) n
 goes-stand {names} {s} {p} {e} {n} g room ls a k = rw g.answer (go e k)
   where
-    go : (e : Entered) → entered_meant e ≡ entry_fault (is_known ls (spelled s p.label)) (ltb (length ls) room) → Resumes names s room (with_entry e ls (label_at s p)) (followed s p e)
-    go New k = label-on a k
-    go Duplicate k = label-refused a k
-    go Full k = label-refused a k
+    go : (e : Entry) → fault_of e ≡ entry_fault (is_known ls (spelled s p.label)) (ltb (length ls) room) → Resumes names s room (with_entry e ls (label_at s p)) (followed s p e)
+    go (Ok u) k = label-on a k
+    go (Err r) k = label-refused a k
 
 -- ---- the code's loop
 
@@ -370,28 +371,28 @@ module _ (names : List Name) (s : List ℕ) (c : Cursor) (inside : c.at ≤ leng
   from-line e = let (rest, q) = line-split s c.at inside in rw (q, scanned, e) (go rest q comes-from refl)
     where
       go : (rest : List (List ℕ)) → lines (drop c.at s) ≡ rest_at s c.at ∷ rest → (x : Rest) → comes-from ≡ x
-          → elim x [ Refused n ↦ PassEnded (line_refused n c.line c.labels) | Done words' c' end ↦ scanned names c.labels (suc c.line) words' c' (suc end) rest ]
+          → elim x [ Err r ↦ PassEnded (line_refused r c.line c.labels) | Ok d ↦ scanned names c.labels (suc c.line) d.words d.config (suc d.end) rest ]
           ≡ resumed names s (line_after (length s) c.line c.labels x)
-      go rest q (Refused n) k = refl
-      go rest q (Done words' c' end) k =
-          let z : end ≡ end_at s c.at = (rw k at (rest-is c.words c.config (end_at s c.at) (effect_at names s c.at (settings_meant c.config)))).ends in
-          split end (length s)
-          (λ b. rw (line_after, lt-ltb end (length s) b, add-one c.line, add-one end)
-          (ap (scanned names c.labels (suc c.line) words' c' (suc end)) (rest-is-after rest q (subst (λ (n : ℕ). n < length s) z b) ∙ ap (λ (n : ℕ). lines (drop (suc n) s)) (sym z))))
-          (λ b. rw (line_after, le-ltb end (length s) b) (ap (scanned names c.labels (suc c.line) words' c' (suc end)) (none_after rest q (subst (λ (n : ℕ). length s ≤ n) z b))))
+      go rest q (Err r) k = refl
+      go rest q (Ok d) k =
+          let z : d.end ≡ end_at s c.at = (rw k at (line-is names s c.at c.words c.config)).ends in
+          split d.end (length s)
+          (λ b. rw (line_after, lt-ltb d.end (length s) b, add-one c.line, add-one d.end)
+          (ap (scanned names c.labels (suc c.line) d.words d.config (suc d.end)) (rest-is-after rest q (subst (λ (n : ℕ). n < length s) z b) ∙ ap (λ (n : ℕ). lines (drop (suc n) s)) (sym z))))
+          (λ b. rw (line_after, le-ltb d.end (length s) b) (ap (scanned names c.labels (suc c.line) d.words d.config (suc d.end)) (none_after rest q (subst (λ (n : ℕ). length s ≤ n) z b))))
 
 -- A line that is not refused ends at a place or after it.
 abbrev EndsAfter : ℕ → Rest → Type 0
-EndsAfter at (Refused n) = Unit {0}
-EndsAfter at (Done words c end) = at ≤ end
+EndsAfter at (Err r) = Unit {0}
+EndsAfter at (Ok d) = at ≤ d.end
 
 done-after : (names : List Name) (s : List ℕ) (at words : ℕ) (c : Config) → EndsAfter at (comes_to names s at words c)
 unfolding end_at
 done-after names s at words c = go (comes_to names s at words c) refl
   where
     go : (x : Rest) → comes_to names s at words c ≡ x → EndsAfter at x
-    go (Refused n) k = tt
-    go (Done words' c' end) k = omega (arith, (rw k at (rest-is words c (end_at s at) (effect_at names s at (settings_meant c)))).ends)
+    go (Err r) k = tt
+    go (Ok d) k = omega (arith, (rw k at (line-is names s at words c)).ends)
 
 -- What is read next is a line after this one, from where the walk may read on; or the walk has ended.
 abbrev Next-line : List ℕ → ℕ → ℕ → Next → Type 0
@@ -400,12 +401,12 @@ Next-line s at line (NextEnded o) = Unit {0}
 
 next-line-after : (s : List ℕ) (at line labels : ℕ) → length s ≤ most_bytes → labels ≤ line → (x : Rest) → RestFits line x → EndsAfter at x → Next-line s at line (line_after (length s) line labels x)
 unfolding line_after
-next-line-after s at line labels short few (Refused n) f a = tt
-next-line-after s at line labels short few (Done words c end) f a =
-    split end (length s)
-    (λ b. rw (line_after, lt-ltb end (length s) b)
+next-line-after s at line labels short few (Err r) f a = tt
+next-line-after s at line labels short few (Ok d) f a =
+    split d.end (length s)
+    (λ b. rw (line_after, lt-ltb d.end (length s) b)
     (record { short = short; in_text = omega arith; few_lines = omega (arith, f.0); few_labels = omega (arith, few); few_words = f.1 }, omega arith, omega (arith, a)))
-    (λ b. rw (line_after, le-ltb end (length s) b) tt)
+    (λ b. rw (line_after, le-ltb d.end (length s) b) tt)
 
 -- Where the loop stands: what reading on from there comes to is what it comes to from the first cursor on.
 pub record Scanning (names : List Name) (s : List ℕ) (from c : Cursor) : Type 0 where
@@ -413,90 +414,81 @@ pub record Scanning (names : List Name) (s : List ℕ) (from c : Cursor) : Type 
   pub same : scanned_from names s c ≡ scanned_from names s from
   pub after : from.line ≤ c.line
 
-pub scanning-none : {names : List Name} {s : List ℕ} {from : Cursor} → Scannable s from → Scanning names s from from
-scanning-none h = record { safe = h; same = refl; after = omega arith }
-
-module _ {names : List Name} {s : List ℕ} {from c : Cursor} (w : Scanning names s from c) (r : Read) (h : LineIs names s c.at (context_for c.config) r) where
+module _ {names : List Name} {s : List ℕ} {from c : Cursor} (w : Scanning names s from c) {r : Read} (h : LineIs names s c.at (context_for c.config) r) where
   -- its label
-  label_is : {b : Bool} → r.labelled ≡ b → (read_at names s c.at (settings_meant c.config)).label ≡ label_if b (take r.length (drop r.start s))
-  label_is b = ap (λ (x : MeantRead). x.label) (sym h.reads) ∙ ap (λ (x : Bool). label_if x (take r.length (drop r.start s))) b
-
-  label-long : length (take r.length (drop r.start s)) ≡ r.length
-  label-long = length-take r.length (drop r.start s) ∙ omega (arith, length-drop r.start s, h.in_text)
+  label_is : {o : Maybe Span} → r.label ≡ o → (read_at names s c.at (settings_meant c.config)).label ≡ label_meant s o
+  label_is b = ap (λ (x : MeantRead). x.label) (sym h.reads) ∙ ap (label_meant s) b
 
   -- what the line comes to, its label aside
   abbrev pub comes-here : Rest
   comes-here = rest_for (effect_meant r.effect) c.words c.config r.end
 
   came : comes-here ≡ comes_to names s c.at c.words c.config
-  came = comes-to s c.at c.words c.config r h
+  came = comes-to c.config h c.words
 
   -- It leaves room.
   fits : RestFits c.line comes-here
   unfolding end_at
   fits = rw came (rest_fits c.words c.config (end_at s c.at) c.line (omega (arith, w.safe.few_lines)) w.safe.few_words (effect_at names s c.at (settings_meant c.config)))
 
-  -- A label.
-  pub scans-label : r.labelled ≡ true → ReadsOn names s (From from) (label_pass r.start r.length c.words c.line c.labels comes-here)
-  scans-label b =
-      record {
-        answer =
-            ap₂ (λ (n : ℕ) (x : Rest). label_pass n r.length c.words c.line c.labels x) h.starts came
-            ∙ ap (λ (n : ℕ). label_pass (c.at + indent (rest_at s c.at)) n c.words c.line c.labels (comes_to names s c.at c.words c.config)) (sym label-long)
-            ∙ sym (from-label names s c w.safe.in_text (take r.length (drop r.start s)) (label_is b)) ∙ w.same;
-        sound =
-            record {
-              short = w.safe.short;
-              in_text = h.in_text;
-              near = omega (arith, w.safe.few_words);
-              line_fits = omega (arith, w.safe.few_lines, w.safe.in_text);
-              few_labels = w.safe.few_labels;
-              rest_fits = fits;
-            };
-        after = w.after;
-      }
+  module _ {x : Rest} (z : x ≡ comes-here) where
+    stands : x ≡ comes_to names s c.at c.words c.config
+    stands = z ∙ came
 
-  -- What follows the line.
-  module _ (b : r.labelled ≡ false) {n : Next} (e : n ≡ line_after (length s) c.line c.labels comes-here) where
-    follows-line : resumed names s n ≡ scanned_from names s from
-    follows-line =
-        ap (resumed names s) (e ∙ ap (line_after (length s) c.line c.labels) came) ∙ sym (from-line names s c w.safe.in_text (label_is b)) ∙ w.same
+    -- A label.
+    pub scans_label : {p : Span} {q : Pass} → r.label ≡ Some p → q ≡ label_pass p.start p.length c.words c.line c.labels x → ReadsOn names s (From from) q
+    scans_label {p} b e =
+        let long : length (take p.length (drop p.start s)) ≡ p.length = length-take p.length (drop p.start s) ∙ omega (arith, length-drop p.start s, h.in_text p b) in
+        rw e (record {
+          answer =
+              ap₂ (λ (n : ℕ) (y : Rest). label_pass n p.length c.words c.line c.labels y) (h.starts p b) stands
+              ∙ ap (λ (n : ℕ). label_pass (c.at + indent (rest_at s c.at)) n c.words c.line c.labels (comes_to names s c.at c.words c.config)) (sym long)
+              ∙ sym (from-label names s c w.safe.in_text (take p.length (drop p.start s)) (label_is b)) ∙ w.same;
+          sound =
+              record {
+                short = w.safe.short;
+                in_text = h.in_text p b;
+                near = omega (arith, w.safe.few_words);
+                line_fits = omega (arith, w.safe.few_lines, w.safe.in_text);
+                few_labels = w.safe.few_labels;
+                rest_fits = rw z fits;
+              };
+          after = w.after;
+        })
 
-    pub scans-end : {o : Outcome} → n ≡ NextEnded o → ReadsOn names s (From from) (PassEnded o)
-    scans-end k = record { answer = rw k at follows-line; sound = tt; after = tt }
+    -- What follows the line.
+    module _ (b : r.label ≡ None) {n : Next} (e : n ≡ line_after (length s) c.line c.labels x) where
+      follows-line : resumed names s n ≡ scanned_from names s from
+      follows-line = ap (resumed names s) (e ∙ ap (line_after (length s) c.line c.labels) stands) ∙ sym (from-line names s c w.safe.in_text (label_is b)) ∙ w.same
 
-    -- The next line is after this one.
-    next-after : {d : Cursor} → n ≡ From d → Next-line s c.at c.line (From d)
-    unfolding end_at
-    next-after k =
-        let z = next-line-after s c.at c.line c.labels w.safe.short (omega (arith, w.safe.few_labels)) comes-here fits ends-after in
-        subst (Next-line s c.at c.line) (sym e ∙ k) z
-      where
-        ends-after : EndsAfter c.at comes-here
-        ends-after = rw came (done-after names s c.at c.words c.config)
+      pub scans_end : {o : Outcome} → n ≡ NextEnded o → ReadsOn names s (From from) (PassEnded o)
+      scans_end k = record { answer = rw k at follows-line; sound = tt; after = tt }
 
-    pub scans-on : {d : Cursor} → n ≡ From d → Scanning names s from d × (c.at < d.at)
-    scans-on k =
-        let z = next-after k in
-        (record { safe = z.0; same = rw k at follows-line; after = omega (arith, w.after, z.1) }, z.2)
+      -- The next line is after this one.
+      next-after : {d : Cursor} → n ≡ From d → Next-line s c.at c.line (From d)
+      unfolding end_at
+      next-after k =
+          let z = next-line-after s c.at c.line c.labels w.safe.short (omega (arith, w.safe.few_labels)) x (rw z fits) ends-after in
+          subst (Next-line s c.at c.line) (sym e ∙ k) z
+        where
+          ends-after : EndsAfter c.at x
+          ends-after = rw stands (done-after names s c.at c.words c.config)
+
+      pub scans_on : {d : Cursor} → n ≡ From d → Scanning names s from d
+      scans_on k = let y = next-after k in record { safe = y.0; same = rw k at follows-line; after = omega (arith, w.after, y.1) }
+
+      pub scans_less : {d : Cursor} → n ≡ From d → length s - d.at < length s - c.at
+      scans_less k = let y = next-after k in omega (arith, y.2, y.0.in_text)
 
 -- ---- going on
 
--- A walk that has ended stays so.
-pub reads_end : {names : List Name} {s : List ℕ} {o : Outcome} → ReadsOn names s (NextEnded o) (PassEnded o)
-reads_end = record { answer = refl; sound = tt; after = tt }
-
--- A label is refused,
-pub goes-refused : {s : List ℕ} {p : LabelLine} {e : Entered} {o : Outcome} → NextEnded o ≡ followed s p e → GoesOn s p e (NextEnded o)
-goes-refused k = record { answer = k; sound = tt; follows = tt }
-
--- or it is entered, and what follows the line follows.
-pub goes-line : {s : List ℕ} {p : LabelLine} {n : Next} → Sound s p → n ≡ line_after (length s) p.line (p.labels + 1) p.rest → GoesOn s p New n
-goes-line {s} {p} {n} d e = record { answer = e; sound = safe n on; follows = later n on }
+-- What follows the line of a label that is entered.
+pub goes_line : {s : List ℕ} {p : LabelLine} {n : Next} → Sound s p → n ≡ line_after (length s) p.line (p.labels + 1) p.rest → GoesOn s p (Ok tt) n
+goes_line {s} {p} {n} d e = record { answer = e; sound = safe n on; follows = later n on }
   where
     any : (x : Rest) → EndsAfter 0 x
-    any (Refused m) = tt
-    any (Done words c end) = omega arith
+    any (Err r) = tt
+    any (Ok d) = omega arith
 
     on : Next-line s 0 p.line n
     on = rw e (next-line-after s 0 p.line (p.labels + 1) d.short d.few_labels p.rest d.rest_fits (any p.rest))
@@ -505,6 +497,6 @@ goes-line {s} {p} {n} d e = record { answer = e; sound = safe n on; follows = la
     safe (From c) z = z.0
     safe (NextEnded o) z = tt
 
-    later : (n : Next) → Next-line s 0 p.line n → Follows p New n
+    later : (n : Next) → Next-line s 0 p.line n → Follows p (Ok tt) n
     later (From c) z = (z.1, refl)
     later (NextEnded o) z = tt

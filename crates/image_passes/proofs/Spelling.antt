@@ -7,6 +7,9 @@ use mathlib.Core.Option.{Option, none, some}
 use mathlib.Core.List.{List, [], ◌∷◌}
 use lib.ListN.{length, take, drop, get_or, length-take, length-drop}
 use lib.Dec.{eqb}
+use Rattle.std.specs.Prelude.{Ok, Err}
+use Rattle.std.specs.Prelude.{Result as Answer}
+use Rattle.refusal.specs.declared.refusal.Refusal.{Refusal}
 use Rattle.text_lexical.specs.Bytes.{bytes, same}
 use Rattle.text_lexical.specs.Names.{Name}
 use Rattle.text.specs.Tokens.{Token as MeantToken}
@@ -19,7 +22,7 @@ use Rattle.text.specs.declared.lexer.Kind.{Kind as TokenKind}
 use Rattle.text.specs.declared.lexer.Kind.TheVariants.{Identifier, Register, NoRegister, Number, Negative, Hex, Binary, Directive, Comma, Colon, LParen, RParen}
 use Rattle.text.specs.declared.lexer.Token.{Token}
 use Rattle.text.specs.declared.parser.Line.{Line}
-use Rattle.text.proofs.Recording.{unless_bad, line_read_lem}
+use Rattle.text.proofs.Recording.{LineRead, line_read_lem}
 use Rattle.instruction.specs.Operands.{mark_byte}
 use Rattle.instruction.specs.Kinds.{Kind, empty, labelled, config, ignored, plain, identifier_kind, kind_of}
 use Rattle.image.specs.Settings.{Settings}
@@ -78,22 +81,14 @@ kept-first s (t ∷ ts) zero u e = let y : ◌≡◌ {A = ℕ} 0 1 = cc in absur
 kept-first s (t ∷ ts) (suc n) u e = (omega arith, first-spelled s t (firsts s ts n) u e)
 
 module _ {names : List Name} (ok : Naming names) (s : List ℕ) (at : ℕ) (setup : Settings) (u : List ℕ) where
-  abbrev kept : Line
-  kept = record_at names s at
-
-  spelled-first : (read_at names s at setup).label ≡ some u → (0 < kept.count) × (spelling s (get_or kept.tokens 0 filler) ≡ u)
+  spelled-first : (o : Answer Line Refusal) → LineRead names s at o → (read_at names s at setup).label ≡ some u → u ≡ take (length u) (drop (at + indent (rest_at s at)) s)
   unfolding read_on
-  spelled-first e = go kept.bad (rw (line_read_lem names ok s at kept refl).means at e)
-    where
-      go : (b : Bool) → (read_on (record { setup = setup }) (unless_bad b (record { count = kept.count; first = firsts s kept.tokens kept.count }))).label ≡ some u
-          → (0 < kept.count) × (spelling s (get_or kept.tokens 0 filler) ≡ u)
-      go true q = no_label q
-      go false q = kept-first s kept.tokens kept.count u (label-kind _ _ _ u q)
+  spelled-first (Err r) h e = no_label (rw h.means at e)
+  spelled-first (Ok l) h e =
+      let (some-there, q) = kept-first s l.tokens l.count u (label-kind _ _ _ u (rw h.means at e)) in
+      let t = get_or l.tokens 0 filler in
+      let n : t.length ≡ length u = sym (length-take t.length (drop t.start s) ∙ omega (arith, length-drop t.start s, h.places.inside_text 0)) ∙ ap length q in
+      sym q ∙ ap₂ (λ (n : ℕ) (from : ℕ). take n (drop from s)) n (h.places.begins some-there)
 
   pub label-part : (read_at names s at setup).label ≡ some u → u ≡ take (length u) (drop (at + indent (rest_at s at)) s)
-  label-part e =
-      let (some-there, q) = spelled-first e in
-      let t = get_or kept.tokens 0 filler in
-      let r = line_read_lem names ok s at kept refl in
-      let n : t.length ≡ length u = sym (length-take t.length (drop t.start s) ∙ omega (arith, length-drop t.start s, r.inside_text 0)) ∙ ap length q in
-      sym q ∙ ap₂ (λ (n : ℕ) (from : ℕ). take n (drop from s)) n (r.begins some-there)
+  label-part = spelled-first (record_at names s at) (line_read_lem names ok s at (record_at names s at) refl)

@@ -1,8 +1,11 @@
 -- What the functions of the two walks answer. The first walk's are equations with definitions of their own, by which the walk of document 01
 -- is done in pieces, from label to label; what the pieces come to together is `WalkEnds`. Quotations are document 01's.
-use Rattle.std.specs.Prelude.{ℕ, suc, ◌+◌, ◌*◌, ◌≤◌, ◌<◌, ◌≡◌, Bool, true, false, length, drop, leb, ltb}
+use Rattle.std.specs.Prelude.{ℕ, suc, ◌+◌, ◌*◌, ◌≤◌, ◌<◌, ◌≡◌, Bool, true, false, length, drop, leb, ltb, ⊤, Option, Some, None, Result, Ok, Err}
 use Rattle.std.proofs.Math.Option.{none, some}
 use mathlib.Core.List.{List, [], ◌∷◌, map, flat_map}
+use Rattle.refusal.specs.Refusals.{number_of, refusal_at}
+use Rattle.refusal.specs.declared.refusal.Refusal.{Refusal}
+use Rattle.refusal.specs.declared.refusal.Refusal.TheVariants.{NotAscii, TooManyWords}
 use Rattle.text_lexical.specs.Bytes.{ascii, every, before}
 use Rattle.text_lexical.specs.Numbers.{little}
 use Rattle.text_lexical.specs.Names.{Name}
@@ -17,8 +20,6 @@ use Rattle.image.specs.Meaning.{coded_by, instructions_of, settings_of, image_of
 use Rattle.image.specs.Promised.{settings_meant, config_for}
 use Rattle.image.specs.declared.config.Config.{Config}
 use Rattle.image_labels.specs.Promised.{InText}
-use Rattle.image_labels.specs.declared.label.Entered.{Entered}
-use Rattle.image_labels.specs.declared.label.Entered.TheVariants.{New, Duplicate, Full}
 use Rattle.image_line.specs.Promised.{context_for, end_of}
 use Rattle.image_passes.specs.declared.first_pass.Next.{Next}
 use Rattle.image_passes.specs.declared.first_pass.Next.TheVariants.{From, Ended as NextEnded}
@@ -26,15 +27,11 @@ use Rattle.image_passes.specs.declared.first_pass.Cursor.{Cursor}
 use Rattle.image_passes.specs.declared.first_pass.Pass.{Pass}
 use Rattle.image_passes.specs.declared.first_pass.Pass.TheVariants.{AtLabel, Ended as PassEnded}
 use Rattle.image_passes.specs.declared.first_pass.LabelLine.{LabelLine}
-use Rattle.image_passes.specs.declared.first_pass.Rest.{Rest}
-use Rattle.image_passes.specs.declared.first_pass.Rest.TheVariants.{Refused as RestRefused, Done}
+use Rattle.image_passes.specs.declared.first_pass.Done.{Done}
 use Rattle.image_passes.specs.declared.first_pass.Outcome.{Outcome}
-use Rattle.image_passes.specs.declared.first_pass.Verdict.{Verdict}
-use Rattle.image_passes.specs.declared.first_pass.Verdict.TheVariants.{Refused as Rejected, Finished}
-use Rattle.image_passes.specs.declared.second_pass.Fill.{Fill}
-use Rattle.image_passes.specs.declared.second_pass.Fill.TheVariants.{Filled, TooShort}
-use Rattle.image_passes.specs.declared.second_pass.Coded.{Coded as Coding}
-use Rattle.image_passes.specs.declared.second_pass.Coded.TheVariants.{Word, Nothing as NoWord}
+use Rattle.image_passes.specs.declared.first_pass.Finished.{Finished}
+use Rattle.image_passes.specs.declared.first_pass.Stopped.{Stopped}
+use Rattle.image_passes.specs.declared.second_pass.TooShort.{TooShort}
 use Rattle.image_passes.specs.declared.second_pass.CodedLine.{CodedLine}
 
 -- ---- what a line comes to
@@ -46,30 +43,37 @@ read_at names s from setup = read_on (record { setup = setup }) (read_line names
 abbrev pub effect_at : List Name → List ℕ → ℕ → Settings → MeantEffect
 effect_at names s from setup = (read_at names s from setup).effect
 
+-- What a line comes to, its label aside.
+abbrev pub Rest : Type 0
+Rest = Result Done Refusal
+
+abbrev pub done : ℕ → Config → ℕ → Rest
+done words c end = Ok (record { words = words; config = c; end = end })
+
 -- "22 a 32,769th instruction"
 unfoldable pub one_more : ℕ → Config → ℕ → Rest
-one_more words c end = elim (ltb words most_words) [ true ↦ Done (words + 1) c end | false ↦ RestRefused 22 ]
+one_more words c end = elim (ltb words most_words) [ true ↦ done (words + 1) c end | false ↦ Err TooManyWords ]
 
--- What a line comes to, its label aside, by what it does and where it ends.
+-- What it comes to by what it does and where it ends.
 abbrev pub rest_for : MeantEffect → ℕ → Config → ℕ → Rest
-rest_for nothing words c end = Done words c end
-rest_for (sets setup) words c end = Done words (config_for setup) end
+rest_for nothing words c end = done words c end
+rest_for (sets setup) words c end = done words (config_for setup) end
 rest_for (codes i) words c end = one_more words c end
-rest_for (faulty n) words c end = RestRefused n
+rest_for (faulty n) words c end = Err (refusal_at n)
 
 -- ---- the first walk
 
 -- The walk ends with a refusal,
-abbrev pub refused_at : ℕ → ℕ → ℕ → ℕ → Outcome
-refused_at number rust line labels = record { labels = labels; verdict = Rejected number rust line }
+abbrev pub refused_at : Refusal → ℕ → ℕ → ℕ → Outcome
+refused_at r rust line labels = record { labels = labels; verdict = Err (record { refusal = r; rust_line = rust; line = line }) }
 
 -- that of a line,
-abbrev pub line_refused : ℕ → ℕ → ℕ → Outcome
-line_refused number line labels = refused_at number (rust_line_of number line) line labels
+abbrev pub line_refused : Refusal → ℕ → ℕ → Outcome
+line_refused r line labels = refused_at r (rust_line_of (number_of r) line) line labels
 
 -- or after the last line.
 abbrev pub finished_with : ℕ → ℕ → Config → Outcome
-finished_with labels words c = record { labels = labels; verdict = Finished words c }
+finished_with labels words c = record { labels = labels; verdict = Ok (record { words = words; config = c }) }
 
 -- A label is to be entered, after so many words.
 abbrev pub label_pass : ℕ → ℕ → ℕ → ℕ → ℕ → Rest → Pass
@@ -83,8 +87,8 @@ scanned names labels line words c at (l ∷ ls) =
     elim (read_on (context_for c) (read_line names l)).label [
       | some u ↦ label_pass (at + indent l) (length u) words line labels (rest_for (read_on (context_for c) (read_line names l)).effect words c (at + length l))
       | none ↦ elim (rest_for (read_on (context_for c) (read_line names l)).effect words c (at + length l)) [
-        | RestRefused n ↦ PassEnded (line_refused n line labels)
-        | Done words' c' end ↦ scanned names labels (suc line) words' c' (suc end) ls
+        | Err r ↦ PassEnded (line_refused r line labels)
+        | Ok d ↦ scanned names labels (suc line) d.words d.config (suc d.end) ls
       ]
     ]
 
@@ -102,29 +106,32 @@ first_line = record { at = 0; line = 1; labels = 0; words = 0; config = config_f
 
 -- What the walk begins with: "2 a byte above 127 (added; true line of the first)", or the first line.
 unfoldable pub begun : List ℕ → Next
-begun s = elim (every ascii s) [ true ↦ From first_line | false ↦ NextEnded (refused_at 2 0 (length (lines (before ascii s))) 0) ]
+begun s = elim (every ascii s) [ true ↦ From first_line | false ↦ NextEnded (refused_at NotAscii 0 (length (lines (before ascii s))) 0) ]
 
 -- What follows a line that comes to something, in a source of so many bytes, with labels: its refusal, the end, or the next line.
 unfoldable pub line_after : ℕ → (line labels : ℕ) → Rest → Next
-line_after size line labels (RestRefused n) = NextEnded (line_refused n line labels)
-line_after size line labels (Done words c end) =
-    elim (ltb end size) [
-      | true ↦ From (record { at = end + 1; line = line + 1; labels = labels; words = words; config = c })
-      | false ↦ NextEnded (finished_with labels words c)
+line_after size line labels (Err r) = NextEnded (line_refused r line labels)
+line_after size line labels (Ok d) =
+    elim (ltb d.end size) [
+      | true ↦ From (record { at = d.end + 1; line = line + 1; labels = labels; words = d.words; config = d.config })
+      | false ↦ NextEnded (finished_with labels d.words d.config)
     ]
 
+-- Whether a label is entered, or why it is refused.
+abbrev pub Entry : Type 0
+Entry = Result ⊤ Refusal
+
 -- What follows a label: "4 duplicate label; 5 new label, table full"; or it is entered.
-abbrev pub followed : List ℕ → LabelLine → Entered → Next
-followed s p New = line_after (length s) p.line (p.labels + 1) p.rest
-followed s p Duplicate = NextEnded (line_refused 4 p.line p.labels)
-followed s p Full = NextEnded (line_refused 5 p.line p.labels)
+abbrev pub followed : List ℕ → LabelLine → Entry → Next
+followed s p (Ok _) = line_after (length s) p.line (p.labels + 1) p.rest
+followed s p (Err r) = NextEnded (line_refused r p.line p.labels)
 
 -- ---- what the functions of the first walk promise: an equation with the definitions above, and what their callers need to call on
 
 -- A line but the last takes a byte at least, and there are no more words than may be.
 abbrev pub RestFits : ℕ → Rest → Type 0
-RestFits line (RestRefused n) = Unit {0}
-RestFits line (Done words c end) = (line ≤ end + 1) × (words ≤ 32768)
+RestFits line (Err r) = Unit {0}
+RestFits line (Ok d) = (line ≤ d.end + 1) × (d.words ≤ 32768)
 
 -- What is known of a label that is to be entered: it is a part of the source, at an address below 2^21; each line has a label at most.
 pub record Sound (s : List ℕ) (p : LabelLine) : Type 0 where
@@ -170,12 +177,12 @@ pub record Begins (s : List ℕ) (n : Next) : Type 0 where
   pub sound : ScannableNext s n
 
 -- A line that is read next is after that of the label, which has been entered.
-abbrev pub Follows : LabelLine → Entered → Next → Type 0
-Follows p e (From c) = (p.line < c.line) × (e ≡ New)
+abbrev pub Follows : LabelLine → Entry → Next → Type 0
+Follows p e (From c) = (p.line < c.line) × (e ≡ Ok tt)
 Follows p e (NextEnded o) = Unit {0}
 
 -- What follows a label that has been entered, or refused.
-pub record GoesOn (s : List ℕ) (p : LabelLine) (e : Entered) (n : Next) : Type 0 where
+pub record GoesOn (s : List ℕ) (p : LabelLine) (e : Entry) (n : Next) : Type 0 where
   pub answer : n ≡ followed s p e
   pub sound : ScannableNext s n
   pub follows : Follows p e n
@@ -191,9 +198,9 @@ pub record Accepts (names : List Name) (s : List ℕ) (room : ℕ) (labels : Lis
   pub setup_is : state.setup ≡ setup
 
 -- A verdict is what reading the source comes to, with labels entered.
-abbrev pub Judges : List Name → List ℕ → ℕ → List Meant → Verdict → Type 0
-Judges names s room labels (Rejected n rust line) = reading names s room ≡ refusing n rust line labels none
-Judges names s room labels (Finished words c) = Accepts names s room labels words (settings_meant c)
+abbrev pub Judges : List Name → List ℕ → ℕ → List Meant → Result Finished Stopped → Type 0
+Judges names s room labels (Err t) = reading names s room ≡ refusing (number_of t.refusal) t.rust_line t.line labels none
+Judges names s room labels (Ok f) = Accepts names s room labels f.words (settings_meant f.config)
 
 -- The walk has ended with labels entered.
 pub record WalkEnds (names : List Name) (s : List ℕ) (room : ℕ) (labels : List Meant) (o : Outcome) : Type 0 where
@@ -203,9 +210,9 @@ pub record WalkEnds (names : List Name) (s : List ℕ) (room : ℕ) (labels : Li
 -- ---- the second walk
 
 -- The word of a line, if it has one.
-abbrev pub coded_meant : Coding → List ℕ
-coded_meant (Word w) = w ∷ []
-coded_meant NoWord = []
+abbrev pub coded_meant : Option ℕ → List ℕ
+coded_meant (Some w) = w ∷ []
+coded_meant None = []
 
 -- The word of the line at a place, the settings after the line, and where it ends.
 pub record CodesLine (names : List Name) (s : List ℕ) (at : ℕ) (setup : Settings) (r : CodedLine) : Type 0 where
@@ -233,6 +240,6 @@ pub record Ready (names : List Name) (s : List ℕ) (words : ℕ) (setup : Setti
   pub setup_is : settings_of names s ≡ setup
 
 -- Whether the image of such a source fits an image buffer ("23 image buffer too short"), and what the buffer holds afterwards.
-pub record Fills (names : List Name) (s : List ℕ) (words : ℕ) (old new : List ℕ) (r : Fill) : Type 0 where
-  pub answer : r ≡ elim (leb (image_length words) (length old)) [ true ↦ Filled | false ↦ TooShort (image_length words) ]
+pub record Fills (names : List Name) (s : List ℕ) (words : ℕ) (old new : List ℕ) (r : Result ⊤ TooShort) : Type 0 where
+  pub answer : r ≡ elim (leb (image_length words) (length old)) [ true ↦ Ok tt | false ↦ Err (record { needed = image_length words }) ]
   pub holds : new ≡ elim (leb (image_length words) (length old)) [ true ↦ over (image_of names s) old | false ↦ old ]

@@ -1,19 +1,21 @@
 // The first walk: from label to label it finds settings, the count of words and the first refusal. Entering the labels is left to the
 // caller, who holds the label table.
 ghost use Rattle.std.specs.Prelude.{◌≡◌, ◌+◌, ◌≤◌, length, take, ltb};
+ghost use Rattle.refusal.specs.Refusals.{number_of};
 ghost use Rattle.text.specs.Lines.{lines};
 ghost use Rattle.image.specs.Assembling.{rust_line_of, most_bytes};
 ghost use Rattle.text_lexical.specs.Names.{present};
-ghost use Rattle.image_line.specs.Promised.{Tables, effect_meant};
+ghost use Rattle.image_line.specs.Promised.{effect_meant};
 ghost use Rattle.image_passes.specs.Promised.{refused_at, line_refused, finished_with, one_more, rest_for, label_pass, line_after, Sound, Scannable, ScannableNext, ReadsOn, Begins, GoesOn};
 ghost use Rattle.image_passes.specs.declared.first_pass.Next.TheVariants.{From};
 
 use image::config::Config;
 use image::limits::{ENTRY, MOST_BYTES, MOST_WORDS};
-use image_labels::label::{Entered, Label};
-use image_line::line::Effect;
+use image_labels::label::Label;
+use image_line::line::{Effect, Span};
+use refusal::refusal::Refusal;
 
-// What the first walk does next: it reads on from a line, or it has ended.
+// What the first walk does next: it reads on from a line, or it has ended. The end is no error, so this is no `Result`.
 #[derive(Clone, Copy)]
 pub enum Next {
     From(Cursor),
@@ -43,209 +45,179 @@ pub struct LabelLine {
     pub label: Label,
     pub labels: usize,
     pub line: usize,
-    pub rest: Rest,
+    pub rest: Result<Done, Refusal>,
 }
 
-// What a line comes to, its label aside.
+// The words and settings up to the end of a line, and where it ends.
 #[derive(Clone, Copy)]
-pub enum Rest {
-    // The number of the refusal.
-    Refused(u8),
-    // The words and settings up to the end of the line, and where it ends.
-    Done {
-        words: usize,
-        config: Config,
-        end: usize,
-    },
+pub struct Done {
+    pub words: usize,
+    pub config: Config,
+    pub end: usize,
 }
 
 // How the first walk has ended, and how many labels have been entered.
 #[derive(Clone, Copy)]
 pub struct Outcome {
     pub labels: usize,
-    pub verdict: Verdict,
+    pub verdict: Result<Finished, Stopped>,
 }
 
+// The words and settings of a source that has been read to its end.
 #[derive(Clone, Copy)]
-pub enum Verdict {
-    // The number of the refusal, the Rust's line and the true line.
-    Refused {
-        number: u8,
-        rust_line: usize,
-        line: usize,
-    },
-    // The words and settings of a source that has been read to its end.
-    Finished {
-        words: usize,
-        config: Config,
-    },
+pub struct Finished {
+    pub words: usize,
+    pub config: Config,
+}
+
+// Why a source is refused, the Rust's line and the true line.
+#[derive(Clone, Copy)]
+pub struct Stopped {
+    pub refusal: Refusal,
+    pub rust_line: usize,
+    pub line: usize,
 }
 
 // The number of the line that a place stands in.
+#[tactic(auto, using(crate::proofs::Passes::lines_count))]
 fn line_number(source: &[u8], place: usize) -> usize
     requires { place ≤ length source.now }
     ensures { result ≡ length (lines (take place source.now)) }
 {
-    let mut line: usize = 1;
-    let mut i: usize = 0;
-    while i < place {
-        if source[i] == b'\n' {
-            line += 1;
-        }
-        i += 1;
-    }
-    line
+    1 + source[..place].iter().filter(|b| **b == b'\n').count()
 }
 
 // The Rust's line of a refusal at a line.
-fn rust_line(number: u8, line: usize) -> usize
-    ensures { result ≡ rust_line_of number line }
+#[tactic(auto, unfolding(image::specs::Assembling::rust_line_of))]
+fn rust_line(refusal: Refusal, line: usize) -> usize
+    ensures { result ≡ rust_line_of (number_of refusal) line }
 {
-    match number {
-        3 | 8 | 18 => 0,
+    match refusal {
+        Refusal::BadToken | Refusal::NumberExpected | Refusal::NoSuchRegister => 0,
         _ => line,
     }
 }
 
 // The walk ends with a refusal.
-fn stopped(number: u8, rust_line: usize, line: usize, labels: usize) -> Outcome
-    ensures { result ≡ refused_at number rust_line line labels }
+fn refused_at(refusal: Refusal, rust_line: usize, line: usize, labels: usize) -> Outcome
+    ensures { result ≡ refused_at refusal rust_line line labels }
 {
     Outcome {
         labels,
-        verdict: Verdict::Refused {
-            number,
+        verdict: Err(Stopped {
+            refusal,
             rust_line,
             line,
-        },
+        }),
     }
 }
 
 // The walk ends with the refusal of a line.
-fn stopped_at(number: u8, line: usize, labels: usize) -> Outcome
-    ensures { result ≡ line_refused number line labels }
+fn line_refused(refusal: Refusal, line: usize, labels: usize) -> Outcome
+    ensures { result ≡ line_refused refusal line labels }
 {
-    stopped(number, rust_line(number, line), line, labels)
+    refused_at(refusal, rust_line(refusal, line), line, labels)
 }
 
 // The walk ends after the last line.
-fn finished(labels: usize, words: usize, config: Config) -> Outcome
+fn finished_with(labels: usize, words: usize, config: Config) -> Outcome
     ensures { result ≡ finished_with labels words config }
 {
     Outcome {
         labels,
-        verdict: Verdict::Finished { words, config },
+        verdict: Ok(Finished { words, config }),
     }
 }
 
-// A line with an instruction, which is refused if it is the 32,769th (22).
-fn counted(words: usize, config: Config, end: usize) -> Rest
-    ensures { result ≡ one_more words config end }
+// A line with an instruction, which is refused if it is the 32,769th.
+#[tactic(auto, unfolding(crate::specs::Promised::one_more, image::specs::Assembling::most_words))]
+fn counted(done: Done) -> Result<Done, Refusal>
+    ensures { result ≡ one_more done.words done.config done.end }
 {
-    if words < MOST_WORDS {
-        return Rest::Done {
-            words: words + 1,
-            config,
-            end,
-        };
+    if done.words < MOST_WORDS {
+        return Ok(Done {
+            words: done.words + 1,
+            ..done
+        });
     }
-    Rest::Refused(22)
+    Err(Refusal::TooManyWords)
 }
 
-// What a line comes to after so many words and with settings, by what it does and where it ends.
-fn rest_of(effect: Effect, words: usize, config: Config, end: usize) -> Rest
-    ensures { result ≡ rest_for (effect_meant effect) words config end }
+// What a line comes to by what it does; `done` is what it comes to if it does nothing.
+#[tactic(auto, unfolding(image::specs::Settings::settings), using(crate::proofs::Steps::refusal_back))]
+fn rest_of(effect: Result<Effect, Refusal>, done: Done) -> Result<Done, Refusal>
+    ensures { result ≡ rest_for (effect_meant effect) done.words done.config done.end }
 {
-    match effect {
-        Effect::Nothing => Rest::Done { words, config, end },
-        Effect::Sets(changed) => Rest::Done {
-            words,
-            config: changed,
-            end,
-        },
+    match effect? {
+        Effect::Nothing => Ok(done),
+        Effect::Sets(config) => Ok(Done { config, ..done }),
         Effect::Codes {
-            row: _,
+            mnemonic: _,
             operands: _,
-        } => counted(words, config, end),
-        Effect::Faulty(number) => Rest::Refused(number),
+        } => counted(done),
     }
 }
 
-// A label is to be entered, after so many words.
-fn at_label(
-    start: usize,
-    length: usize,
-    words: usize,
-    line: usize,
-    labels: usize,
-    rest: Rest,
-) -> Pass
-    requires { words ≤ 32768 }
-    ensures { result ≡ label_pass start «length» words line labels rest }
+// The label of a cursor's line is to be entered.
+fn at_label(span: Span, cursor: Cursor, rest: Result<Done, Refusal>) -> Pass
+    requires { cursor.words ≤ 32768 }
+    ensures { result ≡ label_pass span.start span.length cursor.words cursor.line cursor.labels rest }
 {
     let label = Label {
-        start,
-        length,
-        address: ENTRY as u64 + 4 * (words as u64),
+        start: span.start,
+        length: span.length,
+        address: ENTRY as u64 + 4 * (cursor.words as u64),
     };
     Pass::AtLabel(LabelLine {
         label,
-        labels,
-        line,
+        labels: cursor.labels,
+        line: cursor.line,
         rest,
     })
 }
 
 // What follows a line, by what it comes to, in a source of so many bytes: its refusal, the end, or the next line.
-fn after_line(size: usize, line: usize, labels: usize, rest: Rest) -> Next
+#[tactic(auto, unfolding(crate::specs::Promised::line_after, image::specs::Assembling::most_bytes))]
+fn after_line(size: usize, line: usize, labels: usize, rest: Result<Done, Refusal>) -> Next
     requires size_fits { size ≤ most_bytes }
     requires line_fits { line ≤ size + 1 }
     ensures { result ≡ line_after size line labels rest }
 {
     match rest {
-        Rest::Refused(number) => Next::Ended(stopped_at(number, line, labels)),
-        Rest::Done { words, config, end } => {
-            if size <= end {
-                return Next::Ended(finished(labels, words, config));
+        Err(refusal) => Next::Ended(line_refused(refusal, line, labels)),
+        Ok(done) => {
+            if size <= done.end {
+                return Next::Ended(finished_with(labels, done.words, done.config));
             }
             Next::From(Cursor {
-                at: end + 1,
+                at: done.end + 1,
                 line: line + 1,
                 labels,
-                words,
-                config,
+                words: done.words,
+                config: done.config,
             })
         }
     }
 }
 
 // Reads on from a line to the next label or the end.
-fn scan(
-    source: &[u8],
-    from: Cursor,
-    mnemonics: &[u64; 50],
-    forms: &[u8; 50],
-    slots: &[u8; 293],
-) -> Pass
-    requires scannable { Scannable source.now from }
-    requires tables { Tables mnemonics.now forms.now slots.now }
+#[tactic(auto, using(crate::proofs::Scanning::scans_end, crate::proofs::Scanning::scans_less))]
+fn scan(source: &[u8], from: Cursor) -> Pass
+    requires { Scannable source.now from }
     ensures { ReadsOn present source.now (From from) result }
 {
     let mut cursor = from;
+    // where a line ends is found by reading it, so there is no list of lines to walk
     loop {
-        let config = cursor.config;
-        let read = image_line::line::read_line(source, cursor.at, config, mnemonics, forms, slots);
-        let effect = read.effect;
-        let rest = rest_of(effect, cursor.words, config, read.end);
-        if read.labelled {
-            return at_label(
-                read.start,
-                read.length,
-                cursor.words,
-                cursor.line,
-                cursor.labels,
-                rest,
-            );
+        let read = image_line::line::read_line(source, cursor.at, cursor.config);
+        let quiet = Done {
+            words: cursor.words,
+            config: cursor.config,
+            end: read.end,
+        };
+        let rest = rest_of(read.effect, quiet);
+        if let Some(label) = read.label {
+            return at_label(label, cursor, rest);
         }
         match after_line(source.len(), cursor.line, cursor.labels, rest) {
             Next::Ended(outcome) => return Pass::Ended(outcome),
@@ -256,24 +228,18 @@ fn scan(
 
 // Reads on to the next label or the end, unless the walk has ended. `scan` has no other caller, so that it is compiled in line: with a
 // `Pass` that is returned through memory, each label takes half as much time again.
-pub fn read_on(
-    source: &[u8],
-    next: Next,
-    mnemonics: &[u64; 50],
-    forms: &[u8; 50],
-    slots: &[u8; 293],
-) -> Pass
-    requires scannable { ScannableNext source.now next }
-    requires tables { Tables mnemonics.now forms.now slots.now }
+pub fn read_on(source: &[u8], next: Next) -> Pass
+    requires { ScannableNext source.now next }
     ensures { ReadsOn present source.now next result }
 {
     match next {
         Next::Ended(outcome) => Pass::Ended(outcome),
-        Next::From(from) => scan(source, from, mnemonics, forms, slots),
+        Next::From(from) => scan(source, from),
     }
 }
 
 // Whether a source is refused for its length (1). This is asked before anything else is done for it.
+#[tactic(auto, unfolding(image::specs::Assembling::most_bytes))]
 pub fn too_long(source: &[u8]) -> bool
     ensures { result ≡ ltb most_bytes (length source.now) }
 {
@@ -287,7 +253,8 @@ pub fn begin(source: &[u8]) -> Next
 {
     let clean = text_lexical::bytes::ascii_end(source, 0);
     if clean < source.len() {
-        return Next::Ended(stopped(2, 0, line_number(source, clean), 0));
+        let line = line_number(source, clean);
+        return Next::Ended(refused_at(Refusal::NotAscii, 0, line, 0));
     }
     Next::From(Cursor {
         at: 0,
@@ -299,16 +266,13 @@ pub fn begin(source: &[u8]) -> Next
 }
 
 // What follows a label that has been entered, or refused: the label's refusal, that of its line, the next line or the end.
-pub fn go_on(source: &[u8], at: LabelLine, entered: Entered) -> Next
+#[tactic(auto, unfolding(image::specs::Assembling::most_bytes), using(crate::proofs::Scanning::goes_line))]
+pub fn go_on(source: &[u8], at: LabelLine, entered: Result<(), Refusal>) -> Next
     requires { Sound source.now at }
     ensures { GoesOn source.now at entered result }
 {
-    let line = at.line;
     match entered {
-        Entered::Duplicate => return Next::Ended(stopped_at(4, line, at.labels)),
-        Entered::Full => return Next::Ended(stopped_at(5, line, at.labels)),
-        Entered::New => {}
+        Err(refusal) => Next::Ended(line_refused(refusal, at.line, at.labels)),
+        Ok(()) => after_line(source.len(), at.line, at.labels + 1, at.rest),
     }
-    let rest = at.rest;
-    after_line(source.len(), line, at.labels + 1, rest)
 }

@@ -1,32 +1,56 @@
--- The rows of the table by their places: what the columns hold of them.
-use mathlib.Core.Path.{◌≡◌, refl, ◌∙◌}
+-- The code's mnemonics and the rows of the table: each mnemonic has a row of the table, and each row a mnemonic.
+use mathlib.Core.Path.{◌≡◌, refl}
 use mathlib.Core.Bool.{Bool, true}
 use mathlib.Core.List.{List, [], ◌∷◌, map}
+use mathlib.Core.Option.{some}
 use Prim.Native.Nat.{ℕ, zero, suc, ◌≤◌, ◌<◌}
 use native.Mathlib.Omega.{arith}
-use lib.ListN.{length, get_or-map, get_or}
+use lib.ListN.{length, get_or, get_or-eq_default}
 use lib.Dec.{leb, ltb}
 use borrow.Author.Tests.{leb-true, ltb-true}
-use Rattle.text_lexical.specs.Bytes.{bytes, every, each}
+use borrow.Author.Rules.{rules}
+use Rattle.text_lexical.specs.Bytes.{bytes, every, each, same, find}
 use Rattle.text_lexical.specs.Promised.{packed, key_of}
-use Rattle.text_lexical.proofs.Tests.{both}
-use Rattle.text_lexical.proofs.Strings.{every-head, every-tail}
-use Rattle.text_lexical.proofs.Keys.{is_keyed, key-short}
-use Rattle.instruction.specs.Table.{Form, R, I, Shift, Load, Store, Branch, Jump, System, row, table}
-use Rattle.instruction.specs.Promised.{no_row, row_at, form_at, form_number, mnemonic_keys, form_numbers, opcode_numbers}
+use Rattle.text_lexical.proofs.Tests.{split, both}
+use Rattle.text_lexical.proofs.Strings.{every-head, every-tail, same-eq}
+use Rattle.text_lexical.proofs.Keys.{Below, is_keyed, key-short}
+use Rattle.instruction.specs.Table.{Row, row, table, row_named, row_coded}
+use Rattle.instruction.specs.Promised.{row_for, row_of, mnemonics, mnemonic_for}
+use Rattle.instruction.specs.Fits.{InTable}
+use Rattle.instruction.specs.declared.opcode.Mnemonic.{Mnemonic}
+use Rattle.instruction.proofs.Rows.{carried, row-facts, same_row}
 
--- What a column holds of an entry.
-column-at : {A : Type 0} (f : A → ℕ) (l : List A) (i : ℕ) (d : A) → i < length l → get_or (map f l) i 0 ≡ f (get_or l i d)
-column-at f [] i d h = absurd (omega arith)
-column-at f (a ∷ l) zero d h = refl
-column-at f (a ∷ l) (suc i) d h = column-at f l i d (omega arith)
+-- The rows of the mnemonics are the table, in its order.
+pub mnemonic-rows : map row_of mnemonics ≡ table
+unfolding mnemonics row_for row_named find same table row bytes
+mnemonic-rows = refl
 
--- A test that every entry passes.
-pub each_at : {A : Type 0} (q : A → Bool) (l : List A) (i : ℕ) (d : A) → i < length l → each q l ≡ true → q (get_or l i d) ≡ true
-unfolding each
-each_at q [] i d h k = absurd (omega arith)
-each_at q (a ∷ l) zero d h k = (both (q a) (each q l) k).0
-each_at q (a ∷ l) (suc i) d h k = each_at q l i d (omega arith) (both (q a) (each q l) k).1
+-- The row of a mnemonic is one of the table.
+pub row-in-table : (m : Mnemonic) → InTable (row_of m)
+unfolding row_for row_named find same table row bytes
+row-in-table m = search rules
+
+-- A mnemonic is the one of its row's spelling,
+pub mnemonic-back : (m : Mnemonic) → mnemonic_for (row_of m).mnemonic ≡ m
+unfolding mnemonic_for mnemonics row_for row_named find same table row bytes
+mnemonic-back m = search rules
+
+-- and a row of the table is the one of its spelling's mnemonic.
+rows-back : each (λ r. same (row_of (mnemonic_for r.mnemonic)).mnemonic r.mnemonic) table ≡ true
+unfolding each mnemonic_for mnemonics row_for row_named find same table row bytes
+rows-back = refl
+
+pub row-back : (r : Row) → InTable r → row_of (mnemonic_for r.mnemonic) ≡ r
+row-back r h =
+    let m = mnemonic_for r.mnemonic in
+    same_row (row_of m) r (row-in-table m) h
+    (same-eq (row_of m).mnemonic r.mnemonic (carried (λ r. same (row_of (mnemonic_for r.mnemonic)).mnemonic r.mnemonic) rows-back r h))
+
+-- Its opcode names it.
+pub opcode-row : (m : Mnemonic) → row_coded (row_of m).opcode ≡ some (row_of m)
+opcode-row m = (row-facts (row_of m) (row-in-table m)).coded
+
+-- ---- spellings
 
 every-at : (p : ℕ → Bool) (s : List ℕ) (i : ℕ) → i < length s → every p s ≡ true → p (get_or s i 0) ≡ true
 every-at p [] i h k = absurd (omega arith)
@@ -43,51 +67,19 @@ unfolding each is_keyed every table row bytes
 table-keyed = refl
 
 -- Mnemonics are such spellings,
-pub mnemonic-short : (i : ℕ) → i < 50 → Short (row_at i).mnemonic
-unfolding is_keyed table
-mnemonic-short i h =
-    let s = (row_at i).mnemonic in
-    let (n, b) = both (leb (length s) 7) (every (λ b. ltb b 256) s) (each_at (λ r. is_keyed r.mnemonic) table i _ h table-keyed) in
+pub mnemonic-short : (m : Mnemonic) → Short (row_of m).mnemonic
+unfolding is_keyed
+mnemonic-short m =
+    let s = (row_of m).mnemonic in
+    let (n, b) = both (leb (length s) 7) (every (λ b. ltb b 256) s) (carried (λ r. is_keyed r.mnemonic) table-keyed (row_of m) (row-in-table m)) in
     record { few = leb-true (length s) 7 n; bytes_below = λ j l. ltb-true (get_or s j 0) 256 (every-at (λ b. ltb b 256) s j l b) }
 
--- and the column of keys has their bytes.
-pub mnemonic-packed : (i : ℕ) → i < 50 → get_or mnemonic_keys i 0 ≡ packed (row_at i).mnemonic
-unfolding mnemonic_keys table
-mnemonic-packed i h = column-at (λ r. key_of r.mnemonic) table i _ h ∙ key-short (row_at i).mnemonic (mnemonic-short i h).few
+pub mnemonic-below : (m : Mnemonic) → Below (row_of m).mnemonic
+mnemonic-below m i =
+    let s = (row_of m).mnemonic in
+    split i (length s) (λ l. (mnemonic-short m).bytes_below i l)
+    (λ l. let e : get_or s i 0 ≡ 0 = get_or-eq_default s 0 {n = i} l in omega arith)
 
--- The column of opcodes has numbers of seven bits.
-pub opcode-at : (i : ℕ) → get_or opcode_numbers i 0 ≡ (row_at i).opcode
-unfolding opcode_numbers
-opcode-at i = get_or-map (λ r. r.opcode) table i no_row
-
-opcodes-small : each (λ o. ltb o 128) opcode_numbers ≡ true
-unfolding each opcode_numbers table row
-opcodes-small = refl
-
-each_or : (p : ℕ → Bool) (l : List ℕ) → each p l ≡ true → p 0 ≡ true → (i : ℕ) → p (get_or l i 0) ≡ true
-unfolding each
-each_or p [] h z i = z
-each_or p (a ∷ l) h z zero = (both (p a) (each p l) h).0
-each_or p (a ∷ l) h z (suc i) = each_or p l (both (p a) (each p l) h).1 z i
-
-pub opcode-small : (i : ℕ) → get_or opcode_numbers i 0 < 128
-opcode-small i = ltb-true (get_or opcode_numbers i 0) 128 (each_or (λ o. ltb o 128) opcode_numbers opcodes-small refl i)
-
--- The column of forms has a row's form by its number.
-pub form-numbered : (f : Form) → form_at (form_number f) ≡ f
-unfolding form_number
-form-numbered R = refl
-form-numbered I = refl
-form-numbered Shift = refl
-form-numbered Load = refl
-form-numbered Store = refl
-form-numbered Branch = refl
-form-numbered Jump = refl
-form-numbered System = refl
-
-pub form_column : (i : ℕ) → i < 50 → get_or form_numbers i 0 ≡ form_number (row_at i).form
-unfolding form_numbers table
-form_column i h = column-at (λ r. form_number r.form) table i _ h
-
-pub form-at : (i : ℕ) → i < 50 → form_at (get_or form_numbers i 0) ≡ (row_at i).form
-form-at i h = rw (form_column i h) (form-numbered (row_at i).form)
+-- and their keys have their bytes.
+pub mnemonic-packed : (m : Mnemonic) → key_of (row_of m).mnemonic ≡ packed (row_of m).mnemonic
+mnemonic-packed m = key-short (row_of m).mnemonic (mnemonic-short m).few

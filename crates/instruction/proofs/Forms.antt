@@ -1,7 +1,7 @@
 -- Operands that are read one by one, from left to right, by the description of a form: what has been read of them, and what is left to
 -- read. The laws hold over any list of places; a loop that reads operands keeps `Reading` at its start, and `Marking` between an operand
 -- and the mark after it.
-use Prim.Native.Nat.{ℕ, zero, suc, pred, ◌+◌, ◌/◌, ◌%◌, ◌≤◌, ◌<◌}
+use Prim.Native.Nat.{ℕ, zero, suc, pred, ◌+◌, ◌≤◌, ◌<◌}
 use mathlib.Core.Path.{◌≡◌, refl, sym, ap, ◌∙◌, subst}
 use native.Mathlib.Omega.{arith}
 use mathlib.Core.Bool.{Bool, true, false}
@@ -12,6 +12,9 @@ use lib.Seq.{set_at}
 use lib.Dec.{eqb}
 use lib.IntN.{ℤ}
 use borrow.Author.Tests.{eq-eqb, ne_eqb}
+use Rattle.std.specs.Prelude.{Some, None}
+use Rattle.refusal.specs.Refusals.{number_of, refusals}
+use Rattle.refusal.specs.declared.refusal.Refusal.{Refusal}
 use Rattle.text_lexical.specs.Bytes.{Result, value, refused}
 use Rattle.text_lexical.specs.Promised.{index_of, register_at, whole_meant, whole_for}
 use Rattle.text_lexical.specs.declared.number.Whole.{Whole}
@@ -24,40 +27,38 @@ use Rattle.text.specs.Values.{read_number}
 use Rattle.instruction.specs.Table.{Place, reg, num, mark, a-comma, an-opening, a-closing, Form, R, I, Shift, Load, Store, Branch, Jump, System, places}
 use Rattle.instruction.specs.Operands.{Operands, no_operands, with_register, with_number, read_register, mark_byte, read_place, read_operands}
 use Rattle.instruction.specs.Promised.{no_number_lem, operands, whole_or, registers_of, operands_meant, registers_for, number_for, SettledFor}
-use Rattle.instruction.specs.Forms.{digits_for, is_number, mark_of, OperandPlace, number_place, register_place, MarkPlace, a_mark, MarkPlaces, no_mark, one_mark, Ahead, no_more, operand}
+use Rattle.instruction.specs.Forms.{operand_list, is_number, mark_of, OperandPlace, number_place, register_place, MarkPlace, a_mark, MarkPlaces, no_mark, one_mark, Ahead, no_more, operand}
 use Rattle.instruction.specs.declared.instruction.Operands.{Operands as KeptOperands}
-use Rattle.instruction.specs.declared.form.Mark.TheVariants.{Nothing, Is}
+use Rattle.instruction.specs.declared.form.Mark.{Mark}
+use Rattle.instruction.specs.declared.form.Operand.{Operand}
 
--- ---- the digits of each form
+-- ---- the operands of each form
 
 -- Forms that have their operands in common, wherever these go to in a word.
-jumping : {x z width : ℕ} {signed : Bool} → Ahead (reg x ∷ mark a-comma ∷ num z width signed ∷ []) 0o51
-unfolding is_number mark_of
-jumping = operand {left = 0o51} (omega arith) register_place (one_mark (a_mark a-comma)) (operand {left = 0o5} (omega arith) number_place no_mark (no_more refl) refl) refl
+jumping : {x z width : ℕ} {signed : Bool} → Ahead (reg x ∷ mark a-comma ∷ num z width signed ∷ []) (operand_list Jump)
+jumping = operand register_place (one_mark (a_mark a-comma)) (operand number_place no_mark no_more refl) refl
 
-immediate : {x y z width : ℕ} {signed : Bool} → Ahead (reg x ∷ mark a-comma ∷ reg y ∷ mark a-comma ∷ num z width signed ∷ []) 0o511
-unfolding is_number mark_of
-immediate = operand {left = 0o511} (omega arith) register_place (one_mark (a_mark a-comma)) jumping refl
+immediate : {x y z width : ℕ} {signed : Bool} → Ahead (reg x ∷ mark a-comma ∷ reg y ∷ mark a-comma ∷ num z width signed ∷ []) (operand_list I)
+immediate = operand register_place (one_mark (a_mark a-comma)) jumping refl
 
-memory : {x y z width : ℕ} {signed : Bool} → Ahead (reg x ∷ mark a-comma ∷ num z width signed ∷ mark an-opening ∷ reg y ∷ mark a-closing ∷ []) 0o321
-unfolding is_number mark_of
+memory : {x y z width : ℕ} {signed : Bool} → Ahead (reg x ∷ mark a-comma ∷ num z width signed ∷ mark an-opening ∷ reg y ∷ mark a-closing ∷ []) (operand_list Load)
 memory =
-    operand {left = 0o321} (omega arith) register_place (one_mark (a_mark a-comma))
-    (operand {left = 0o32} (omega arith) number_place (one_mark (a_mark an-opening)) (operand {left = 0o3} (omega arith) register_place (one_mark (a_mark a-closing)) (no_more refl) refl) refl) refl
+    operand register_place (one_mark (a_mark a-comma))
+    (operand number_place (one_mark (a_mark an-opening)) (operand register_place (one_mark (a_mark a-closing)) no_more refl) refl) refl
 
--- The digits of a form describe its places.
-pub form-ahead : (f : Form) → Ahead (places f) (digits_for f)
-unfolding places digits_for is_number mark_of
+-- The operands of a form describe its places.
+pub form-ahead : (f : Form) → Ahead (places f) (operand_list f)
+unfolding places
 form-ahead R =
-    operand {left = 0o411} (omega arith) register_place (one_mark (a_mark a-comma))
-    (operand {left = 0o41} (omega arith) register_place (one_mark (a_mark a-comma)) (operand {left = 0o4} (omega arith) register_place no_mark (no_more refl) refl) refl) refl
+    operand register_place (one_mark (a_mark a-comma))
+    (operand register_place (one_mark (a_mark a-comma)) (operand register_place no_mark no_more refl) refl) refl
 form-ahead I = immediate
 form-ahead Shift = immediate
 form-ahead Load = memory
 form-ahead Store = memory
 form-ahead Branch = immediate
 form-ahead Jump = jumping
-form-ahead System = no_more refl
+form-ahead System = no_more
 
 -- ---- registers and numbers of places
 
@@ -204,16 +205,18 @@ register-counts : {p : Place} (ps : List Place) → OperandPlace false p → reg
 unfolding regs_in
 register-counts ps register_place = refl
 
-mark-asked : {p : Place} {byte n : ℕ} → MarkPlace p byte n → (t : Token) (x : Result Operands)
-    → read_place p t x ≡ elim (eqb (mark_byte t) byte) [ true ↦ x | false ↦ refused n ]
-unfolding read_place
-mark-asked (a_mark m) t x = refl
+mark-asked : {p : Place} {byte : ℕ} {k : Refusal} → MarkPlace p byte k → (t : Token) (x : Result Operands)
+    → read_place p t x ≡ elim (eqb (mark_byte t) byte) [ true ↦ x | false ↦ refused (number_of k) ]
+unfolding read_place refusals
+mark-asked (a_mark a-comma) t x = refl
+mark-asked (a_mark an-opening) t x = refl
+mark-asked (a_mark a-closing) t x = refl
 
-mark-regs : {p : Place} {byte n : ℕ} (ps : List Place) → MarkPlace p byte n → regs_in (p ∷ ps) ≡ regs_in ps
+mark-regs : {p : Place} {byte : ℕ} {k : Refusal} (ps : List Place) → MarkPlace p byte k → regs_in (p ∷ ps) ≡ regs_in ps
 unfolding regs_in
 mark-regs ps (a_mark m) = refl
 
-mark-nums : {p : Place} {byte n : ℕ} (ps : List Place) → MarkPlace p byte n → nums_in (p ∷ ps) ≡ nums_in ps
+mark-nums : {p : Place} {byte : ℕ} {k : Refusal} (ps : List Place) → MarkPlace p byte k → nums_in (p ∷ ps) ≡ nums_in ps
 unfolding nums_in
 mark-nums ps (a_mark m) = refl
 
@@ -272,7 +275,7 @@ module _ {all : List Place} {pre : List Token} {ps : List Place} {count : ℕ} {
         reads = read-on t q q.got (some z) (λ x. rw (number_read t (number_place {bit = b} {width = d} {signed = f}) e x, not-counted q.number none_yet) (joined_number (map index_of q.got) z x));
       }
 
-  partly-mark : {p : Place} {byte n : ℕ} (t : Token) → MarkPlace p byte n → Partly all pre (p ∷ ps) count rs w → mark_byte t ≡ byte
+  partly-mark : {p : Place} {byte : ℕ} {k : Refusal} (t : Token) → MarkPlace p byte k → Partly all pre (p ∷ ps) count rs w → mark_byte t ≡ byte
       → Partly all (pre ++ (t ∷ [])) ps count rs w
   partly-mark {p} {byte} t m q e =
       record {
@@ -296,146 +299,144 @@ module _ {all : List Place} {pre : List Token} {ps : List Place} {count : ℕ} {
   unfolding read_operands joined
   partly-refused t ts q e = q.reads (t ∷ ts) ∙ rw e
 
--- ---- by the digits
+-- ---- by the operands
 
--- The operand that the lowest digit describes, and those after it.
-record Next (ps : List Place) (left : ℕ) : Type 0 where
+-- The places of the first of the operands, and those after it.
+record Next (ps : List Place) (o : Operand) (os : List Operand) : Type 0 where
   place : Place
   marks : List Place
   rest : List Place
   splits : ps ≡ place ∷ (marks ++ rest)
-  operand-place : OperandPlace (is_number (left % 8)) place
-  mark-places : MarkPlaces (mark_of (left % 8)) marks
-  ahead : Ahead rest (left / 8)
+  operand-place : OperandPlace (is_number o) place
+  mark-places : MarkPlaces (mark_of o) marks
+  ahead : Ahead rest os
 
-next_of : {ps : List Place} {left : ℕ} → Ahead ps left → 0 < left → Next ps left
-next_of (no_more e) h = absurd (omega arith)
-next_of (operand {p = p} {ms = ms} {ps = rest} l o m a e) h =
+next_of : {ps : List Place} {o : Operand} {os : List Operand} → Ahead ps (o ∷ os) → Next ps o os
+next_of (operand {p = p} {ms = ms} {ps = rest} o m a e) =
     record { place = p; marks = ms; rest = rest; splits = e; operand-place = o; mark-places = m; ahead = a }
 
-none_ahead : {ps : List Place} {left : ℕ} → Ahead ps left → (0 < left → ⊥) → ps ≡ []
-none_ahead (no_more e) over = refl
-none_ahead (operand l o m a e) over = absurd (over l)
+none_ahead : {ps : List Place} → Ahead ps [] → ps ≡ []
+none_ahead no_more = refl
 
-none-marked : {ms : List Place} → MarkPlaces Nothing ms → ms ≡ []
+none-marked : {ms : List Place} → MarkPlaces None ms → ms ≡ []
 none-marked no_mark = refl
 
-one-marked : {byte n : ℕ} {ms : List Place} → MarkPlaces (Is byte n) ms → (p : Place) × (MarkPlace p byte n × (ms ≡ p ∷ []))
+one-marked : {m : Mark} {ms : List Place} → MarkPlaces (Some m) ms → (p : Place) × (MarkPlace p m.byte m.refusal × (ms ≡ p ∷ []))
 one-marked (one_mark {p = p} m) = (p, (m, refl))
 
 -- ---- how many tokens there are
 
--- So many tokens are counted before an operand.
-pub record Counting (all : List Place) (n left : ℕ) : Type 0 where
+-- So many tokens are counted before the operands that are left.
+pub record Counting (all : List Place) (n : ℕ) (left : List Operand) : Type 0 where
   ps : List Place
   ahead : Ahead ps left
   sum : n + length ps ≡ length all
 
-pub counting-begin : {all : List Place} {left : ℕ} → Ahead all left → Counting all 0 left
+pub counting-begin : {all : List Place} {left : List Operand} → Ahead all left → Counting all 0 left
 counting-begin {all} a = record { ps = all; ahead = a; sum = omega arith }
 
-module _ {all : List Place} {n left : ℕ} (q : Counting all n left) where
-  pub counting-none : 0 < left → mark_of (left % 8) ≡ Nothing → Counting all (n + 1) (left / 8)
-  counting-none h e =
-      let x = next_of q.ahead h in
+module _ {all : List Place} {n : ℕ} {o : Operand} {os : List Operand} (q : Counting all n (o ∷ os)) where
+  pub counting-none : mark_of o ≡ None → Counting all (n + 1) os
+  counting-none e =
+      let x = next_of q.ahead in
       let m = none-marked (subst (λ m. MarkPlaces m x.marks) e x.mark-places) in
       record { ps = x.rest; ahead = x.ahead; sum = omega (arith, q.sum, ap length (rw m at x.splits)) }
 
-  pub counting-mark : {byte k : ℕ} → 0 < left → mark_of (left % 8) ≡ Is byte k → Counting all (n + 1 + 1) (left / 8)
-  counting-mark h e =
-      let x = next_of q.ahead h in
+  pub counting-mark : {m : Mark} → mark_of o ≡ Some m → Counting all (n + 1 + 1) os
+  counting-mark e =
+      let x = next_of q.ahead in
       let (p, (m, l)) = one-marked (subst (λ m. MarkPlaces m x.marks) e x.mark-places) in
       record { ps = x.rest; ahead = x.ahead; sum = omega (arith, q.sum, ap length (rw l at x.splits)) }
 
-  pub counting-most : n ≤ length all
-  counting-most = omega (arith, q.sum)
+pub counting-most : {all : List Place} {n : ℕ} {left : List Operand} → Counting all n left → n ≤ length all
+counting-most q = omega (arith, q.sum)
 
-  pub counting-end : (0 < left → ⊥) → n ≡ length all
-  counting-end over = omega (arith, q.sum, ap length (none_ahead q.ahead over))
+pub counting-end : {all : List Place} {n : ℕ} → Counting all n [] → n ≡ length all
+counting-end q = omega (arith, q.sum, ap length (none_ahead q.ahead))
 
--- ---- what has been read, by the digits
+-- ---- what has been read, by the operands
 
--- Before an operand,
-pub record Reading (all : List Place) (pre : List Token) (count : ℕ) (rs : List Register) (w : Whole) (left : ℕ) : Type 0 where
+-- Before the operands that are left,
+pub record Reading (all : List Place) (pre : List Token) (count : ℕ) (rs : List Register) (w : Whole) (left : List Operand) : Type 0 where
   ps : List Place
   ahead : Ahead ps left
   partly : Partly all pre ps count rs w
 
 -- and between an operand and the mark that may follow it.
-pub record Marking (all : List Place) (pre : List Token) (count : ℕ) (rs : List Register) (w : Whole) (left : ℕ) : Type 0 where
+pub record Marking (all : List Place) (pre : List Token) (count : ℕ) (rs : List Register) (w : Whole) (o : Operand) (os : List Operand) : Type 0 where
   marks : List Place
   rest : List Place
-  mark-places : MarkPlaces (mark_of (left % 8)) marks
-  ahead : Ahead rest (left / 8)
+  mark-places : MarkPlaces (mark_of o) marks
+  ahead : Ahead rest os
   partly : Partly all pre (marks ++ rest) count rs w
 
-pub reading-begin : {all : List Place} {left : ℕ} → Room all → Ahead all left → Reading all [] 0 (replicate 3 R0) no_number_lem left
+pub reading-begin : {all : List Place} {left : List Operand} → Room all → Ahead all left → Reading all [] 0 (replicate 3 R0) no_number_lem left
 reading-begin {all} room a = record { ps = all; ahead = a; partly = partly-begin all room }
 
-module _ {all : List Place} {pre : List Token} {count : ℕ} {rs : List Register} {w : Whole} {left : ℕ} where
+module _ {all : List Place} {pre : List Token} {count : ℕ} {rs : List Register} {w : Whole} {o : Operand} {os : List Operand} where
   -- The place of the next operand, by whether it is a number's.
-  ahead-at : (q : Reading all pre count rs w left) (h : 0 < left) {b : Bool} → is_number (left % 8) ≡ b
-      → let n = next_of q.ahead h in OperandPlace b n.place × Partly all pre (n.place ∷ (n.marks ++ n.rest)) count rs w
-  ahead-at q h e =
-      let n = next_of q.ahead h in
+  ahead-at : (q : Reading all pre count rs w (o ∷ os)) {b : Bool} → is_number o ≡ b
+      → let n = next_of q.ahead in OperandPlace b n.place × Partly all pre (n.place ∷ (n.marks ++ n.rest)) count rs w
+  ahead-at q e =
+      let n = next_of q.ahead in
       (subst (λ b. OperandPlace b n.place) e n.operand-place, subst (λ ps. Partly all pre ps count rs w) n.splits q.partly)
 
-  pub reading-register : Reading all pre count rs w left → 0 < left → is_number (left % 8) ≡ false → (t : Token) (r : Register) → read_register t ≡ value (index_of r)
-      → Marking all (pre ++ (t ∷ [])) (count + 1) (set rs count r) w left
-  reading-register q h letter t r e =
-      let n = next_of q.ahead h in
-      let (o, p) = ahead-at q h letter in
+  pub reading-register : Reading all pre count rs w (o ∷ os) → is_number o ≡ false → (t : Token) (r : Register) → read_register t ≡ value (index_of r)
+      → Marking all (pre ++ (t ∷ [])) (count + 1) (set rs count r) w o os
+  reading-register q letter t r e =
+      let n = next_of q.ahead in
+      let (o, p) = ahead-at q letter in
       record { marks = n.marks; rest = n.rest; mark-places = n.mark-places; ahead = n.ahead; partly = partly-register t r o p e }
 
-  pub reading-number : Reading all pre count rs w left → 0 < left → is_number (left % 8) ≡ true → (t : Token) (z : ℤ) (w' : Whole) → read_number t ≡ value z → w' ≡ whole_for z
-      → Marking all (pre ++ (t ∷ [])) count rs w' left
-  reading-number q h digit t z w' e s =
-      let n = next_of q.ahead h in
-      let (o, p) = ahead-at q h digit in
+  pub reading-number : Reading all pre count rs w (o ∷ os) → is_number o ≡ true → (t : Token) (z : ℤ) (w' : Whole) → read_number t ≡ value z → w' ≡ whole_for z
+      → Marking all (pre ++ (t ∷ [])) count rs w' o os
+  reading-number q digit t z w' e s =
+      let n = next_of q.ahead in
+      let (o, p) = ahead-at q digit in
       record { marks = n.marks; rest = n.rest; mark-places = n.mark-places; ahead = n.ahead; partly = partly-number t z w' o p e s }
 
-  pub marking-none : Marking all pre count rs w left → mark_of (left % 8) ≡ Nothing → Reading all pre count rs w (left / 8)
+  pub marking-none : Marking all pre count rs w o os → mark_of o ≡ None → Reading all pre count rs w os
   marking-none q e =
       let m = none-marked (subst (λ m. MarkPlaces m q.marks) e q.mark-places) in
       record { ps = q.rest; ahead = q.ahead; partly = subst (λ ms. Partly all pre (ms ++ q.rest) count rs w) m q.partly }
 
   -- The place of the mark that follows.
-  mark-ahead : {byte n : ℕ} (q : Marking all pre count rs w left) → mark_of (left % 8) ≡ Is byte n
-      → (p : Place) × (MarkPlace p byte n × Partly all pre (p ∷ q.rest) count rs w)
+  mark-ahead : {m : Mark} (q : Marking all pre count rs w o os) → mark_of o ≡ Some m
+      → (p : Place) × (MarkPlace p m.byte m.refusal × Partly all pre (p ∷ q.rest) count rs w)
   mark-ahead q e =
       let (p, (m, l)) = one-marked (subst (λ m. MarkPlaces m q.marks) e q.mark-places) in
       (p, (m, subst (λ ms. Partly all pre (ms ++ q.rest) count rs w) l q.partly))
 
-  pub marking-mark : {byte n : ℕ} → Marking all pre count rs w left → mark_of (left % 8) ≡ Is byte n → (t : Token) → mark_byte t ≡ byte
-      → Reading all (pre ++ (t ∷ [])) count rs w (left / 8)
+  pub marking-mark : {m : Mark} → Marking all pre count rs w o os → mark_of o ≡ Some m → (t : Token) → mark_byte t ≡ m.byte
+      → Reading all (pre ++ (t ∷ [])) count rs w os
   marking-mark q e t b = let (p, (m, y)) = mark-ahead q e in record { ps = q.rest; ahead = q.ahead; partly = partly-mark t m y b }
 
   -- What a token is refused for.
-  pub register-refused : {k : ℕ} → Reading all pre count rs w left → 0 < left → is_number (left % 8) ≡ false → (t : Token) (ts : List Token)
+  pub register-refused : {k : ℕ} → Reading all pre count rs w (o ∷ os) → is_number o ≡ false → (t : Token) (ts : List Token)
       → read_register t ≡ refused k → read_operands all (pre ++ (t ∷ ts)) ≡ refused k
-  register-refused q h letter t ts e = let (o, p) = ahead-at q h letter in partly-refused t ts p (register-refuses t o e _)
+  register-refused q letter t ts e = let (o, p) = ahead-at q letter in partly-refused t ts p (register-refuses t o e _)
 
-  pub number-refused : {k : ℕ} → Reading all pre count rs w left → 0 < left → is_number (left % 8) ≡ true → (t : Token) (ts : List Token)
+  pub number-refused : {k : ℕ} → Reading all pre count rs w (o ∷ os) → is_number o ≡ true → (t : Token) (ts : List Token)
       → read_number t ≡ refused k → read_operands all (pre ++ (t ∷ ts)) ≡ refused k
-  number-refused q h digit t ts e = let (o, p) = ahead-at q h digit in partly-refused t ts p (number-refuses t o e _)
+  number-refused q digit t ts e = let (o, p) = ahead-at q digit in partly-refused t ts p (number-refuses t o e _)
 
-  pub mark-refused : {byte n : ℕ} → Marking all pre count rs w left → mark_of (left % 8) ≡ Is byte n → (t : Token) (ts : List Token)
-      → (mark_byte t ≡ byte → ⊥) → read_operands all (pre ++ (t ∷ ts)) ≡ refused n
-  mark-refused {byte} q e t ts b =
-      let (p, (m, y)) = mark-ahead q e in
-      partly-refused t ts y (mark-asked m t _ ∙ rw (ne_eqb (mark_byte t) byte b))
+  pub mark-refused : {m : Mark} → Marking all pre count rs w o os → mark_of o ≡ Some m → (t : Token) (ts : List Token)
+      → (mark_byte t ≡ m.byte → ⊥) → read_operands all (pre ++ (t ∷ ts)) ≡ refused (number_of m.refusal)
+  mark-refused {m} q e t ts b =
+      let (p, (k, y)) = mark-ahead q e in
+      partly-refused t ts y (mark-asked k t _ ∙ rw (ne_eqb (mark_byte t) m.byte b))
 
   -- There is a token for an operand, and for a mark; and room for a register.
-  pub operand-within : Reading all pre count rs w left → 0 < left → length pre < length all
-  operand-within q h = let n = next_of q.ahead h in omega (arith, q.partly.sum, ap length n.splits)
+  pub operand-within : Reading all pre count rs w (o ∷ os) → length pre < length all
+  operand-within q = let n = next_of q.ahead in omega (arith, q.partly.sum, ap length n.splits)
 
-  pub mark-within : {byte n : ℕ} → Marking all pre count rs w left → mark_of (left % 8) ≡ Is byte n → length pre < length all
+  pub mark-within : {m : Mark} → Marking all pre count rs w o os → mark_of o ≡ Some m → length pre < length all
   mark-within q e = let (p, (m, y)) = mark-ahead q e in omega (arith, y.sum)
 
-  pub register-room : Reading all pre count rs w left → 0 < left → is_number (left % 8) ≡ false → count < 3
-  register-room q h letter =
-      let n = next_of q.ahead h in
-      let (o, p) = ahead-at q h letter in
+  pub register-room : Reading all pre count rs w (o ∷ os) → is_number o ≡ false → count < 3
+  register-room q letter =
+      let n = next_of q.ahead in
+      let (o, p) = ahead-at q letter in
       omega (arith, register-counts (n.marks ++ n.rest) o, p.regs, p.room.few)
 
 -- ---- the end
@@ -491,6 +492,6 @@ module _ {all : List Place} {pre : List Token} {count : ℕ} {rs : List Register
         settled = rw (registers, number, q.stands, q.held, held_at q.got q.free 0, held_at q.got q.free 1, held_at q.got q.free 2);
       }
 
-pub reading-end : {all : List Place} {pre : List Token} {count : ℕ} {rs : List Register} {w : Whole} {left : ℕ} → Reading all pre count rs w left → (0 < left → ⊥)
+pub reading-end : {all : List Place} {pre : List Token} {count : ℕ} {rs : List Register} {w : Whole} → Reading all pre count rs w []
     → Complete all pre (operands (get_or rs 0 R0) (get_or rs 1 R0) (get_or rs 2 R0) w)
-reading-end {all} {pre} {count} {rs} {w} q over = partly-end (subst (λ ps. Partly all pre ps count rs w) (none_ahead q.ahead over) q.partly)
+reading-end {all} {pre} {count} {rs} {w} q = partly-end (subst (λ ps. Partly all pre ps count rs w) (none_ahead q.ahead) q.partly)

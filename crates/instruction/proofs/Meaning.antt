@@ -13,7 +13,7 @@ use Rattle.instruction.specs.Promised.{row_for, registers_for, number_for, regis
 use Rattle.instruction.specs.declared.instruction.Instruction.{Instruction}
 use Rattle.instruction.specs.Fits.{places_of, Regs, number_field, has_number, Fits, reduced_to}
 use Rattle.instruction.proofs.Rows.{named-row}
-use Rattle.instruction.proofs.Parts.{row_of, register-below}
+use Rattle.instruction.proofs.Parts.{instruction-row, register-below}
 use Rattle.instruction.proofs.Decoding.{decode-encode, encode-decode}
 
 -- ---- it fits
@@ -42,7 +42,7 @@ meant-fits i =
     let r = row_for (parts_of i).mnemonic in
     let o = (parts_of i).operands in
     record {
-      in_table = (named-row (parts_of i).mnemonic r (row_of i)).0;
+      in_table = (named-row (parts_of i).mnemonic r (instruction-row i)).0;
       registers = registers-fit r.form _ _ _ (register-below o.first) (register-below o.second) (register-below o.third);
       number = number_fits (places_of r) _;
     }
@@ -56,7 +56,7 @@ pub meant-tells : (i j : Instruction) → instruction_meant i ≡ instruction_me
     × (number_for ps (whole_meant (parts_of i).operands.number) ≡ number_for ps (whole_meant (parts_of j).operands.number))
 meant-tells i j e =
     let r = ap (λ (x : Meant). x.row) e in (
-      sym (named-row (parts_of i).mnemonic _ (row_of i)).1 ∙ ap (λ (x : Row). x.mnemonic) r ∙ (named-row (parts_of j).mnemonic _ (row_of j)).1,
+      sym (named-row (parts_of i).mnemonic _ (instruction-row i)).1 ∙ ap (λ (x : Row). x.mnemonic) r ∙ (named-row (parts_of j).mnemonic _ (instruction-row j)).1,
       ap (λ (x : Meant). x.registers) e ∙ ap (λ (x : Row). registers_for (places_of x) (registers_of (parts_of j).operands)) (sym r),
       ap (λ (x : Meant). x.number) e ∙ ap (λ (x : Row). number_for (places_of x) (whole_meant (parts_of j).operands.number)) (sym r),
     )

@@ -12,7 +12,7 @@ use Rattle.text_lexical.specs.Promised.{whole_for}
 use Rattle.text_lexical.specs.declared.number.Whole.{Whole}
 use Rattle.text_lexical.proofs.Tests.{both, and_both}
 use Rattle.text.specs.Promised.{extract_for}
-use Rattle.text.specs.declared.parser.Extracted.TheVariants.{Number as Extract}
+use Rattle.std.specs.Prelude.{Ok}
 
 -- ---- what a value tells of the tests before it
 
@@ -39,7 +39,7 @@ result_value (value a) f b e = (a, refl, e)
 result_value (refused k) f b e = not_refused e
 
 -- A number that was taken from a token is the one that the token is read as.
-pub extracted-is : {w : Whole} (x : Result ℤ) → Extract w ≡ extract_for x → (z : ℤ) × ((x ≡ value z) × (w ≡ whole_for z))
+pub extracted-is : {w : Whole} (x : Result ℤ) → Ok w ≡ extract_for x → (z : ℤ) × ((x ≡ value z) × (w ≡ whole_for z))
 extracted-is (value z) e = (z, (refl, cc))
 extracted-is (refused n) e = absurd (let z : ◌≡◌ {A = ℕ} 0 1 = cc in omega arith)
 

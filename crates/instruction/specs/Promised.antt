@@ -1,79 +1,115 @@
 -- What the code's values mean in terms of the definitions, and what its functions promise.
-use Rattle.std.specs.Prelude.{ℕ, zero, suc, ◌/◌, ◌%◌, ◌<◌, ◌≡◌, true, false, List, [], ◌∷◌, map, get_or, eqb, ℤ}
-use Prim.Native.String.{String}
+use Rattle.std.specs.Prelude.{ℕ, ◌≡◌, false, List, [], ◌∷◌, get_or, ℤ, Some, None}
+use Rattle.std.specs.Prelude.{Option as StdOption}
 use Rattle.std.proofs.Math.Option.{Option, none, some}
-use Rattle.text_lexical.specs.Bytes.{bytes}
-use Rattle.text_lexical.specs.Promised.{key_of, index_of, register_at, whole_meant, whole_for}
+use Rattle.text_lexical.specs.Bytes.{bytes, same, find}
+use Rattle.text_lexical.specs.Promised.{index_of, register_at, whole_meant, whole_for}
 use Rattle.text_lexical.specs.declared.register.Register.{Register}
 use Rattle.text_lexical.specs.declared.register.Register.TheVariants.{R0}
 use Rattle.text_lexical.specs.declared.number.Whole.{Whole}
-use Rattle.instruction.specs.Table.{Place, reg, num, mark, Form, R, I, Shift, Load, Store, Branch, Jump, System, places, Row, table, row_named}
+use Rattle.instruction.specs.Table.{Place, reg, num, mark, Form, R, I, Shift, Load, Store, Branch, Jump, System, places, Row, row_named}
 use Rattle.instruction.specs.Operands.{Instruction as Meant, Operands as MeantOperands}
 use Rattle.instruction.specs.declared.instruction.Instruction.{Instruction}
 use Rattle.instruction.specs.declared.instruction.Instruction.TheVariants.{Add, Sub, Mul, Mulh, Divu, Remu, Div, Rem, Addi, And, Or, Xor, Andi, Ori, Xori, Sll, Srl, Sra, Slli, Srli, Srai, Sltu, Sgeu, Slt, Sge, Seq, Sne, Cmov, Cmovz, Cmovnz, Lb, Lbu, Lh, Lhu, Lw, Ld, Sb, Sh, Sw, Sd, Beq, Bne, Blt, Bge, Bltu, Bgeu, Jal, Jalr, Ecall, Ebreak}
 use Rattle.instruction.specs.declared.instruction.Operands.{Operands}
-use Rattle.instruction.specs.declared.opcode.Row.{Row as Looked}
-use Rattle.instruction.specs.declared.opcode.Row.TheVariants.{At, Missing}
+use Rattle.instruction.specs.declared.form.Form.{Form as CodeForm}
+use Rattle.instruction.specs.declared.form.Form.TheVariants as F
+use Rattle.instruction.specs.declared.opcode.Mnemonic.{Mnemonic}
+use Rattle.instruction.specs.declared.opcode.Mnemonic.TheVariants as M
 
 -- ---- the table
 
--- What a place or a spelling without a row stands for.
+-- What a spelling without a row stands for.
 abbrev pub no_row : Row
 no_row = record { mnemonic = []; opcode = 0; form = System }
 
--- A row of the table by its place in it, and by its mnemonic. (The mnemonic of each case names one: `row_of`.)
-abbrev pub row_at : ℕ → Row
-row_at i = get_or table i no_row
-
+-- A row of the table by its mnemonic.
 unfoldable pub row_for : List ℕ → Row
 row_for s = elim (row_named s) [ some r ↦ r | none ↦ no_row ]
 
--- A form by its number.
-abbrev pub form_at : ℕ → Form
-form_at n = get_or (R ∷ I ∷ Shift ∷ Load ∷ Store ∷ Branch ∷ Jump ∷ []) n System
+-- The spelling of each mnemonic of the code's, and the row that it names.
+abbrev pub spelling : Mnemonic → List ℕ
+spelling M.Add = bytes "add"
+spelling M.Sub = bytes "sub"
+spelling M.Mul = bytes "mul"
+spelling M.Mulh = bytes "mulh"
+spelling M.Divu = bytes "divu"
+spelling M.Remu = bytes "remu"
+spelling M.Div = bytes "div"
+spelling M.Rem = bytes "rem"
+spelling M.Addi = bytes "addi"
+spelling M.And = bytes "and"
+spelling M.Or = bytes "or"
+spelling M.Xor = bytes "xor"
+spelling M.Andi = bytes "andi"
+spelling M.Ori = bytes "ori"
+spelling M.Xori = bytes "xori"
+spelling M.Sll = bytes "sll"
+spelling M.Srl = bytes "srl"
+spelling M.Sra = bytes "sra"
+spelling M.Slli = bytes "slli"
+spelling M.Srli = bytes "srli"
+spelling M.Srai = bytes "srai"
+spelling M.Sltu = bytes "sltu"
+spelling M.Sgeu = bytes "sgeu"
+spelling M.Slt = bytes "slt"
+spelling M.Sge = bytes "sge"
+spelling M.Seq = bytes "seq"
+spelling M.Sne = bytes "sne"
+spelling M.Cmov = bytes "cmov"
+spelling M.Cmovz = bytes "cmovz"
+spelling M.Cmovnz = bytes "cmovnz"
+spelling M.Lb = bytes "lb"
+spelling M.Lbu = bytes "lbu"
+spelling M.Lh = bytes "lh"
+spelling M.Lhu = bytes "lhu"
+spelling M.Lw = bytes "lw"
+spelling M.Ld = bytes "ld"
+spelling M.Sb = bytes "sb"
+spelling M.Sh = bytes "sh"
+spelling M.Sw = bytes "sw"
+spelling M.Sd = bytes "sd"
+spelling M.Beq = bytes "beq"
+spelling M.Bne = bytes "bne"
+spelling M.Blt = bytes "blt"
+spelling M.Bge = bytes "bge"
+spelling M.Bltu = bytes "bltu"
+spelling M.Bgeu = bytes "bgeu"
+spelling M.Jal = bytes "jal"
+spelling M.Jalr = bytes "jalr"
+spelling M.Ecall = bytes "ecall"
+spelling M.Ebreak = bytes "ebreak"
 
-unfoldable pub form_number : Form → ℕ
-form_number R = 0
-form_number I = 1
-form_number Shift = 2
-form_number Load = 3
-form_number Store = 4
-form_number Branch = 5
-form_number Jump = 6
-form_number System = 7
+abbrev pub row_of : Mnemonic → Row
+row_of m = row_for (spelling m)
 
--- The columns of the table, as the code's constants hold them.
-unfoldable pub mnemonic_keys : List ℕ
-mnemonic_keys = map (λ r. key_of r.mnemonic) table
+-- The mnemonics in the order of the table, and the one whose row has a spelling; Ebreak, where none has it.
+unfoldable pub mnemonics : List Mnemonic
+mnemonics =
+    M.Add ∷ M.Sub ∷ M.Mul ∷ M.Mulh ∷ M.Divu ∷ M.Remu ∷ M.Div ∷ M.Rem ∷ M.Addi ∷ M.And
+    ∷ M.Or ∷ M.Xor ∷ M.Andi ∷ M.Ori ∷ M.Xori ∷ M.Sll ∷ M.Srl ∷ M.Sra ∷ M.Slli ∷ M.Srli
+    ∷ M.Srai ∷ M.Sltu ∷ M.Sgeu ∷ M.Slt ∷ M.Sge ∷ M.Seq ∷ M.Sne ∷ M.Cmov ∷ M.Cmovz ∷ M.Cmovnz
+    ∷ M.Lb ∷ M.Lbu ∷ M.Lh ∷ M.Lhu ∷ M.Lw ∷ M.Ld ∷ M.Sb ∷ M.Sh ∷ M.Sw ∷ M.Sd
+    ∷ M.Beq ∷ M.Bne ∷ M.Blt ∷ M.Bge ∷ M.Bltu ∷ M.Bgeu ∷ M.Jal ∷ M.Jalr ∷ M.Ecall ∷ M.Ebreak ∷ []
 
-unfoldable pub opcode_numbers : List ℕ
-opcode_numbers = map (λ r. r.opcode) table
+unfoldable pub mnemonic_for : List ℕ → Mnemonic
+mnemonic_for s = elim (find (λ m. same (row_of m).mnemonic s) mnemonics) [ some m ↦ m | none ↦ M.Ebreak ]
 
-unfoldable pub form_numbers : List ℕ
-form_numbers = map (λ r. form_number r.form) table
+-- The form of each of the code's.
+abbrev pub form_meant : CodeForm → Form
+form_meant F.R = R
+form_meant F.I = I
+form_meant F.Shift = Shift
+form_meant F.Load = Load
+form_meant F.Store = Store
+form_meant F.Branch = Branch
+form_meant F.Jump = Jump
+form_meant F.System = System
 
--- Where the row stands whose mnemonic's key leaves a residue modulo 293: its place in the table, and 50 where there is none.
-unfoldable pub slot_row : ℕ → List ℕ → ℕ
-slot_row residue [] = 0
-slot_row residue (k ∷ ks) = elim (eqb (k % 293) residue) [ true ↦ 0 | false ↦ suc (slot_row residue ks) ]
-
--- For so many residues, from one on.
-unfoldable pub slot_rows_from : ℕ → ℕ → List ℕ
-slot_rows_from residue zero = []
-slot_rows_from residue (suc n) = slot_row residue mnemonic_keys ∷ slot_rows_from (suc residue) n
-
-unfoldable pub slot_rows : List ℕ
-slot_rows = slot_rows_from 0 293
-
--- How many numbers below an opcode are no opcodes, as the code counts them: the same for all opcodes among eight numbers, and from 88 on
--- any number. No public contract cites it.
-unfoldable pub unused_below : ℕ → ℕ
-unused_below c = get_or (0 ∷ 0 ∷ 7 ∷ 9 ∷ 11 ∷ 11 ∷ 18 ∷ 20 ∷ 24 ∷ 26 ∷ 32 ∷ []) (c / 8) c
-
--- A row that was looked for: where it stands in the table.
-abbrev pub IsRow : Looked → Option Row → Type 0
-IsRow (At i) o = (i < 50) × (o ≡ some (row_at i))
-IsRow Missing o = o ≡ none
+-- The row of a mnemonic that was looked for.
+abbrev pub found_meant : StdOption Mnemonic → Option Row
+found_meant (Some m) = some (row_of m)
+found_meant None = none
 
 -- ---- instructions
 
@@ -92,61 +128,61 @@ pub record Named : Type 0 where
   pub mnemonic : List ℕ
   pub operands : Operands
 
-abbrev pub of : String → Register → Register → Register → Whole → Named
-of s a b c n = record { mnemonic = bytes s; operands = operands a b c n }
+abbrev pub of : Mnemonic → Register → Register → Register → Whole → Named
+of m a b c n = record { mnemonic = spelling m; operands = operands a b c n }
 
 -- An instruction's mnemonic, and its registers and number in operand order; R0 and 0 where it has none.
 abbrev pub parts_of : Instruction → Named
-parts_of (Add d a b) = of "add" d a b no_number_lem
-parts_of (Sub d a b) = of "sub" d a b no_number_lem
-parts_of (Mul d a b) = of "mul" d a b no_number_lem
-parts_of (Mulh d a b) = of "mulh" d a b no_number_lem
-parts_of (Divu d a b) = of "divu" d a b no_number_lem
-parts_of (Remu d a b) = of "remu" d a b no_number_lem
-parts_of (Div d a b) = of "div" d a b no_number_lem
-parts_of (Rem d a b) = of "rem" d a b no_number_lem
-parts_of (Addi d a n) = of "addi" d a R0 n
-parts_of (And d a b) = of "and" d a b no_number_lem
-parts_of (Or d a b) = of "or" d a b no_number_lem
-parts_of (Xor d a b) = of "xor" d a b no_number_lem
-parts_of (Andi d a n) = of "andi" d a R0 n
-parts_of (Ori d a n) = of "ori" d a R0 n
-parts_of (Xori d a n) = of "xori" d a R0 n
-parts_of (Sll d a b) = of "sll" d a b no_number_lem
-parts_of (Srl d a b) = of "srl" d a b no_number_lem
-parts_of (Sra d a b) = of "sra" d a b no_number_lem
-parts_of (Slli d a n) = of "slli" d a R0 n
-parts_of (Srli d a n) = of "srli" d a R0 n
-parts_of (Srai d a n) = of "srai" d a R0 n
-parts_of (Sltu d a b) = of "sltu" d a b no_number_lem
-parts_of (Sgeu d a b) = of "sgeu" d a b no_number_lem
-parts_of (Slt d a b) = of "slt" d a b no_number_lem
-parts_of (Sge d a b) = of "sge" d a b no_number_lem
-parts_of (Seq d a b) = of "seq" d a b no_number_lem
-parts_of (Sne d a b) = of "sne" d a b no_number_lem
-parts_of (Cmov d a b) = of "cmov" d a b no_number_lem
-parts_of (Cmovz d a b) = of "cmovz" d a b no_number_lem
-parts_of (Cmovnz d a b) = of "cmovnz" d a b no_number_lem
-parts_of (Lb d a n) = of "lb" d a R0 n
-parts_of (Lbu d a n) = of "lbu" d a R0 n
-parts_of (Lh d a n) = of "lh" d a R0 n
-parts_of (Lhu d a n) = of "lhu" d a R0 n
-parts_of (Lw d a n) = of "lw" d a R0 n
-parts_of (Ld d a n) = of "ld" d a R0 n
-parts_of (Sb a b n) = of "sb" b a R0 n
-parts_of (Sh a b n) = of "sh" b a R0 n
-parts_of (Sw a b n) = of "sw" b a R0 n
-parts_of (Sd a b n) = of "sd" b a R0 n
-parts_of (Beq a b n) = of "beq" a b R0 n
-parts_of (Bne a b n) = of "bne" a b R0 n
-parts_of (Blt a b n) = of "blt" a b R0 n
-parts_of (Bge a b n) = of "bge" a b R0 n
-parts_of (Bltu a b n) = of "bltu" a b R0 n
-parts_of (Bgeu a b n) = of "bgeu" a b R0 n
-parts_of (Jal d n) = of "jal" d R0 R0 n
-parts_of (Jalr d a n) = of "jalr" d a R0 n
-parts_of Ecall = of "ecall" R0 R0 R0 no_number_lem
-parts_of Ebreak = of "ebreak" R0 R0 R0 no_number_lem
+parts_of (Add d a b) = of M.Add d a b no_number_lem
+parts_of (Sub d a b) = of M.Sub d a b no_number_lem
+parts_of (Mul d a b) = of M.Mul d a b no_number_lem
+parts_of (Mulh d a b) = of M.Mulh d a b no_number_lem
+parts_of (Divu d a b) = of M.Divu d a b no_number_lem
+parts_of (Remu d a b) = of M.Remu d a b no_number_lem
+parts_of (Div d a b) = of M.Div d a b no_number_lem
+parts_of (Rem d a b) = of M.Rem d a b no_number_lem
+parts_of (Addi d a n) = of M.Addi d a R0 n
+parts_of (And d a b) = of M.And d a b no_number_lem
+parts_of (Or d a b) = of M.Or d a b no_number_lem
+parts_of (Xor d a b) = of M.Xor d a b no_number_lem
+parts_of (Andi d a n) = of M.Andi d a R0 n
+parts_of (Ori d a n) = of M.Ori d a R0 n
+parts_of (Xori d a n) = of M.Xori d a R0 n
+parts_of (Sll d a b) = of M.Sll d a b no_number_lem
+parts_of (Srl d a b) = of M.Srl d a b no_number_lem
+parts_of (Sra d a b) = of M.Sra d a b no_number_lem
+parts_of (Slli d a n) = of M.Slli d a R0 n
+parts_of (Srli d a n) = of M.Srli d a R0 n
+parts_of (Srai d a n) = of M.Srai d a R0 n
+parts_of (Sltu d a b) = of M.Sltu d a b no_number_lem
+parts_of (Sgeu d a b) = of M.Sgeu d a b no_number_lem
+parts_of (Slt d a b) = of M.Slt d a b no_number_lem
+parts_of (Sge d a b) = of M.Sge d a b no_number_lem
+parts_of (Seq d a b) = of M.Seq d a b no_number_lem
+parts_of (Sne d a b) = of M.Sne d a b no_number_lem
+parts_of (Cmov d a b) = of M.Cmov d a b no_number_lem
+parts_of (Cmovz d a b) = of M.Cmovz d a b no_number_lem
+parts_of (Cmovnz d a b) = of M.Cmovnz d a b no_number_lem
+parts_of (Lb d a n) = of M.Lb d a R0 n
+parts_of (Lbu d a n) = of M.Lbu d a R0 n
+parts_of (Lh d a n) = of M.Lh d a R0 n
+parts_of (Lhu d a n) = of M.Lhu d a R0 n
+parts_of (Lw d a n) = of M.Lw d a R0 n
+parts_of (Ld d a n) = of M.Ld d a R0 n
+parts_of (Sb a b n) = of M.Sb b a R0 n
+parts_of (Sh a b n) = of M.Sh b a R0 n
+parts_of (Sw a b n) = of M.Sw b a R0 n
+parts_of (Sd a b n) = of M.Sd b a R0 n
+parts_of (Beq a b n) = of M.Beq a b R0 n
+parts_of (Bne a b n) = of M.Bne a b R0 n
+parts_of (Blt a b n) = of M.Blt a b R0 n
+parts_of (Bge a b n) = of M.Bge a b R0 n
+parts_of (Bltu a b n) = of M.Bltu a b R0 n
+parts_of (Bgeu a b n) = of M.Bgeu a b R0 n
+parts_of (Jal d n) = of M.Jal d R0 R0 n
+parts_of (Jalr d a n) = of M.Jalr d a R0 n
+parts_of Ecall = of M.Ecall R0 R0 R0 no_number_lem
+parts_of Ebreak = of M.Ebreak R0 R0 R0 no_number_lem
 
 -- The operands that a form has a place for; R0 and 0 for the others.
 abbrev pub keep : Form → Operands → Operands
@@ -198,17 +234,17 @@ abbrev pub row_meant : Row → Operands → Meant
 row_meant r o =
     record { row = r; registers = registers_for (places r.form) (registers_of o); number = number_for (places r.form) (whole_meant o.number) }
 
--- The same by the row's place in the table.
+-- The same by the mnemonic.
 pub record Parts : Type 0 where
-  pub row : ℕ
+  pub mnemonic : Mnemonic
   pub operands : Operands
 
 abbrev pub parts_meant : Parts → Meant
-parts_meant p = row_meant (row_at p.row) p.operands
+parts_meant p = row_meant (row_of p.mnemonic) p.operands
 
 -- They are settled by the row's form: no field is free.
 abbrev pub Settled : Parts → Type 0
-Settled p = SettledFor (places (row_at p.row).form) p.operands
+Settled p = SettledFor (places (row_of p.mnemonic).form) p.operands
 
 -- The instruction of the definitions that the code's means: the row is the one that its mnemonic names. Whether a 0 has a sign is not
 -- looked at: -0 means 0.

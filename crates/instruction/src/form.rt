@@ -1,54 +1,93 @@
 // The operands of a form, described once: which operands it has, and which mark follows each. Whoever reads operands goes through this
 // description from left to right.
 ghost use Rattle.std.specs.Prelude.{◌≡◌};
-ghost use Rattle.instruction.specs.Promised.{form_at};
-ghost use Rattle.instruction.specs.Forms.{digits_for, is_number, mark_of};
+ghost use Rattle.instruction.specs.Promised.{form_meant};
+ghost use Rattle.instruction.specs.Forms.{operand_list, is_number, mark_of};
 
-use crate::opcode::SYSTEM;
+use refusal::refusal::Refusal;
 
-// The mark that follows an operand: its byte, and the number of the refusal where something else stands there.
+// The forms of instructions.
+#[derive(Clone, Copy, PartialEq, Eq)]
+pub enum Form {
+    // `rd, rs1, rs2`
+    R,
+    // `rd, rs1, n`
+    I,
+    // `rd, rs1, n`, where n is a shift amount
+    Shift,
+    // `rd, n(rs1)`
+    Load,
+    // `rs2, n(rs1)`
+    Store,
+    // `rs1, rs2, n`
+    Branch,
+    // `rd, n`
+    Jump,
+    // without operands
+    System,
+}
+
+// An operand, a register or a number, with the mark that follows it.
+#[derive(Clone, Copy, PartialEq, Eq)]
+pub enum Operand {
+    RegisterComma,
+    NumberOpening,
+    RegisterClosing,
+    Register,
+    Number,
+}
+
+// The mark that follows an operand: its byte, and the refusal where something else stands there.
 #[derive(Clone, Copy)]
-pub enum Mark {
-    Nothing,
-    Is { byte: u8, refusal: u8 },
+pub struct Mark {
+    pub byte: u8,
+    pub refusal: Refusal,
 }
 
-// The operands of a form, a digit each, the first lowest: 1 `r,`, 2 `n(`, 3 `r)`, 4 `r`, 5 `n`. They are looked up: forms follow each
-// other in no order, and a branch for each would often be guessed wrong.
-pub fn operands_of(form: u8) -> u32
-    ensures { result ≡ digits_for (form_at form) }
-{
-    let operands = [0o411, 0o511, 0o511, 0o321, 0o321, 0o511, 0o51];
-    if form < SYSTEM {
-        return operands[form as usize];
+// The operands of each form, left to right. They are looked up: forms follow each other in no order, and a branch for each would often
+// be guessed wrong.
+#[rattlefmt::skip]
+static OPERANDS: [&[Operand]; 8] = [
+    &[Operand::RegisterComma, Operand::RegisterComma, Operand::Register], // R
+    &[Operand::RegisterComma, Operand::RegisterComma, Operand::Number], // I
+    &[Operand::RegisterComma, Operand::RegisterComma, Operand::Number], // Shift
+    &[Operand::RegisterComma, Operand::NumberOpening, Operand::RegisterClosing], // Load
+    &[Operand::RegisterComma, Operand::NumberOpening, Operand::RegisterClosing], // Store
+    &[Operand::RegisterComma, Operand::RegisterComma, Operand::Number], // Branch
+    &[Operand::RegisterComma, Operand::Number], // Jump
+    &[], // System
+];
+
+// The mark after each operand, if one follows it: it is looked up too.
+#[rattlefmt::skip]
+static MARKS: [Option<Mark>; 5] = [
+    Some(Mark { byte: b',', refusal: Refusal::CommaExpected }), // RegisterComma
+    Some(Mark { byte: b'(', refusal: Refusal::OpeningExpected }), // NumberOpening
+    Some(Mark { byte: b')', refusal: Refusal::ClosingExpected }), // RegisterClosing
+    None, // Register
+    None, // Number
+];
+
+impl Form {
+    pub fn operands(self) -> &'static [Operand]
+        ensures { result.now ≡ operand_list (form_meant self) }
+    {
+        OPERANDS[self as usize]
     }
-    0
 }
 
-// Whether an operand is a number; else it is a register.
-pub fn is_number(operand: u32) -> bool
-    ensures { result ≡ is_number operand }
-{
-    operand == 2 || operand == 5
-}
+impl Operand {
+    // Whether an operand is a number; else it is a register.
+    pub fn is_number(self) -> bool
+        ensures { result ≡ is_number self }
+    {
+        matches!(self, Operand::NumberOpening | Operand::Number)
+    }
 
-// The mark after an operand: 19 comma, 20 `(`, 21 `)` expected.
-pub fn mark_of(operand: u32) -> Mark
-    ensures { result ≡ mark_of operand }
-{
-    match operand {
-        1 => Mark::Is {
-            byte: b',',
-            refusal: 19,
-        },
-        2 => Mark::Is {
-            byte: b'(',
-            refusal: 20,
-        },
-        3 => Mark::Is {
-            byte: b')',
-            refusal: 21,
-        },
-        _ => Mark::Nothing,
+    #[tactic(auto, unfolding(refusal::specs::Refusals::refusals))]
+    pub fn mark(self) -> Option<Mark>
+        ensures { result ≡ mark_of self }
+    {
+        MARKS[self as usize]
     }
 }

@@ -1,420 +1,218 @@
-// The table of the fifty mnemonics: mnemonic, opcode and form, by ascending opcode. A caller asks for the arrays once and lends
-// them, since a constant array is built anew wherever it stands.
-ghost use Rattle.std.specs.Prelude.{◌≡◌, ◌≤◌, eqb};
+// The table of the fifty mnemonics: key, opcode and form, by ascending opcode; and the tables by which a mnemonic is found.
+ghost use Rattle.std.specs.Prelude.{◌≡◌, ◌<◌, eqb};
 ghost use Rattle.text_lexical.specs.Bytes.{find};
 ghost use Rattle.text_lexical.specs.Promised.{key_of};
 ghost use Rattle.instruction.specs.Table.{table, row_coded};
-ghost use Rattle.instruction.specs.Promised.{mnemonic_keys, slot_rows, opcode_numbers, form_numbers, unused_below, IsRow};
+ghost use Rattle.instruction.specs.Promised.{row_of, form_meant, found_meant};
 
-// How many rows the table has.
-const ROWS: usize = 50;
+use crate::form::Form;
 
-// The rows of the table by their mnemonics: where an entry stands in each column.
-pub const ADD: usize = 0;
+// The mnemonics in the order of the table.
+#[derive(Clone, Copy, PartialEq, Eq)]
+pub enum Mnemonic {
+    Add,
+    Sub,
+    Mul,
+    Mulh,
+    Divu,
+    Remu,
+    Div,
+    Rem,
+    Addi,
+    And,
+    Or,
+    Xor,
+    Andi,
+    Ori,
+    Xori,
+    Sll,
+    Srl,
+    Sra,
+    Slli,
+    Srli,
+    Srai,
+    Sltu,
+    Sgeu,
+    Slt,
+    Sge,
+    Seq,
+    Sne,
+    Cmov,
+    Cmovz,
+    Cmovnz,
+    Lb,
+    Lbu,
+    Lh,
+    Lhu,
+    Lw,
+    Ld,
+    Sb,
+    Sh,
+    Sw,
+    Sd,
+    Beq,
+    Bne,
+    Blt,
+    Bge,
+    Bltu,
+    Bgeu,
+    Jal,
+    Jalr,
+    Ecall,
+    Ebreak,
+}
 
-pub const SUB: usize = 1;
+// A mnemonic as its key, the letters, the first lowest, with a 1 after them; its opcode; and the form of its operands.
+#[derive(Clone, Copy)]
+struct Row {
+    key: u64,
+    opcode: u8,
+    form: Form,
+}
 
-pub const MUL: usize = 2;
-
-pub const MULH: usize = 3;
-
-pub const DIVU: usize = 4;
-
-pub const REMU: usize = 5;
-
-pub const DIV: usize = 6;
-
-pub const REM: usize = 7;
-
-pub const ADDI: usize = 8;
-
-pub const AND: usize = 9;
-
-pub const OR: usize = 10;
-
-pub const XOR: usize = 11;
-
-pub const ANDI: usize = 12;
-
-pub const ORI: usize = 13;
-
-pub const XORI: usize = 14;
-
-pub const SLL: usize = 15;
-
-pub const SRL: usize = 16;
-
-pub const SRA: usize = 17;
-
-pub const SLLI: usize = 18;
-
-pub const SRLI: usize = 19;
-
-pub const SRAI: usize = 20;
-
-pub const SLTU: usize = 21;
-
-pub const SGEU: usize = 22;
-
-pub const SLT: usize = 23;
-
-pub const SGE: usize = 24;
-
-pub const SEQ: usize = 25;
-
-pub const SNE: usize = 26;
-
-pub const CMOV: usize = 27;
-
-pub const CMOVZ: usize = 28;
-
-pub const CMOVNZ: usize = 29;
-
-pub const LB: usize = 30;
-
-pub const LBU: usize = 31;
-
-pub const LH: usize = 32;
-
-pub const LHU: usize = 33;
-
-pub const LW: usize = 34;
-
-pub const LD: usize = 35;
-
-pub const SB: usize = 36;
-
-pub const SH: usize = 37;
-
-pub const SW: usize = 38;
-
-pub const SD: usize = 39;
-
-pub const BEQ: usize = 40;
-
-pub const BNE: usize = 41;
-
-pub const BLT: usize = 42;
-
-pub const BGE: usize = 43;
-
-pub const BLTU: usize = 44;
-
-pub const BGEU: usize = 45;
-
-pub const JAL: usize = 46;
-
-pub const JALR: usize = 47;
-
-pub const ECALL: usize = 48;
-
-pub const EBREAK: usize = 49;
-
-// A mnemonic as its key: the letters, the first lowest, with a 1 after them.
-const MNEMONICS: [u64; 50] = [
-    0x1646461, // add
-    0x1627573, // sub
-    0x16C756D, // mul
-    0x1686C756D, // mulh
-    0x175766964, // divu
-    0x1756D6572, // remu
-    0x1766964, // div
-    0x16D6572, // rem
-    0x169646461, // addi
-    0x1646E61, // and
-    0x1726F, // or
-    0x1726F78, // xor
-    0x169646E61, // andi
-    0x169726F, // ori
-    0x169726F78, // xori
-    0x16C6C73, // sll
-    0x16C7273, // srl
-    0x1617273, // sra
-    0x1696C6C73, // slli
-    0x1696C7273, // srli
-    0x169617273, // srai
-    0x175746C73, // sltu
-    0x175656773, // sgeu
-    0x1746C73, // slt
-    0x1656773, // sge
-    0x1716573, // seq
-    0x1656E73, // sne
-    0x1766F6D63, // cmov
-    0x17A766F6D63, // cmovz
-    0x17A6E766F6D63, // cmovnz
-    0x1626C, // lb
-    0x175626C, // lbu
-    0x1686C, // lh
-    0x175686C, // lhu
-    0x1776C, // lw
-    0x1646C, // ld
-    0x16273, // sb
-    0x16873, // sh
-    0x17773, // sw
-    0x16473, // sd
-    0x1716562, // beq
-    0x1656E62, // bne
-    0x1746C62, // blt
-    0x1656762, // bge
-    0x175746C62, // bltu
-    0x175656762, // bgeu
-    0x16C616A, // jal
-    0x1726C616A, // jalr
-    0x16C6C616365, // ecall
-    0x16B6165726265, // ebreak
-];
-
-const OPCODES: [u8; 50] = [
-    0x00, // add
-    0x01, // sub
-    0x02, // mul
-    0x03, // mulh
-    0x04, // divu
-    0x05, // remu
-    0x06, // div
-    0x07, // rem
-    0x08, // addi
-    0x10, // and
-    0x11, // or
-    0x12, // xor
-    0x13, // andi
-    0x14, // ori
-    0x15, // xori
-    0x18, // sll
-    0x19, // srl
-    0x1A, // sra
-    0x1B, // slli
-    0x1C, // srli
-    0x1D, // srai
-    0x20, // sltu
-    0x21, // sgeu
-    0x22, // slt
-    0x23, // sge
-    0x24, // seq
-    0x25, // sne
-    0x26, // cmov
-    0x27, // cmovz
-    0x28, // cmovnz
-    0x30, // lb
-    0x31, // lbu
-    0x32, // lh
-    0x33, // lhu
-    0x34, // lw
-    0x35, // ld
-    0x38, // sb
-    0x39, // sh
-    0x3A, // sw
-    0x3B, // sd
-    0x40, // beq
-    0x41, // bne
-    0x42, // blt
-    0x43, // bge
-    0x44, // bltu
-    0x45, // bgeu
-    0x48, // jal
-    0x49, // jalr
-    0x50, // ecall
-    0x51, // ebreak
-];
-
-// The forms of instructions, as the form column numbers them.
-// `rd, rs1, rs2`
-pub const R_TYPE: u8 = 0;
-
-// `rd, rs1, n`
-pub const I_TYPE: u8 = 1;
-
-// `rd, rs1, n`, where n is a shift amount
-pub const SHIFT: u8 = 2;
-
-// `rd, n(rs1)`
-pub const LOAD: u8 = 3;
-
-// `rs2, n(rs1)`
-pub const STORE: u8 = 4;
-
-// `rs1, rs2, n`
-pub const BRANCH: u8 = 5;
-
-// `rd, n`
-pub const JUMP: u8 = 6;
-
-// without operands
-pub const SYSTEM: u8 = 7;
-
-// Each row's form.
-const FORMS: [u8; 50] = [
-    R_TYPE, // add
-    R_TYPE, // sub
-    R_TYPE, // mul
-    R_TYPE, // mulh
-    R_TYPE, // divu
-    R_TYPE, // remu
-    R_TYPE, // div
-    R_TYPE, // rem
-    I_TYPE, // addi
-    R_TYPE, // and
-    R_TYPE, // or
-    R_TYPE, // xor
-    I_TYPE, // andi
-    I_TYPE, // ori
-    I_TYPE, // xori
-    R_TYPE, // sll
-    R_TYPE, // srl
-    R_TYPE, // sra
-    SHIFT, // slli
-    SHIFT, // srli
-    SHIFT, // srai
-    R_TYPE, // sltu
-    R_TYPE, // sgeu
-    R_TYPE, // slt
-    R_TYPE, // sge
-    R_TYPE, // seq
-    R_TYPE, // sne
-    R_TYPE, // cmov
-    R_TYPE, // cmovz
-    R_TYPE, // cmovnz
-    LOAD, // lb
-    LOAD, // lbu
-    LOAD, // lh
-    LOAD, // lhu
-    LOAD, // lw
-    LOAD, // ld
-    STORE, // sb
-    STORE, // sh
-    STORE, // sw
-    STORE, // sd
-    BRANCH, // beq
-    BRANCH, // bne
-    BRANCH, // blt
-    BRANCH, // bge
-    BRANCH, // bltu
-    BRANCH, // bgeu
-    JUMP, // jal
-    I_TYPE, // jalr
-    SYSTEM, // ecall
-    SYSTEM, // ebreak
+// Assembling and listing read each row here.
+#[rattlefmt::skip]
+static ROWS: [Row; 50] = [
+    Row { key: 0x1646461, opcode: 0x00, form: Form::R }, // add
+    Row { key: 0x1627573, opcode: 0x01, form: Form::R }, // sub
+    Row { key: 0x16C756D, opcode: 0x02, form: Form::R }, // mul
+    Row { key: 0x1686C756D, opcode: 0x03, form: Form::R }, // mulh
+    Row { key: 0x175766964, opcode: 0x04, form: Form::R }, // divu
+    Row { key: 0x1756D6572, opcode: 0x05, form: Form::R }, // remu
+    Row { key: 0x1766964, opcode: 0x06, form: Form::R }, // div
+    Row { key: 0x16D6572, opcode: 0x07, form: Form::R }, // rem
+    Row { key: 0x169646461, opcode: 0x08, form: Form::I }, // addi
+    Row { key: 0x1646E61, opcode: 0x10, form: Form::R }, // and
+    Row { key: 0x1726F, opcode: 0x11, form: Form::R }, // or
+    Row { key: 0x1726F78, opcode: 0x12, form: Form::R }, // xor
+    Row { key: 0x169646E61, opcode: 0x13, form: Form::I }, // andi
+    Row { key: 0x169726F, opcode: 0x14, form: Form::I }, // ori
+    Row { key: 0x169726F78, opcode: 0x15, form: Form::I }, // xori
+    Row { key: 0x16C6C73, opcode: 0x18, form: Form::R }, // sll
+    Row { key: 0x16C7273, opcode: 0x19, form: Form::R }, // srl
+    Row { key: 0x1617273, opcode: 0x1A, form: Form::R }, // sra
+    Row { key: 0x1696C6C73, opcode: 0x1B, form: Form::Shift }, // slli
+    Row { key: 0x1696C7273, opcode: 0x1C, form: Form::Shift }, // srli
+    Row { key: 0x169617273, opcode: 0x1D, form: Form::Shift }, // srai
+    Row { key: 0x175746C73, opcode: 0x20, form: Form::R }, // sltu
+    Row { key: 0x175656773, opcode: 0x21, form: Form::R }, // sgeu
+    Row { key: 0x1746C73, opcode: 0x22, form: Form::R }, // slt
+    Row { key: 0x1656773, opcode: 0x23, form: Form::R }, // sge
+    Row { key: 0x1716573, opcode: 0x24, form: Form::R }, // seq
+    Row { key: 0x1656E73, opcode: 0x25, form: Form::R }, // sne
+    Row { key: 0x1766F6D63, opcode: 0x26, form: Form::R }, // cmov
+    Row { key: 0x17A766F6D63, opcode: 0x27, form: Form::R }, // cmovz
+    Row { key: 0x17A6E766F6D63, opcode: 0x28, form: Form::R }, // cmovnz
+    Row { key: 0x1626C, opcode: 0x30, form: Form::Load }, // lb
+    Row { key: 0x175626C, opcode: 0x31, form: Form::Load }, // lbu
+    Row { key: 0x1686C, opcode: 0x32, form: Form::Load }, // lh
+    Row { key: 0x175686C, opcode: 0x33, form: Form::Load }, // lhu
+    Row { key: 0x1776C, opcode: 0x34, form: Form::Load }, // lw
+    Row { key: 0x1646C, opcode: 0x35, form: Form::Load }, // ld
+    Row { key: 0x16273, opcode: 0x38, form: Form::Store }, // sb
+    Row { key: 0x16873, opcode: 0x39, form: Form::Store }, // sh
+    Row { key: 0x17773, opcode: 0x3A, form: Form::Store }, // sw
+    Row { key: 0x16473, opcode: 0x3B, form: Form::Store }, // sd
+    Row { key: 0x1716562, opcode: 0x40, form: Form::Branch }, // beq
+    Row { key: 0x1656E62, opcode: 0x41, form: Form::Branch }, // bne
+    Row { key: 0x1746C62, opcode: 0x42, form: Form::Branch }, // blt
+    Row { key: 0x1656762, opcode: 0x43, form: Form::Branch }, // bge
+    Row { key: 0x175746C62, opcode: 0x44, form: Form::Branch }, // bltu
+    Row { key: 0x175656762, opcode: 0x45, form: Form::Branch }, // bgeu
+    Row { key: 0x16C616A, opcode: 0x48, form: Form::Jump }, // jal
+    Row { key: 0x1726C616A, opcode: 0x49, form: Form::I }, // jalr
+    Row { key: 0x16C6C616365, opcode: 0x50, form: Form::System }, // ecall
+    Row { key: 0x16B6165726265, opcode: 0x51, form: Form::System }, // ebreak
 ];
 
 // Where a mnemonic may stand is told by its key's residue modulo so many, by which all fifty differ.
 const PLACES: u64 = 293;
 
-// No mnemonic stands at a place: there is no such row.
-const NO_ROW: u8 = ROWS as u8;
-
-// The row at each place.
-const SLOTS: [u8; 293] = [
-    NO_ROW, NO_ROW, NO_ROW, NO_ROW, 34, NO_ROW, NO_ROW, 33, NO_ROW, 12, NO_ROW, 38, 29, 7, NO_ROW,
-    NO_ROW, NO_ROW, NO_ROW, 0, 45, NO_ROW, NO_ROW, NO_ROW, NO_ROW, NO_ROW, NO_ROW, NO_ROW, NO_ROW,
-    NO_ROW, NO_ROW, NO_ROW, NO_ROW, NO_ROW, NO_ROW, NO_ROW, NO_ROW, 22, NO_ROW, NO_ROW, NO_ROW,
-    NO_ROW, NO_ROW, NO_ROW, NO_ROW, NO_ROW, NO_ROW, 27, NO_ROW, 11, NO_ROW, NO_ROW, NO_ROW, NO_ROW,
-    NO_ROW, NO_ROW, 47, NO_ROW, NO_ROW, NO_ROW, NO_ROW, NO_ROW, NO_ROW, NO_ROW, NO_ROW, NO_ROW,
-    NO_ROW, NO_ROW, NO_ROW, NO_ROW, NO_ROW, NO_ROW, NO_ROW, NO_ROW, 4, NO_ROW, NO_ROW, NO_ROW,
-    NO_ROW, NO_ROW, NO_ROW, NO_ROW, NO_ROW, NO_ROW, NO_ROW, 28, NO_ROW, 8, NO_ROW, NO_ROW, NO_ROW,
-    NO_ROW, NO_ROW, NO_ROW, NO_ROW, NO_ROW, NO_ROW, NO_ROW, NO_ROW, 2, 17, NO_ROW, NO_ROW, NO_ROW,
-    NO_ROW, NO_ROW, 43, NO_ROW, NO_ROW, NO_ROW, NO_ROW, NO_ROW, NO_ROW, NO_ROW, NO_ROW, NO_ROW, 49,
-    14, NO_ROW, NO_ROW, NO_ROW, NO_ROW, 35, 24, NO_ROW, NO_ROW, NO_ROW, NO_ROW, NO_ROW, 39, NO_ROW,
-    3, NO_ROW, NO_ROW, NO_ROW, NO_ROW, NO_ROW, NO_ROW, NO_ROW, NO_ROW, 41, NO_ROW, NO_ROW, NO_ROW,
-    NO_ROW, 15, NO_ROW, NO_ROW, NO_ROW, NO_ROW, NO_ROW, NO_ROW, NO_ROW, 44, NO_ROW, NO_ROW, NO_ROW,
-    26, NO_ROW, NO_ROW, 6, NO_ROW, NO_ROW, NO_ROW, NO_ROW, 48, NO_ROW, NO_ROW, 20, NO_ROW, 21,
-    NO_ROW, NO_ROW, NO_ROW, NO_ROW, NO_ROW, NO_ROW, NO_ROW, NO_ROW, NO_ROW, NO_ROW, NO_ROW, NO_ROW,
-    NO_ROW, NO_ROW, NO_ROW, 1, NO_ROW, NO_ROW, NO_ROW, NO_ROW, NO_ROW, NO_ROW, 10, NO_ROW, NO_ROW,
-    30, NO_ROW, NO_ROW, NO_ROW, 40, NO_ROW, NO_ROW, 36, NO_ROW, NO_ROW, NO_ROW, 13, NO_ROW, NO_ROW,
-    NO_ROW, NO_ROW, NO_ROW, 18, NO_ROW, NO_ROW, 16, 25, NO_ROW, NO_ROW, NO_ROW, 5, NO_ROW, NO_ROW,
-    NO_ROW, NO_ROW, NO_ROW, NO_ROW, NO_ROW, NO_ROW, 31, NO_ROW, NO_ROW, NO_ROW, NO_ROW, 9, NO_ROW,
-    NO_ROW, NO_ROW, 42, NO_ROW, NO_ROW, NO_ROW, NO_ROW, NO_ROW, NO_ROW, NO_ROW, NO_ROW, NO_ROW,
-    NO_ROW, 46, NO_ROW, NO_ROW, NO_ROW, NO_ROW, NO_ROW, 23, NO_ROW, NO_ROW, NO_ROW, NO_ROW, NO_ROW,
-    NO_ROW, NO_ROW, NO_ROW, NO_ROW, NO_ROW, 32, NO_ROW, NO_ROW, NO_ROW, NO_ROW, NO_ROW, NO_ROW, 37,
-    NO_ROW, NO_ROW, NO_ROW, NO_ROW, NO_ROW, NO_ROW, NO_ROW, NO_ROW, NO_ROW, 19, NO_ROW, NO_ROW,
-    NO_ROW, NO_ROW, NO_ROW, NO_ROW, NO_ROW, NO_ROW, NO_ROW,
+// The mnemonic at each place.
+#[rattlefmt::skip]
+static SLOTS: [Option<Mnemonic>; 293] = [
+    None, None, None, None, Some(Mnemonic::Lw), None, None, Some(Mnemonic::Lhu), None, Some(Mnemonic::Andi), None, Some(Mnemonic::Sw),
+    Some(Mnemonic::Cmovnz), Some(Mnemonic::Rem), None, None, None, None, Some(Mnemonic::Add), Some(Mnemonic::Bgeu), None, None, None,
+    None, None, None, None, None, None, None, None, None, None, None, None, None, Some(Mnemonic::Sgeu), None, None, None, None, None,
+    None, None, None, None, Some(Mnemonic::Cmov), None, Some(Mnemonic::Xor), None, None, None, None, None, None, Some(Mnemonic::Jalr),
+    None, None, None, None, None, None, None, None, None, None, None, None, None, None, None, None, None, Some(Mnemonic::Divu), None,
+    None, None, None, None, None, None, None, None, None, Some(Mnemonic::Cmovz), None, Some(Mnemonic::Addi), None, None, None, None,
+    None, None, None, None, None, None, None, Some(Mnemonic::Mul), Some(Mnemonic::Sra), None, None, None, None, None,
+    Some(Mnemonic::Bge), None, None, None, None, None, None, None, None, None, Some(Mnemonic::Ebreak), Some(Mnemonic::Xori), None, None,
+    None, None, Some(Mnemonic::Ld), Some(Mnemonic::Sge), None, None, None, None, None, Some(Mnemonic::Sd), None, Some(Mnemonic::Mulh),
+    None, None, None, None, None, None, None, None, Some(Mnemonic::Bne), None, None, None, None, Some(Mnemonic::Sll), None, None, None,
+    None, None, None, None, Some(Mnemonic::Bltu), None, None, None, Some(Mnemonic::Sne), None, None, Some(Mnemonic::Div), None, None,
+    None, None, Some(Mnemonic::Ecall), None, None, Some(Mnemonic::Srai), None, Some(Mnemonic::Sltu), None, None, None, None, None, None,
+    None, None, None, None, None, None, None, None, None, Some(Mnemonic::Sub), None, None, None, None, None, None, Some(Mnemonic::Or),
+    None, None, Some(Mnemonic::Lb), None, None, None, Some(Mnemonic::Beq), None, None, Some(Mnemonic::Sb), None, None, None,
+    Some(Mnemonic::Ori), None, None, None, None, None, Some(Mnemonic::Slli), None, None, Some(Mnemonic::Srl), Some(Mnemonic::Seq), None,
+    None, None, Some(Mnemonic::Remu), None, None, None, None, None, None, None, None, Some(Mnemonic::Lbu), None, None, None, None,
+    Some(Mnemonic::And), None, None, None, Some(Mnemonic::Blt), None, None, None, None, None, None, None, None, None, None,
+    Some(Mnemonic::Jal), None, None, None, None, None, Some(Mnemonic::Slt), None, None, None, None, None, None, None, None, None, None,
+    Some(Mnemonic::Lh), None, None, None, None, None, None, Some(Mnemonic::Sh), None, None, None, None, None, None, None, None, None,
+    Some(Mnemonic::Srli), None, None, None, None, None, None, None, None, None,
 ];
 
-// The columns of the table and its slots: the constants, which the table's definition computes.
-pub fn mnemonics() -> [u64; 50]
-    ensures { result ≡ mnemonic_keys }
-{
-    MNEMONICS
-}
+// The mnemonic of each opcode.
+#[rattlefmt::skip]
+static CODED: [Option<Mnemonic>; 128] = [
+    Some(Mnemonic::Add), Some(Mnemonic::Sub), Some(Mnemonic::Mul), Some(Mnemonic::Mulh), Some(Mnemonic::Divu), Some(Mnemonic::Remu),
+    Some(Mnemonic::Div), Some(Mnemonic::Rem), Some(Mnemonic::Addi), None, None, None, None, None, None, None, Some(Mnemonic::And),
+    Some(Mnemonic::Or), Some(Mnemonic::Xor), Some(Mnemonic::Andi), Some(Mnemonic::Ori), Some(Mnemonic::Xori), None, None,
+    Some(Mnemonic::Sll), Some(Mnemonic::Srl), Some(Mnemonic::Sra), Some(Mnemonic::Slli), Some(Mnemonic::Srli), Some(Mnemonic::Srai),
+    None, None, Some(Mnemonic::Sltu), Some(Mnemonic::Sgeu), Some(Mnemonic::Slt), Some(Mnemonic::Sge), Some(Mnemonic::Seq),
+    Some(Mnemonic::Sne), Some(Mnemonic::Cmov), Some(Mnemonic::Cmovz), Some(Mnemonic::Cmovnz), None, None, None, None, None, None, None,
+    Some(Mnemonic::Lb), Some(Mnemonic::Lbu), Some(Mnemonic::Lh), Some(Mnemonic::Lhu), Some(Mnemonic::Lw), Some(Mnemonic::Ld), None,
+    None, Some(Mnemonic::Sb), Some(Mnemonic::Sh), Some(Mnemonic::Sw), Some(Mnemonic::Sd), None, None, None, None, Some(Mnemonic::Beq),
+    Some(Mnemonic::Bne), Some(Mnemonic::Blt), Some(Mnemonic::Bge), Some(Mnemonic::Bltu), Some(Mnemonic::Bgeu), None, None,
+    Some(Mnemonic::Jal), Some(Mnemonic::Jalr), None, None, None, None, None, None, Some(Mnemonic::Ecall), Some(Mnemonic::Ebreak), None,
+    None, None, None, None, None, None, None, None, None, None, None, None, None, None, None, None, None, None, None, None, None, None,
+    None, None, None, None, None, None, None, None, None, None, None, None, None, None, None, None, None, None, None, None, None, None,
+    None,
+];
 
-pub fn opcodes() -> [u8; 50]
-    ensures { result ≡ opcode_numbers }
-{
-    OPCODES
-}
-
-pub fn forms() -> [u8; 50]
-    ensures { result ≡ form_numbers }
-{
-    FORMS
-}
-
-pub fn slots() -> [u8; 293]
-    ensures { result ≡ slot_rows }
-{
-    SLOTS
-}
-
-#[derive(Clone, Copy)]
-pub enum Row {
-    At(usize),
-    Missing,
-}
-
-// The row whose mnemonic has a key.
-pub fn find_mnemonic(key: u64, mnemonics: &[u64; 50], slots: &[u8; 293]) -> Row
-    requires mnemonics_are { mnemonics.now ≡ mnemonic_keys }
-    requires slots_are { slots.now ≡ slot_rows }
-    ensures { IsRow result (find (λ q. eqb (key_of q.mnemonic) key) table) }
-{
-    let slot = (key % PLACES) as usize;
-    let row = slots[slot] as usize;
-    if row < ROWS {
-        if mnemonics[row] == key {
-            return Row::At(row);
-        }
+#[rattlefmt::skip]
+#[tactic(auto, unfolding(
+    crate::specs::Promised::row_for, crate::specs::Table::row_named, crate::specs::Table::table, crate::specs::Table::row,
+    text_lexical::specs::Bytes::find, text_lexical::specs::Bytes::same, text_lexical::specs::Bytes::bytes,
+    text_lexical::specs::Promised::key_of, text_lexical::specs::Promised::packed
+))]
+impl Mnemonic {
+    // The key of its spelling.
+    pub fn key(self) -> u64
+        ensures { result ≡ key_of (row_of self).mnemonic }
+    {
+        ROWS[self as usize].key
     }
-    Row::Missing
-}
 
-// How many numbers below an opcode are no opcodes: the same for all opcodes among eight numbers. From 88 on there are no opcodes, and any
-// answer will do.
-fn unused_below(opcode: u32) -> u32
-    ensures value { result ≡ unused_below opcode }
-    ensures at_most { result ≤ opcode }
-{
-    match opcode / 8 {
-        0 => 0,
-        1 => 0,
-        2 => 7,
-        3 => 9,
-        4 => 11,
-        5 => 11,
-        6 => 18,
-        7 => 20,
-        8 => 24,
-        9 => 26,
-        10 => 32,
-        _ => opcode,
+    pub fn opcode(self) -> u8
+        ensures value { result ≡ (row_of self).opcode }
+        ensures bound { result < 0x80 }
+    {
+        ROWS[self as usize].opcode
+    }
+
+    pub fn form(self) -> Form
+        ensures { form_meant result ≡ (row_of self).form }
+    {
+        ROWS[self as usize].form
     }
 }
 
-// A byte as a number of 32 bits.
-pub fn wide(x: u8) -> u32
-    ensures { result ≡ x }
+// The mnemonic with a key.
+pub fn find_mnemonic(key: u64) -> Option<Mnemonic>
+    ensures { found_meant result ≡ find (λ q. eqb (key_of q.mnemonic) key) table }
 {
-    x as u32
+    let mnemonic = SLOTS[(key % PLACES) as usize]?;
+    if mnemonic.key() == key {
+        return Some(mnemonic);
+    }
+    None
 }
 
-// The row with an opcode: the one where it would stand, if the column has it there.
-pub fn find_opcode(opcode: u32, opcodes: &[u8; 50]) -> Row
-    requires { opcodes.now ≡ opcode_numbers }
-    ensures { IsRow result (row_coded opcode) }
+// The mnemonic with an opcode.
+pub fn find_opcode(opcode: u32) -> Option<Mnemonic>
+    ensures { found_meant result ≡ row_coded opcode }
 {
-    let row = (opcode - unused_below(opcode)) as usize;
-    if row < ROWS {
-        if wide(opcodes[row]) == opcode {
-            return Row::At(row);
-        }
-    }
-    Row::Missing
+    *CODED.get(opcode as usize)?
 }

@@ -1,79 +1,72 @@
--- The key of a spelling, taken apart byte by byte, and the bytes written as they are taken off.
-use mathlib.Core.Path.{◌≡◌, ◌∙◌}
+-- The letters of a spelling are the bytes of its key below the highest, which is 1.
+use mathlib.Core.Path.{◌≡◌, refl, ap, ap₂, ◌∙◌}
 use mathlib.Core.List.{List, [], ◌∷◌}
-use Prim.Native.Nat.{ℕ, suc, ◌+◌, ◌*◌, ◌/◌, ◌%◌, ◌≤◌, ◌<◌}
-use native.Mathlib.Numerals.{add-one}
+use Prim.Native.Nat.{ℕ, zero, suc, ◌+◌, ◌*◌, ◌/◌, ◌%◌, ◌^◌, ◌≤◌, ◌<◌}
+use native.Mathlib.Nat.{pow-suc, div-div-eq-div-mul}
 use native.Mathlib.Omega.{arith}
-use lib.ListN.{length, take, drop, get_or, set, drop_of_length-le}
-use lib.Seq.{length-take-le, take-suc, take_all, drop-cons}
-use Rattle.text_lexical.specs.Promised.{packed}
+use lib.ListN.{length, take}
+use lib.Pow.{pow_mono, pow-add}
+use Rattle.std.specs.Int.{to_le_bytes, w64}
+use Rattle.text_lexical.specs.Numbers.{little}
+use Rattle.text_lexical.specs.Promised.{packed, key_of}
+use Rattle.text_lexical.proofs.Keys.{Below}
 use Rattle.text_lexical.proofs.Tests.{split}
-use Rattle.text_writer.specs.Promised.{Written}
-use Rattle.text_writer.proofs.Writing.{written_none, written_byte, written-append, written-length}
-use Rattle.instruction.proofs.Columns.{Short}
+use Rattle.instruction.specs.Promised.{row_of}
+use Rattle.instruction.specs.declared.opcode.Mnemonic.{Mnemonic}
+use Rattle.instruction.proofs.Columns.{mnemonic-short, mnemonic-below, mnemonic-packed}
 
--- What is left of a spelling's key when so many bytes were taken off it.
-pub record Taken (s : List ℕ) (k rest : ℕ) : Type 0 where
-  pub within : k ≤ length s
-  pub key : rest ≡ packed (drop k s)
+-- ---- the highest bit
 
-pub taken_none : (s : List ℕ) (rest : ℕ) → rest ≡ packed s → Taken s 0 rest
-taken_none s rest e = record { within = omega arith; key = e }
+-- There is one power of two to which a number's highest bit belongs.
+highest : (n q r : ℕ) → 2 ^ q ≤ n → n < 2 * 2 ^ q → 2 ^ r ≤ n → n < 2 * 2 ^ r → r ≡ q
+highest n q r a b c d =
+    split r q
+    (λ l. absurd (omega (arith, pow_mono {i = suc r} {j = q} (omega arith), pow-suc 2 r)))
+    (λ l. split q r (λ m. absurd (omega (arith, pow_mono {i = suc q} {j = r} (omega arith), pow-suc 2 q))) (λ m. omega arith))
 
-packed-some : (s : List ℕ) → 0 < packed s
+-- That of a key is the lowest of the byte behind the letters.
+pub record Bits (s : List ℕ) : Type 0 where
+  pub least : 2 ^ (8 * length s) ≤ packed s
+  pub below : packed s < 2 * 2 ^ (8 * length s)
+
+bits : (s : List ℕ) → Below s → Bits s
 unfolding packed
-packed-some [] = omega arith
-packed-some (b ∷ s) = omega (arith, packed-some s)
+bits [] h = record { least = omega arith; below = omega arith }
+bits (b ∷ s) h =
+    let r = bits s (λ i. h (suc i)) in
+    let e : 2 ^ (8 * suc (length s)) ≡ 256 * 2 ^ (8 * length s) = ap (λ (x : ℕ). 2 ^ x) (omega arith) ∙ pow-add 2 8 (8 * length s) in
+    record { least = omega (arith, e, r.least); below = omega (arith, e, r.below, h 0) }
 
-module _ {s : List ℕ} {k rest : ℕ} (t : Taken s k rest) where
-  -- the lowest byte is the next one
-  lowest : k < length s → rest ≡ get_or s k 0 + 256 * packed (drop (suc k) s)
-  unfolding packed
-  lowest l = t.key ∙ rw (drop-cons s k 0 l)
+-- ---- the bytes
 
-  -- bytes are left where more than 1 is
-  pub taken_more : 1 < rest → k < length s
-  unfolding packed
-  taken_more h =
-      split k (length s) (λ l. l) (λ l. let e : packed (drop k s) ≡ 1 = rw (drop_of_length-le s l) in absurd (omega (arith, t.key)))
+-- A number's bytes, the lowest first, as the library lists them.
+eight-bytes : (n : ℕ) → to_le_bytes w64 n ≡ little 8 n
+unfolding little
+eight-bytes n = simp div-div-eq-div-mul
 
-  pub taken-all : rest ≤ 1 → k ≡ length s
-  taken-all h = split k (length s) (λ l. absurd (omega (arith, lowest l, packed-some (drop (suc k) s)))) (λ l. omega (arith, t.within))
+little-packed : (k : ℕ) (s : List ℕ) → Below s → length s ≤ k → take (length s) (little k (packed s)) ≡ s
+unfolding little packed
+little-packed k [] h l = refl
+little-packed zero (b ∷ s) h l = absurd (omega arith)
+little-packed (suc k) (b ∷ s) h l =
+    let r : (b + 256 * packed s) % 256 ≡ b = omega (arith, h 0) in
+    let q : (b + 256 * packed s) / 256 ≡ packed s = omega (arith, h 0) in
+    ap₂ (λ (x y : ℕ). x ∷ take (length s) (little k y)) r q
+    ∙ ap (λ (x : List ℕ). b ∷ x) (little-packed k s (λ i. h (suc i)) (omega arith))
 
-  pub taken-byte : Short s → k < length s → rest % 256 ≡ get_or s k 0
-  taken-byte b l = omega (arith, lowest l, b.bytes_below k l)
+-- ---- a mnemonic's letters
 
-  pub taken_next : Short s → k < length s → Taken s (k + 1) (rest / 256)
-  taken_next b l = record { within = omega arith; key = rw (add-one k) (omega (arith, lowest l, b.bytes_below k l)) }
+module _ (m : Mnemonic) (k : ℕ) (e : k ≡ key_of (row_of m).mnemonic) where
+  pub key-some : 0 < k
+  key-some =
+      let s = (row_of m).mnemonic in
+      omega (arith, e, mnemonic-packed m, (bits s (mnemonic-below m)).least, pow_mono {i = 0} {j = 8 * length s} (omega arith))
 
--- A spelling of which the bytes that were taken off its key are written at a place.
-pub record Spelling (old : List ℕ) (at : ℕ) (s : List ℕ) (out : List ℕ) (place rest : ℕ) : Type 0 where
-  pub count : ℕ
-  pub taken : Taken s count rest
-  pub written : Written old at (take count s) place out
-
-pub spelling-none : (old : List ℕ) (at : ℕ) (s : List ℕ) (rest : ℕ) → rest ≡ packed s → Spelling old at s old at rest
-spelling-none old at s rest e = record { count = 0; taken = taken_none s rest e; written = written_none old at }
-
-module _ {old : List ℕ} {at : ℕ} {s out : List ℕ} {place rest : ℕ} (g : Spelling old at s out place rest) (h : at + length s ≤ length old) where
-  counted : length (take g.count s) ≡ g.count
-  counted = length-take-le g.count s g.taken.within
-
-  pub spelling-length : length out ≡ length old
-  spelling-length = written-length g.written (omega (arith, counted, g.taken.within))
-
-  pub spelling-room : 1 < rest → place < length out
-  spelling-room m = omega (arith, spelling-length, counted, g.written.ends, taken_more g.taken m)
-
-  pub spelling-next : Short s → 1 < rest → Spelling old at s (set out place (rest % 256)) (place + 1) (rest / 256)
-  spelling-next b m =
-      let l = taken_more g.taken m in
-      let w : Written out place (get_or s g.count 0 ∷ []) (place + 1) (set out place (rest % 256)) = rw (taken-byte g.taken b l) (written_byte out place _ (spelling-room m)) in
-      record {
-        count = g.count + 1;
-        taken = taken_next g.taken b l;
-        written = rw (add-one g.count, take-suc s g.count 0 l) (written-append g.written (omega arith) w);
-      }
-
-  pub spelling-all : rest ≤ 1 → Written old at s place out
-  spelling-all n = rw (take_all g.count s (omega (arith, taken-all g.taken n))) at g.written
+  pub letters : (r : ℕ) (bytes : List ℕ) → 2 ^ r ≤ k → k < 2 * 2 ^ r → bytes ≡ to_le_bytes w64 k → take (r / 8) bytes ≡ (row_of m).mnemonic
+  letters r bytes a b c =
+      let s = (row_of m).mnemonic in
+      let h = bits s (mnemonic-below m) in
+      let p : k ≡ packed s = e ∙ mnemonic-packed m in
+      let q : r ≡ 8 * length s = highest (packed s) (8 * length s) r h.least h.below (rw p at a) (rw p at b) in
+      let n : r / 8 ≡ length s = omega arith in
+      rw (c, eight-bytes k, p, n) (little-packed 8 s (mnemonic-below m) (omega (arith, (mnemonic-short m).few)))

@@ -1,39 +1,38 @@
 -- What decoded values mean in terms of the definitions, and what the functions that encode, decode and write promise.
-use Rattle.std.specs.Prelude.{ℕ, ◌+◌, ◌^◌, ◌≤◌, ◌≡◌, true, List, ◌∷◌, ◌++◌, ℤ}
+use Rattle.std.specs.Prelude.{ℕ, ◌+◌, ◌^◌, ◌≤◌, ◌≡◌, true, List, ◌∷◌, ◌++◌, ℤ, Result, Ok, Err}
 use Rattle.std.proofs.Math.Option.{Option}
-use Rattle.text_lexical.specs.Bytes.{Result, value, refused}
-use Rattle.text_lexical.specs.Numbers.{meant_by, signed_decimal}
+use Rattle.text_lexical.specs.Numbers.{meant_by}
 use Rattle.text_lexical.specs.Promised.{index_of, whole_meant, whole_for}
 use Rattle.text_lexical.specs.declared.register.Register.{Register}
-use Rattle.text_lexical.specs.declared.number.Whole.{Whole}
-use Rattle.instruction.specs.Table.{a-comma, an-opening, a-closing, Form, places}
-use Rattle.instruction.specs.Operands.{Instruction as Meant}
+use Rattle.instruction.specs.Table.{a-comma, an-opening, a-closing, Place, Form, places}
+use Rattle.instruction.specs.Operands.{Operands}
 use Rattle.instruction.specs.Text.{register_text, separator_text, operands_text}
-use Rattle.instruction.specs.Words.{fields, instruction_of}
-use Rattle.instruction.specs.Promised.{row_at, parts_of, instruction_meant}
-use Rattle.instruction_codec.specs.declared.encoder.Decoded.{Decoded}
-use Rattle.instruction_codec.specs.declared.encoder.Decoded.TheVariants.{Is as IsDecoded, Refused as RefusedDecoded}
+use Rattle.instruction.specs.Words.{fields, registers_in, number_in, instruction_of}
+use Rattle.instruction.specs.Promised.{row_of, parts_of, instruction_meant}
+use Rattle.instruction.specs.declared.instruction.Instruction.{Instruction}
+use Rattle.instruction.specs.declared.opcode.Mnemonic.{Mnemonic}
+use Rattle.refusal.specs.Refusals.{answered}
+use Rattle.refusal.specs.declared.refusal.Refusal.{Refusal}
 
 -- ---- words
 
--- The instruction that a word was decoded to, or the refusal.
-abbrev pub decoded_meant : Decoded → Result Meant
-decoded_meant (IsDecoded i) = value (instruction_meant i)
-decoded_meant (RefusedDecoded n) = refused n
-
 -- The number of a decoded instruction is settled: a 0 has no sign.
-abbrev pub DecodedSettled : Decoded → Type 0
-DecodedSettled (IsDecoded i) = (parts_of i).operands.number ≡ whole_for (whole_meant (parts_of i).operands.number)
-DecodedSettled (RefusedDecoded n) = Unit {0}
+abbrev pub DecodedSettled : Result Instruction Refusal → Type 0
+DecodedSettled (Ok i) = (parts_of i).operands.number ≡ whole_for (whole_meant (parts_of i).operands.number)
+DecodedSettled (Err r) = Unit {0}
 
 -- What a word is decoded to, in every field.
-pub record DecodesTo (word : ℕ) (r : Decoded) : Type 0 where
-  pub means : decoded_meant r ≡ instruction_of word
+pub record DecodesTo (word : ℕ) (r : Result Instruction Refusal) : Type 0 where
+  pub means : answered instruction_meant r ≡ instruction_of word
   pub settled : DecodedSettled r
 
--- The word of a form's registers and number, with the opcode of a row.
-unfoldable pub form_word : Form → ℕ → List ℕ → Option ℤ → ℕ
-form_word f row rs n = (row_at row).opcode + fields (places f) rs n
+-- The word of a form's registers and number, with the opcode of a mnemonic.
+unfoldable pub form_word : Form → Mnemonic → List ℕ → Option ℤ → ℕ
+form_word f m rs n = (row_of m).opcode + fields (places f) rs n
+
+-- The operands that a word holds at places.
+abbrev pub operands_in : ℕ → List Place → Operands
+operands_in w ps = record { registers = registers_in w ps; number = number_in w ps }
 
 -- A power of two, for a field of at most 21 bits.
 pub record Power (modulus : ℕ) : Type 0 where
@@ -45,29 +44,19 @@ pub record Power (modulus : ℕ) : Type 0 where
 pub record Signed (modulus field : ℕ) (z : ℤ) : Type 0 where
   pub at_width : (k : ℕ) → modulus ≡ 2 ^ k → z ≡ meant_by true k field
 
--- ---- texts in a buffer
+-- ---- the texts of forms, in pieces
 
--- A register with a comma and a space after it; and with the space before the operands.
+-- A register with a comma and a space after it; and one in brackets.
 abbrev pub next_text : Register → List ℕ
 next_text r = register_text (index_of r) ++ separator_text a-comma
 
-abbrev pub first_text : Register → List ℕ
-first_text r = 32 ∷ next_text r
-
--- A register in brackets.
 abbrev pub base_text : Register → List ℕ
 base_text r = separator_text an-opening ++ (register_text (index_of r) ++ separator_text a-closing)
 
--- The mnemonic of a row with one register, and with two; and a number with a register in brackets.
-abbrev pub start_text : ℕ → Register → List ℕ
-start_text row a = (row_at row).mnemonic ++ first_text a
+-- A mnemonic with its first register, between a space and a comma.
+abbrev pub start_text : Mnemonic → Register → List ℕ
+start_text m a = (row_of m).mnemonic ++ 32 ∷ next_text a
 
-abbrev pub two_text : ℕ → Register → Register → List ℕ
-two_text row a b = start_text row a ++ next_text b
-
-abbrev pub address_text : Whole → Register → List ℕ
-address_text n b = signed_decimal (whole_meant n) ++ base_text b
-
--- The text of a form's registers and number, with the mnemonic of a row.
-unfoldable pub form_text : Form → ℕ → List ℕ → Option ℤ → List ℕ
-form_text f row rs n = (row_at row).mnemonic ++ operands_text (places f) rs n
+-- The text of a form's registers and number, with a mnemonic.
+unfoldable pub form_text : Form → Mnemonic → List ℕ → Option ℤ → List ℕ
+form_text f m rs n = (row_of m).mnemonic ++ operands_text (places f) rs n

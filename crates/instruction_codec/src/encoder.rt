@@ -3,16 +3,18 @@ ghost use Rattle.std.specs.Prelude.{◌≡◌, [], ◌∷◌, suc, ◌+◌, ◌*
 ghost use Rattle.std.proofs.Math.Option.{none, some};
 ghost use Rattle.text_lexical.specs.Promised.{index_of, whole_meant, whole_for, Reduced};
 ghost use Rattle.instruction.specs.Table.{R, I, Shift, Store, Jump, System, places};
-ghost use Rattle.instruction.specs.Words.{unused_from, registers_in, number_in};
-ghost use Rattle.instruction.specs.Promised.{row_at, form_at, form_numbers, opcode_numbers, number_for, operands_meant};
-ghost use Rattle.instruction_codec.specs.Promised.{DecodesTo, form_word, Power, Signed};
+ghost use Rattle.instruction.specs.Words.{unused_from, number_in};
+ghost use Rattle.instruction.specs.Promised.{form_meant, number_for, operands_meant};
+ghost use Rattle.instruction_codec.specs.Promised.{DecodesTo, form_word, operands_in, Power, Signed};
 
 use instruction::field::{
     AMOUNT, AMOUNT_END, AMOUNTS, HIGH, IMMEDIATE, IMMEDIATE_HALF, LOW, OFFSET, OFFSET_HALF,
     OPCODE_END, REGISTERS, REGISTERS_END, TOP,
 };
+use instruction::form::Form;
 use instruction::instruction::{Instruction, Operands};
-use instruction::opcode::{BRANCH, I_TYPE, JUMP, LOAD, R_TYPE, Row, SHIFT, STORE};
+use instruction::opcode::{Mnemonic, find_opcode};
+use refusal::refusal::Refusal;
 use text_lexical::number::Whole;
 use text_lexical::register::Register;
 
@@ -30,17 +32,7 @@ fn number_of(register: Register) -> u32
     ensures value { result ≡ index_of register }
     ensures bound { result < 16 }
 {
-    instruction::opcode::wide(register.index())
-}
-
-// The opcode of a row, with room above it.
-fn opcode_of(row: usize, opcodes: &[u8; 50]) -> u32
-    requires row_in_table { row < 50 }
-    requires opcodes_are { opcodes.now ≡ opcode_numbers }
-    ensures value { result ≡ (row_at row).opcode }
-    ensures bound { result < 0x80 }
-{
-    instruction::opcode::wide(opcodes[row])
+    u32::from(u8::from(register))
 }
 
 // Two registers and a field of at most seventeen bits, each at its bit; there is room for an opcode.
@@ -51,93 +43,65 @@ fn spread(low: Register, high: Register, top: u32) -> u32
     number_of(low) * LOW + number_of(high) * HIGH + top * TOP
 }
 
-// The word of `rd, rs1, rs2`, by the row of its mnemonic.
-pub fn encode_r_type(
-    row: usize,
-    opcodes: &[u8; 50],
-    rd: Register,
-    rs1: Register,
-    rs2: Register,
-) -> u32
-    requires row_in_table { row < 50 }
-    requires opcodes_are { opcodes.now ≡ opcode_numbers }
-    ensures { result ≡ form_word R row (index_of rd ∷ index_of rs1 ∷ index_of rs2 ∷ []) none }
+// The word of `rd, rs1, rs2`, by its mnemonic.
+#[tactic(auto, using(crate::proofs::Forms::word_registers))]
+pub fn encode_r_type(mnemonic: Mnemonic, rd: Register, rs1: Register, rs2: Register) -> u32
+    ensures { result ≡ form_word R mnemonic (index_of rd ∷ index_of rs1 ∷ index_of rs2 ∷ []) none }
 {
-    opcode_of(row, opcodes) + spread(rd, rs1, number_of(rs2))
+    u32::from(mnemonic.opcode()) + spread(rd, rs1, number_of(rs2))
 }
 
+// Each form has a function of its own, of one line over `spread` and `reduced`: a parameter for the field or the order would be no shorter.
 // The word of `rd, rs1, n`. A load's `rd, n(rs1)` and a branch's `rs1, rs2, n` have the same.
-pub fn encode_i_type(row: usize, opcodes: &[u8; 50], rd: Register, rs1: Register, imm: Whole) -> u32
-    requires row_in_table { row < 50 }
-    requires opcodes_are { opcodes.now ≡ opcode_numbers }
-    ensures { result ≡ form_word I row (index_of rd ∷ index_of rs1 ∷ []) (some (whole_meant imm)) }
+#[tactic(auto, using(crate::proofs::Forms::word_number, crate::proofs::Forms::power_17))]
+pub fn encode_i_type(mnemonic: Mnemonic, rd: Register, rs1: Register, imm: Whole) -> u32
+    ensures { result ≡ form_word I mnemonic (index_of rd ∷ index_of rs1 ∷ []) (some (whole_meant imm)) }
 {
-    opcode_of(row, opcodes) + spread(rd, rs1, reduced(imm, IMMEDIATE))
+    u32::from(mnemonic.opcode()) + spread(rd, rs1, reduced(imm, IMMEDIATE))
 }
 
 // The word of a shift, `rd, rs1, n`.
-pub fn encode_shift(
-    row: usize,
-    opcodes: &[u8; 50],
-    rd: Register,
-    rs1: Register,
-    shamt: Whole,
-) -> u32
-    requires row_in_table { row < 50 }
-    requires opcodes_are { opcodes.now ≡ opcode_numbers }
-    ensures { result ≡ form_word Shift row (index_of rd ∷ index_of rs1 ∷ []) (some (whole_meant shamt)) }
+#[tactic(auto, using(crate::proofs::Forms::word_shift, crate::proofs::Forms::power_8))]
+pub fn encode_shift(mnemonic: Mnemonic, rd: Register, rs1: Register, shamt: Whole) -> u32
+    ensures { result ≡ form_word Shift mnemonic (index_of rd ∷ index_of rs1 ∷ []) (some (whole_meant shamt)) }
 {
-    opcode_of(row, opcodes) + spread(rd, rs1, reduced(shamt, AMOUNT))
+    u32::from(mnemonic.opcode()) + spread(rd, rs1, reduced(shamt, AMOUNT))
 }
 
 // The word of a store, `rs2, n(rs1)`: the base register is the lower of the two.
-pub fn encode_s_type(
-    row: usize,
-    opcodes: &[u8; 50],
-    rs1: Register,
-    rs2: Register,
-    imm: Whole,
-) -> u32
-    requires row_in_table { row < 50 }
-    requires opcodes_are { opcodes.now ≡ opcode_numbers }
-    ensures { result ≡ form_word Store row (index_of rs2 ∷ index_of rs1 ∷ []) (some (whole_meant imm)) }
+#[tactic(auto, using(crate::proofs::Forms::word_store, crate::proofs::Forms::power_17))]
+pub fn encode_s_type(mnemonic: Mnemonic, rs1: Register, rs2: Register, imm: Whole) -> u32
+    ensures { result ≡ form_word Store mnemonic (index_of rs2 ∷ index_of rs1 ∷ []) (some (whole_meant imm)) }
 {
-    opcode_of(row, opcodes) + spread(rs1, rs2, reduced(imm, IMMEDIATE))
+    u32::from(mnemonic.opcode()) + spread(rs1, rs2, reduced(imm, IMMEDIATE))
 }
 
 // The word of `rd, n`.
-pub fn encode_j_type(row: usize, opcodes: &[u8; 50], rd: Register, offset: Whole) -> u32
-    requires row_in_table { row < 50 }
-    requires opcodes_are { opcodes.now ≡ opcode_numbers }
-    ensures { result ≡ form_word Jump row (index_of rd ∷ []) (some (whole_meant offset)) }
+#[tactic(auto, using(crate::proofs::Forms::word_jump, crate::proofs::Forms::power_21))]
+pub fn encode_j_type(mnemonic: Mnemonic, rd: Register, offset: Whole) -> u32
+    ensures { result ≡ form_word Jump mnemonic (index_of rd ∷ []) (some (whole_meant offset)) }
 {
-    opcode_of(row, opcodes) + number_of(rd) * LOW + reduced(offset, OFFSET) * HIGH
+    u32::from(mnemonic.opcode()) + number_of(rd) * LOW + reduced(offset, OFFSET) * HIGH
 }
 
 // The word of an instruction without operands.
-pub fn encode_system(row: usize, opcodes: &[u8; 50]) -> u32
-    requires row_in_table { row < 50 }
-    requires opcodes_are { opcodes.now ≡ opcode_numbers }
-    ensures { result ≡ form_word System row [] none }
+#[tactic(auto, using(crate::proofs::Forms::word_system))]
+pub fn encode_system(mnemonic: Mnemonic) -> u32
+    ensures { result ≡ form_word System mnemonic [] none }
 {
-    opcode_of(row, opcodes)
+    u32::from(mnemonic.opcode())
 }
 
-#[derive(Clone, Copy)]
-pub enum Decoded {
-    Is(Instruction),
-    Refused(u8),
-}
-
-// Whether a word has no bit set above its form's fields. A form from 7 on has none.
-fn is_clear(form: u8, word: u32) -> bool
-    ensures { result ≡ ltb word (2 ^ unused_from (places (form_at form))) }
+// Whether a word has no bit set above its form's fields.
+#[tactic(auto, unfolding(instruction::specs::Table::places, instruction::specs::Words::unused_from))]
+fn is_clear(form: Form, word: u32) -> bool
+    ensures { result ≡ ltb word (2 ^ unused_from (places (form_meant form))) }
 {
     match form {
-        R_TYPE => word < REGISTERS_END,
-        SHIFT => word < AMOUNT_END,
-        I_TYPE | LOAD | STORE | BRANCH | JUMP => true,
-        _ => word < OPCODE_END,
+        Form::R => word < REGISTERS_END,
+        Form::Shift => word < AMOUNT_END,
+        Form::I | Form::Load | Form::Store | Form::Branch | Form::Jump => true,
+        Form::System => word < OPCODE_END,
     }
 }
 
@@ -149,6 +113,7 @@ fn register_at(word: u32, unit: u32) -> Register
 }
 
 // The number that the bits of a field mean, from -`half` to `half` - 1.
+#[tactic(auto, using(crate::proofs::Forms::signed_low, crate::proofs::Forms::signed_high, crate::proofs::Forms::below_zero))]
 fn signed(field: u32, half: u32) -> Whole
     requires field_fits { field < half + half }
     requires half_fits { half ≤ 0x100000 }
@@ -158,67 +123,68 @@ fn signed(field: u32, half: u32) -> Whole
     if field < half {
         Whole {
             negative: false,
-            magnitude: field as u64,
+            magnitude: u64::from(field),
         }
     } else {
         Whole {
             negative: true,
-            magnitude: (half + half - field) as u64,
+            magnitude: u64::from(half + half - field),
         }
     }
 }
 
-fn number_at(form: u8, word: u32) -> Whole
-    ensures value { number_for (places (form_at form)) (whole_meant result) ≡ number_in word (places (form_at form)) }
+#[tactic(auto, using(crate::proofs::Forms::number_shift, crate::proofs::Forms::number_jump, crate::proofs::Forms::number_other))]
+fn number_at(form: Form, word: u32) -> Whole
+    ensures value { number_for (places (form_meant form)) (whole_meant result) ≡ number_in word (places (form_meant form)) }
     ensures settled { result ≡ whole_for (whole_meant result) }
 {
     match form {
-        SHIFT => Whole {
+        Form::Shift => Whole {
             negative: false,
-            magnitude: (word / TOP % AMOUNTS) as u64,
+            magnitude: u64::from(word / TOP % AMOUNTS),
         },
-        JUMP => signed(word / HIGH, OFFSET_HALF),
+        Form::Jump => signed(word / HIGH, OFFSET_HALF),
         _ => signed(word / TOP, IMMEDIATE_HALF),
     }
 }
 
 // The operands that a word holds.
-fn operands_of(form: u8, word: u32) -> Operands
-    ensures value { operands_meant (places (form_at form)) result ≡ record { registers = registers_in word (places (form_at form)); number = number_in word (places (form_at form)) } }
+#[tactic(auto, using(crate::proofs::Forms::registers_store, crate::proofs::Forms::registers_other))]
+fn operands_of(form: Form, word: u32) -> Operands
+    ensures value { operands_meant (places (form_meant form)) result ≡ operands_in word (places (form_meant form)) }
     ensures settled { result.number ≡ whole_for (whole_meant result.number) }
 {
     let low = register_at(word, LOW);
     let high = register_at(word, HIGH);
     let third = register_at(word, TOP);
     let number = number_at(form, word);
-    if form == STORE {
-        return Operands {
+    match form {
+        Form::Store => Operands {
             first: high,
             second: low,
             third,
             number,
-        };
-    }
-    Operands {
-        first: low,
-        second: high,
-        third,
-        number,
+        },
+        _ => Operands {
+            first: low,
+            second: high,
+            third,
+            number,
+        },
     }
 }
 
 // The instruction of a word, or 30, or 31.
-pub fn decode(word: u32, opcodes: &[u8; 50], forms: &[u8; 50]) -> Decoded
-    requires opcodes_are { opcodes.now ≡ opcode_numbers }
-    requires forms_are { forms.now ≡ form_numbers }
+#[tactic(auto, using(crate::proofs::Coding::word_unknown, crate::proofs::Coding::word_unused))]
+pub fn decode(word: u32) -> Result<Instruction, Refusal>
     ensures { DecodesTo word result }
 {
-    let Row::At(row) = instruction::opcode::find_opcode(word % LOW, opcodes) else {
-        return Decoded::Refused(30);
+    let Some(mnemonic) = find_opcode(word % LOW) else {
+        return Err(Refusal::UnknownOpcode);
     };
-    let form = forms[row];
-    if is_clear(form, word) {
-        return Decoded::Is(Instruction::from_parts(row, operands_of(form, word)));
+    let form = mnemonic.form();
+    if !is_clear(form, word) {
+        return Err(Refusal::UnusedBit);
     }
-    Decoded::Refused(31)
+    Ok(Instruction::from_parts(mnemonic, operands_of(form, word)))
 }

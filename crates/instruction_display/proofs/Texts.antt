@@ -1,65 +1,56 @@
--- The text of a case: its mnemonic is the one in the row that the code takes, and its form is that row's.
-use mathlib.Core.Path.{◌≡◌, sym, ap, ◌∙◌}
-use Prim.Native.Nat.{ℕ, ◌≤◌}
+-- How long the text of an instruction is: at most 39 bytes, with a number of 64 bits and a sign.
+use mathlib.Core.Path.{ap}
+use Prim.Native.Nat.{ℕ, ◌≤◌, ◌<◌, ◌^◌}
 use native.Mathlib.Omega.{arith}
-use mathlib.Core.Bool.{true}
-use mathlib.Core.List.{List, append-nil}
-use lib.ListN.{length}
-use lib.Dec.{ltb}
-use Rattle.text_lexical.specs.Promised.{whole_meant}
-use Rattle.text_writer.specs.Promised.{Written}
-use Rattle.instruction.specs.Table.{Form, I, Shift, Load, Store, Branch, System, places}
-use Rattle.instruction.specs.Text.{places_text, operands_text, instruction_text}
-use Rattle.instruction.specs.Promised.{row_at, registers_for, number_for, registers_of, parts_of, instruction_meant}
+use mathlib.Core.Bool.{Bool, true, false}
+use mathlib.Core.List.{[], ◌∷◌}
+use lib.IntN.{ℤ}
+use lib.ListN.{length, length-append}
+use Rattle.text_lexical.specs.Numbers.{decimal, signed_decimal}
+use Rattle.text_lexical.specs.Promised.{index_of, signed_meant, whole_meant}
+use Rattle.text_lexical.specs.declared.number.Whole.{Whole}
+use Rattle.text_lexical.proofs.Numbers.{decimal-length}
+use Rattle.text_writer.proofs.Decimals.{signed-minus, signed-zero}
+use Rattle.instruction.specs.Table.{Form, R, I, Shift, Load, Store, Branch, Jump, System, places, Row}
+use Rattle.instruction.specs.Text.{register_text, number_text, places_text, operands_text, instruction_text}
+use Rattle.instruction.specs.Promised.{row_for, mnemonic_for, registers_for, number_for, parts_of, instruction_meant}
 use Rattle.instruction.specs.declared.instruction.Instruction.{Instruction}
-use Rattle.instruction.proofs.Parts.{case_row}
-use Rattle.instruction_codec.specs.Promised.{form_text}
-use Rattle.instruction_codec.proofs.Pieces.{memory-length}
+use Rattle.instruction.proofs.Columns.{mnemonic-short, row-back}
+use Rattle.instruction.proofs.Meaning.{meant-fits}
+use Rattle.instruction.proofs.Parts.{register-below}
+use Rattle.text_lexical.proofs.Tests.{split}
 
-module _ (k : ℕ) (i j : Instruction) (e : i ≡ j) (below : ltb k 50 ≡ true) (mnemonic : (parts_of j).mnemonic ≡ (row_at k).mnemonic) where
-  -- What a form's writer is handed.
-  abbrev handed : Form → List ℕ
-  handed f = form_text f k (registers_for (places f) (registers_of (parts_of j).operands)) (number_for (places f) (whole_meant (parts_of j).operands.number))
+-- A register's text has at most 3 bytes, and a number's at most 21.
+register-length : (r : ℕ) → r < 16 → length (register_text r) ≤ 3
+unfolding register_text
+register-length r h = omega (arith, decimal-length 1 r (omega arith))
 
-  abbrev text : List ℕ
-  text = instruction_text (instruction_meant i)
+number-length : (n : Whole) → n.magnitude < 2 ^ 64 → length (signed_decimal (whole_meant n)) ≤ 21
+unfolding signed_decimal
+number-length n h = go n.negative n.magnitude (decimal-length 19 n.magnitude (omega arith))
+  where
+    go : (s : Bool) (m : ℕ) → length (decimal m) ≤ 20 → length (signed_decimal (signed_meant s m)) ≤ 21
+    go false m l = omega arith
+    go true m l = split 0 m (λ p. omega (arith, ap length (signed-minus m p))) (λ p. omega (arith, ap length (signed-zero m p)))
 
-  pub text_of : (f : Form) → (row_at k).form ≡ f → text ≡ handed f
-  unfolding form_text instruction_text
-  text_of f form = rw (e, case_row k j below mnemonic, form)
+operands-length : (f : Form) (a b c : ℕ) (z : ℤ) → a < 16 → b < 16 → c < 16 → length (signed_decimal z) ≤ 21
+    → length (operands_text (places f) (registers_for (places f) (a ∷ b ∷ c ∷ [])) (number_for (places f) z)) ≤ 32
+unfolding places registers_for number_for operands_text places_text number_text
+operands-length R a b c z ha hb hc h = simp length-append (omega (arith, register-length a ha, register-length b hb, register-length c hc))
+operands-length I a b c z ha hb hc h = simp length-append (omega (arith, register-length a ha, register-length b hb))
+operands-length Shift a b c z ha hb hc h = simp length-append (omega (arith, register-length a ha, register-length b hb))
+operands-length Load a b c z ha hb hc h = simp length-append (omega (arith, register-length a ha, register-length b hb))
+operands-length Store a b c z ha hb hc h = simp length-append (omega (arith, register-length a ha, register-length b hb))
+operands-length Branch a b c z ha hb hc h = simp length-append (omega (arith, register-length a ha, register-length b hb))
+operands-length Jump a b c z ha hb hc h = simp length-append (omega (arith, register-length a ha))
+operands-length System a b c z ha hb hc h = omega arith
 
-  -- Shifts and branches are written as addi is, stores as loads are.
-  pub text-shift : (row_at k).form ≡ Shift → text ≡ handed I
-  unfolding form_text places registers_for number_for operands_text places_text
-  text-shift form = text_of Shift form
-
-  pub text-branch : (row_at k).form ≡ Branch → text ≡ handed I
-  unfolding form_text places registers_for number_for operands_text places_text
-  text-branch form = text_of Branch form
-
-  pub text-store : (row_at k).form ≡ Store → text ≡ handed Load
-  unfolding form_text places registers_for number_for operands_text places_text
-  text-store form = text_of Store form
-
-  -- Without operands it is the mnemonic.
-  pub text-system : (row_at k).form ≡ System → text ≡ (row_at k).mnemonic
-  unfolding form_text places operands_text
-  text-system form = text_of System form ∙ append-nil (row_at k).mnemonic
-
-  -- A load's text is as long as addi's with the same operands.
-  long_as : text ≡ handed Load → length text ≡ length (handed I)
-  unfolding places registers_for number_for
-  long_as t = let o = (parts_of j).operands in ap length t ∙ memory-length k o.first o.second o.number
-
-  pub length-load : (row_at k).form ≡ Load → length text ≡ length (handed I)
-  length-load form = long_as (text_of Load form)
-
-  pub length-store : (row_at k).form ≡ Store → length text ≡ length (handed I)
-  length-store form = long_as (text-store form)
-
--- What was measured of a text, or was written as it, for the text that it is.
-pub measured : {x y r m : ℕ} → x ≡ y → m ≤ 39 → (r ≡ y) × (r ≤ m) → (r ≡ x) × (r ≤ 39)
-measured e l h = (h.0 ∙ sym e, omega (arith, h.1))
-
-pub is-written : {t u old new : List ℕ} {at r : ℕ} → t ≡ u → Written old at u r new → Written old at t r new
-is-written e h = rw e h
+pub text-bound : (i : Instruction) → (parts_of i).operands.number.magnitude < 2 ^ 64 → length (instruction_text (instruction_meant i)) ≤ 39
+unfolding instruction_text
+text-bound i h =
+    let r = row_for (parts_of i).mnemonic in
+    let o = (parts_of i).operands in
+    let m = ap (λ (x : Row). length x.mnemonic) (row-back r (meant-fits i).in_table) in
+    let l = operands-length r.form (index_of o.first) (index_of o.second) (index_of o.third) (whole_meant o.number)
+    (register-below o.first) (register-below o.second) (register-below o.third) (number-length o.number h) in
+    rw length-append (omega (arith, m, l, (mnemonic-short (mnemonic_for r.mnemonic)).few))

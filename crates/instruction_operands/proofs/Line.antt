@@ -3,30 +3,42 @@ use Prim.Native.Nat.{ℕ, zero, suc, ◌+◌, ◌-◌, ◌≤◌, ◌<◌}
 use mathlib.Core.Path.{◌≡◌, refl, sym, ap, ◌∙◌, subst}
 use native.Mathlib.Omega.{arith}
 use native.Mathlib.Numerals.{add-one}
+use mathlib.Core.Bool.{Bool, true, false, true≢false}
+use Rattle.std.specs.Option.{is_some}
 use mathlib.Core.Option.{none, some}
 use mathlib.Core.List.{List, [], ◌∷◌, map}
 use lib.ListN.{length, take, drop, get_or, length-take, length-map, drop_of_length-le, get_or-map}
 use lib.Seq.{take-nil, drop-cons, get_or-take, get_or-drop}
 use lib.Dec.{eqb}
-use borrow.Author.Tests.{eq-eqb, ne_eqb}
-use Rattle.text_lexical.specs.Bytes.{Result, value, refused, lower, find}
+use borrow.Author.Tests.{eqb-true, eqb-false, eq-eqb, ne_eqb}
+use Rattle.std.specs.Prelude.{Ok, Err, Some, None}
+use Rattle.std.specs.Prelude.{Option as StdOption}
+use Rattle.std.specs.Prelude.{Result as Answer}
+use Rattle.text_lexical.specs.Bytes.{value, refused, lower, find}
 use Rattle.text_lexical.specs.Promised.{key_of}
 use Rattle.text_lexical.proofs.Keys.{Below, lowered-below}
+use Rattle.refusal.specs.declared.refusal.Refusal.{Refusal}
+use Rattle.refusal.specs.declared.refusal.Refusal.TheVariants.{MnemonicExpected, UnknownMnemonic, OperandCount}
 use Rattle.text.specs.Tokens.{Token}
-use Rattle.text.specs.Lines.{Line}
-use Rattle.text.specs.Promised.{kind_meant, firsts, meant}
+use Rattle.text.specs.Lines.{kept}
+use Rattle.text.specs.Lines.{Line as MeantLine}
+use Rattle.text.specs.Promised.{kind_meant, mark_of_byte, firsts, meant, spelling, filler}
 use Rattle.text.specs.declared.lexer.Kind.{Kind}
-use Rattle.text.specs.declared.lexer.Kind.TheVariants.{Identifier}
+use Rattle.text.specs.declared.lexer.Kind.TheVariants.{Identifier, Register, NoRegister, Number, Negative, Hex, Binary, Directive, Comma, Colon, LParen, RParen}
 use Rattle.text.specs.declared.lexer.Token.{Token as KeptToken}
-use Rattle.instruction.specs.Table.{Place, Form, R, I, Shift, Load, Store, Branch, Jump, System, places, Row, table, row_named}
-use Rattle.instruction.specs.Operands.{Instruction, read_identifier, read_operands, made, read_row, read_mnemonic, read_instruction, behind}
-use Rattle.instruction.specs.Promised.{row_at, form_at, form_number, parts_meant, SettledFor}
-use Rattle.instruction_operands.specs.Promised.{operand_meant, Reads}
-use Rattle.instruction_operands.specs.declared.assembler.Operand.{Operand}
-use Rattle.instruction_operands.specs.declared.assembler.Operand.TheVariants.{Are, Refused}
+use Rattle.text.specs.declared.parser.Line.{Line}
+use Rattle.instruction.specs.Table.{Place, Form, R, I, Shift, Load, Store, Branch, Jump, System, Row, places, table, row_named}
+use Rattle.instruction.specs.Operands.{read_identifier, mark_byte, read_operands, made, read_row, read_mnemonic, read_instruction, behind}
+use Rattle.instruction.specs.Promised.{row_of, form_meant, found_meant, operands_meant, SettledFor}
+use Rattle.instruction.specs.declared.form.Form.{Form as CodeForm}
+use Rattle.instruction.specs.Forms.{operand_list, mark_of}
+use Rattle.instruction.specs.declared.form.Mark.{Mark}
+use Rattle.instruction.specs.declared.form.Operand.{Operand}
 use Rattle.instruction.specs.declared.instruction.Operands.{Operands}
-use Rattle.instruction.proofs.Columns.{form-numbered}
+use Rattle.instruction.specs.declared.opcode.Mnemonic.{Mnemonic}
 use Rattle.instruction.proofs.Lookup.{row-by-key}
+use Rattle.instruction_operands.specs.declared.assembler.Parsed.{Parsed}
+use Rattle.instruction_operands.specs.Promised.{Within, MarkIs, Reads, RowIs, ParsedIs, Kept}
 
 -- ---- forms
 
@@ -48,6 +60,101 @@ six-places System = omega arith
 pub get_d_any : {A : Type 0} (l : List A) (i : ℕ) (d e : A) → i < length l → get_or l i d ≡ get_or l i e
 get_d_any l i d e h = let p = drop-cons l i d h in let q = drop-cons l i e h in cc
 
+-- ---- how many tokens there are
+
+-- Those of an operand, and of more of them.
+tokens_with : StdOption Mark → ℕ
+tokens_with None = 1
+tokens_with (Some m) = 2
+
+tokens_in : List Operand → ℕ
+tokens_in [] = 0
+tokens_in (o ∷ os) = tokens_with (mark_of o) + tokens_in os
+
+form-tokens : (f : Form) → tokens_in (operand_list f) ≡ length (places f)
+unfolding tokens_in tokens_with places
+form-tokens R = refl
+form-tokens I = refl
+form-tokens Shift = refl
+form-tokens Load = refl
+form-tokens Store = refl
+form-tokens Branch = refl
+form-tokens Jump = refl
+form-tokens System = refl
+
+-- So many are counted before the i-th operand.
+pub record Counts (f : Form) (os : List Operand) (i n : ℕ) : Type 0 where
+  sum : n + tokens_in (drop i os) ≡ length (places f)
+
+pub counts-begin : {f : Form} {os : List Operand} → os ≡ operand_list f → Counts f os 0 0
+counts-begin {f} e = record { sum = let q = form-tokens f in rw e (omega arith) }
+
+module _ {f : Form} {os : List Operand} {i n : ℕ} (c : Counts f os i n) where
+  counts-on : (o : Operand) → i < length os → n + (tokens_with (mark_of (get_or os i o)) + tokens_in (drop (i + 1) os)) ≡ length (places f)
+  unfolding tokens_in
+  counts-on o h = rw (add-one i) (rw (drop-cons os i o h) at c.sum)
+
+  pub counts-operand : (o : Operand) → i < length os → is_some (mark_of (get_or os i o)) ≡ false → Counts f os (i + 1) (n + 1)
+  unfolding tokens_with
+  counts-operand o h e = go (mark_of (get_or os i o)) (counts-on o h) e
+    where
+      go : (m : StdOption Mark) → n + (tokens_with m + tokens_in (drop (i + 1) os)) ≡ length (places f) → is_some m ≡ false → Counts f os (i + 1) (n + 1)
+      go None s e = record { sum = omega arith }
+      go (Some m) s e = absurd (true≢false e)
+
+  pub counts-mark : (o : Operand) → i < length os → is_some (mark_of (get_or os i o)) ≡ true → Counts f os (i + 1) (n + 1 + 1)
+  unfolding tokens_with
+  counts-mark o h e = go (mark_of (get_or os i o)) (counts-on o h) e
+    where
+      go : (m : StdOption Mark) → n + (tokens_with m + tokens_in (drop (i + 1) os)) ≡ length (places f) → is_some m ≡ true → Counts f os (i + 1) (n + 1 + 1)
+      go None s e = absurd (true≢false (sym e))
+      go (Some m) s e = record { sum = omega arith }
+
+  -- There are no more than six.
+  pub counts-few : n ≤ 6
+  counts-few = omega (arith, c.sum, six-places f)
+
+  pub counts-end : length os ≤ i → n ≡ length (places f)
+  unfolding tokens_in
+  counts-end h = let e : drop i os ≡ [] = drop_of_length-le os h in omega (arith, rw e at c.sum)
+
+-- ---- marks
+
+-- A token of a kind is the mark of a byte exactly if its own is that one.
+mark-of : (k : Kind) (u : List ℕ) (b : ℕ) → 0 < b → mark_of_byte k b ≡ eqb b (mark_byte (kind_meant k u))
+unfolding mark_byte
+mark-of Comma u b h = refl
+mark-of Colon u b h = refl
+mark-of LParen u b h = refl
+mark-of RParen u b h = refl
+mark-of Identifier u b h = sym (ne_eqb b 0 (λ e. omega arith))
+mark-of (Register r) u b h = sym (ne_eqb b 0 (λ e. omega arith))
+mark-of NoRegister u b h = sym (ne_eqb b 0 (λ e. omega arith))
+mark-of (Number n) u b h = sym (ne_eqb b 0 (λ e. omega arith))
+mark-of (Negative n) u b h = sym (ne_eqb b 0 (λ e. omega arith))
+mark-of (Hex n) u b h = sym (ne_eqb b 0 (λ e. omega arith))
+mark-of (Binary n) u b h = sym (ne_eqb b 0 (λ e. omega arith))
+mark-of Directive u b h = sym (ne_eqb b 0 (λ e. omega arith))
+
+-- What an array of tokens is read as past its end.
+abbrev pub past : KeptToken
+past = record { kind = Identifier; start = 0; length = 0 }
+
+module _ (ts : List KeptToken) (at : ℕ) (m : Mark) (full : length ts ≡ kept) (w : Within at (Some m)) where
+  -- whether the token is the mark, by its byte
+  told : (b : Bool) → b ≡ mark_of_byte (get_or ts at past).kind m.byte → (u : List ℕ) → b ≡ eqb m.byte (mark_byte (kind_meant (get_or ts at filler).kind u))
+  told b e u =
+      e ∙ mark-of (get_or ts at past).kind u m.byte w.1
+      ∙ ap (λ t. eqb m.byte (mark_byte (kind_meant t.kind u))) (get_d_any ts at past filler (omega (arith, w.0)))
+
+  pub mark-found : true ≡ mark_of_byte (get_or ts at past).kind m.byte → MarkIs ts at (Some m) (Ok (at + 1))
+  mark-found e = (refl, λ u. sym (eqb-true _ _ (sym (told true e u))))
+
+  pub mark-missing : false ≡ mark_of_byte (get_or ts at past).kind m.byte → MarkIs ts at (Some m) (Err m.refusal)
+  mark-missing e = (refl, λ u q. eqb-false _ _ (sym (told false e u)) (sym q))
+
+-- ---- operand tokens
+
 -- As many tokens are looked at as there are places.
 read_take : (ps : List Place) (ts : List Token) → read_operands ps (take (length ps) ts) ≡ read_operands ps ts
 unfolding read_operands
@@ -67,66 +174,51 @@ drop-take f (suc k) n zero l e = absurd (omega arith)
 drop-take f (suc k) n (suc m) [] e = sym (take-nil n)
 drop-take f (suc k) n (suc m) (a ∷ l) e = drop-take f k n m l (omega arith)
 
-module _ (s : List ℕ) (ts : List KeptToken) (at count : ℕ) where
-  -- What is read at places after the mnemonic is read of all tokens that are kept after it.
-  read_kept : (ps : List Place) → at < count → count - at - 1 ≡ length ps
-      → read_operands ps (drop (at + 1) (firsts s ts count)) ≡ read_operands ps (map (meant s) (drop (at + 1) ts))
-  read_kept ps h e = ap (read_operands ps) (drop-take (meant s) (at + 1) (length ps) count ts (omega arith)) ∙ read_take ps (map (meant s) (drop (at + 1) ts))
+-- What is read at places after the mnemonic is read of all tokens that are kept after it.
+read_kept : (s : List ℕ) (ts : List KeptToken) (at count : ℕ) (ps : List Place) → at < count → count - at - 1 ≡ length ps
+    → read_operands ps (drop (at + 1) (firsts s ts count)) ≡ read_operands ps (map (meant s) (drop (at + 1) ts))
+read_kept s ts at count ps h e = ap (read_operands ps) (drop-take (meant s) (at + 1) (length ps) count ts (omega arith)) ∙ read_take ps (map (meant s) (drop (at + 1) ts))
 
-  -- A row's operands, where there are as many tokens as its form has.
-  pub row_read : (r : Row) (form n : ℕ) (o : Operand) → form ≡ form_number r.form → n ≡ length (places (form_at form)) → at < count
-      → count - at - 1 ≡ n → Reads (places (form_at form)) ts at o
-      → made r (operand_meant (places r.form) o) ≡ read_row r (count - at - 1) (drop (at + 1) (firsts s ts count))
-  unfolding read_row
-  row_read r form n o f m h e reads =
-      let g : form_at form ≡ r.form = ap form_at f ∙ form-numbered r.form in
-      let c : count - at - 1 ≡ length (places r.form) = e ∙ m ∙ ap (λ x. length (places x)) g in
-      rw (read_row, eq-eqb (count - at - 1) (length (places r.form)) c, read_kept (places r.form) h c)
-      (ap (made r) (subst (λ x. operand_meant (places x) o ≡ read_operands (places x) (map (meant s) (drop (at + 1) ts))) g (reads.means s)))
-
--- The operands of a form are settled by the row's.
-pub settled-row : (r : Row) (form : ℕ) (o : Operands) → form ≡ form_number r.form → SettledFor (places (form_at form)) o → SettledFor (places r.form) o
-settled-row r form o f h = subst (λ x. SettledFor (places x) o) (ap form_at f ∙ form-numbered r.form) h
-
--- Where there are no operands, their refusal is all.
-pub made-refused : {o : Operand} {n : ℕ} {x : Result Instruction} (r : Row) (ps : List Place) → o ≡ Refused n → made r (operand_meant ps o) ≡ x → refused n ≡ x
-unfolding made
-made-refused r ps g e = rw g at e
-
--- The instruction of a row and its operands.
-pub made-read : {o : Operand} {p : Operands} {x : Result Instruction} (row : ℕ) → o ≡ Are p
-    → made (row_at row) (operand_meant (places (row_at row).form) o) ≡ x → value (parts_meant (record { row = row; operands = p })) ≡ x
-unfolding made
-made-read row g e = rw g at e
+-- ---- a row's operands
 
 -- A row with another count of tokens.
-pub row-refused : (r : Row) (form n count : ℕ) (ts : List Token) → form ≡ form_number r.form → n ≡ length (places (form_at form))
-    → (count ≡ n → ⊥) → refused 16 ≡ read_row r count ts
+pub row-refused : (r : Row) (count : ℕ) (ts : List Token) → (count ≡ length (places r.form) → ⊥) → refused 16 ≡ read_row r count ts
 unfolding read_row
-row-refused r form n count ts f m h =
-    let g : form_at form ≡ r.form = ap form_at f ∙ form-numbered r.form in
-    let c : n ≡ length (places r.form) = m ∙ ap (λ x. length (places x)) g in
-    rw (read_row, ne_eqb count (length (places r.form)) (λ e. h (e ∙ sym c)))
+row-refused r count ts h = rw (read_row, ne_eqb count (length (places r.form)) h)
+
+module _ (m : Mnemonic) (l : Line) (at : ℕ) (form : CodeForm) (f : form_meant form ≡ (row_of m).form) where
+  -- There are not as many tokens as the form has.
+  pub row-other : (l.count - at - 1 ≡ length (places (form_meant form)) → ⊥) → RowIs m l at (Err OperandCount)
+  row-other h =
+      record {
+        means = λ s. row-refused (row_of m) (l.count - at - 1) (drop (at + 1) (firsts s l.tokens l.count)) (λ e. h (e ∙ ap (λ x. length (places x)) (sym f)));
+        settled = tt;
+      }
+
+  module _ (h : at < l.count) (e : l.count - at - 1 ≡ length (places (form_meant form))) where
+    -- There are as many.
+    as-many : (s : List ℕ) → made (row_of m) (read_operands (places (form_meant form)) (map (meant s) (drop (at + 1) l.tokens)))
+        ≡ read_row (row_of m) (l.count - at - 1) (drop (at + 1) (firsts s l.tokens l.count))
+    unfolding read_row
+    as-many s =
+        let c : l.count - at - 1 ≡ length (places (row_of m).form) = e ∙ ap (λ x. length (places x)) f in
+        rw (read_row, eq-eqb (l.count - at - 1) (length (places (row_of m).form)) c)
+        (ap (λ x. made (row_of m) (read_operands (places x) (map (meant s) (drop (at + 1) l.tokens)))) f
+        ∙ ap (made (row_of m)) (sym (read_kept s l.tokens at l.count (places (row_of m).form) h c)))
+
+    pub row-fault : (x : Refusal) → Reads (places (form_meant form)) l.tokens at (Err x) → RowIs m l at (Err x)
+    unfolding made
+    row-fault x r = record { means = λ s. ap (made (row_of m)) (r.means s) ∙ as-many s; settled = tt }
+
+    pub row-made : (o : Operands) → Reads (places (form_meant form)) l.tokens at (Ok o) → RowIs m l at (Ok (record { mnemonic = m; operands = o }))
+    unfolding made
+    row-made o r =
+        record {
+          means = λ s. ap (λ x. made (row_of m) (value (operands_meant (places x) o))) (sym f) ∙ ap (made (row_of m)) (r.means s) ∙ as-many s;
+          settled = subst (λ x. SettledFor (places x) o) f r.settled;
+        }
 
 -- ---- the mnemonic's token
-
-module _ (s : List ℕ) (ts : List KeptToken) (at count : ℕ) where
-  -- There is none.
-  pub first-none : count ≤ at → refused 14 ≡ read_instruction (behind at (record { count = count; first = firsts s ts count }))
-  unfolding read_instruction behind
-  first-none h =
-      rw (drop_of_length-le (firsts s ts count) {i = at} (rw (length-map (take count ts) (meant s), length-take count ts) (omega arith)))
-
-  -- There is one.
-  pub first_some : (d : KeptToken) → at < count → at < length ts
-      → read_mnemonic (meant s (get_or ts at d)) (count - at - 1) (drop (at + 1) (firsts s ts count))
-      ≡ read_instruction (behind at (record { count = count; first = firsts s ts count }))
-  unfolding read_instruction behind
-  first_some d h l =
-      let n : at < length (firsts s ts count) = rw (length-map (take count ts) (meant s), length-take count ts) (omega arith) in
-      rw (drop-cons (firsts s ts count) at (meant s d) n, get_or-map (meant s) (take count ts) at d, get_or-take count ts at d h, add-one at)
-
--- ---- the mnemonic's row
 
 -- A part of a text of bytes.
 below-take : (n : ℕ) (s : List ℕ) → Below s → Below (take n s)
@@ -135,28 +227,76 @@ below-take (suc n) [] h i = omega arith
 below-take (suc n) (b ∷ s) h zero = h 0
 below-take (suc n) (b ∷ s) h (suc i) = below-take n s (λ j. h (suc j)) i
 
-pub below-part : (k n : ℕ) (s : List ℕ) → Below s → Below (take n (drop k s))
+below-part : (k n : ℕ) (s : List ℕ) → Below s → Below (take n (drop k s))
 below-part k n s h = below-take n (drop k s) (λ j. rw (get_or-drop k s j 0) (h (k + j)))
 
--- A mnemonic's row is found by the key of its spelling in lower case.
-pub named-by-key : (u : List ℕ) (key : ℕ) → Below u → key ≡ key_of (map lower u) → find (λ q. eqb (key_of q.mnemonic) key) table ≡ row_named (map lower u)
-named-by-key u key h e = rw e (sym (row-by-key (map lower u) (lowered-below u h)))
+module _ (s : List ℕ) (l : Line) (at : ℕ) (k : Kept s l) (few : at ≤ 2) where
+  -- The mnemonic's token is a part of the text.
+  pub token-within : (get_or l.tokens at past).start + (get_or l.tokens at past).length ≤ length s
+  token-within = rw (get_d_any l.tokens at past filler (omega (arith, k.places))) (k.inside_text at)
 
--- No row has the mnemonic.
-pub mnemonic-unknown : {k : Kind} {x : Result Instruction} (u : List ℕ) (count : ℕ) (ts : List Token) → k ≡ Identifier → row_named (map lower u) ≡ none
-    → read_mnemonic (kind_meant k u) count ts ≡ x → refused 15 ≡ x
-unfolding read_mnemonic read_identifier
-mnemonic-unknown u count ts g e h = rw (g, read_mnemonic, e) at h
+  -- There is none.
+  pub no-token : l.count ≤ at → ParsedIs s l at (Err MnemonicExpected)
+  unfolding read_instruction behind
+  no-token h =
+      record {
+        means = rw (drop_of_length-le (firsts s l.tokens l.count) {i = at} (rw (length-map (take l.count l.tokens) (meant s), length-take l.count l.tokens) (omega arith)));
+        settled = tt;
+      }
 
--- A row has it.
-pub mnemonic-known : {k : Kind} {x y : Result Instruction} (u : List ℕ) (count : ℕ) (ts : List Token) (r : Row) → k ≡ Identifier → row_named (map lower u) ≡ some r
-    → y ≡ read_row r count ts → read_mnemonic (kind_meant k u) count ts ≡ x → y ≡ x
-unfolding read_mnemonic read_identifier
-mnemonic-known u count ts r g e h i = h ∙ (rw (g, read_mnemonic, e) at i)
+  module _ (h : at < l.count) where
+    abbrev word : List ℕ
+    word = spelling s (get_or l.tokens at past)
+
+    -- There is one.
+    a-token : read_mnemonic (kind_meant (get_or l.tokens at past).kind word) (l.count - at - 1) (drop (at + 1) (firsts s l.tokens l.count))
+        ≡ read_instruction (behind at (record { count = l.count; first = firsts s l.tokens l.count }))
+    unfolding read_instruction behind
+    a-token =
+        let n : at < length (firsts s l.tokens l.count) = rw (length-map (take l.count l.tokens) (meant s), length-take l.count l.tokens) (omega (arith, k.places)) in
+        rw (drop-cons (firsts s l.tokens l.count) at (meant s past) n, get_or-map (meant s) (take l.count l.tokens) at past, get_or-take l.count l.tokens at past h, add-one at)
+
+    -- It is no Identifier.
+    pub no-word : ((get_or l.tokens at past).kind ≡ Identifier → ⊥) → ParsedIs s l at (Err MnemonicExpected)
+    unfolding read_mnemonic read_identifier
+    no-word f = record { means = no-identifier (get_or l.tokens at past).kind f ∙ a-token; settled = tt }
+      where
+        no-identifier : (x : Kind) → (x ≡ Identifier → ⊥) → refused 14 ≡ read_mnemonic (kind_meant x word) (l.count - at - 1) (drop (at + 1) (firsts s l.tokens l.count))
+        no-identifier Identifier f = absurd (f refl)
+        no-identifier (Register r) f = refl
+        no-identifier NoRegister f = refl
+        no-identifier (Number n) f = refl
+        no-identifier (Negative n) f = refl
+        no-identifier (Hex n) f = refl
+        no-identifier (Binary n) f = refl
+        no-identifier Directive f = refl
+        no-identifier Comma f = refl
+        no-identifier Colon f = refl
+        no-identifier LParen f = refl
+        no-identifier RParen f = refl
+
+    -- It is the one of the row that is found by the key of its spelling in lower case.
+    module _ (i : (get_or l.tokens at past).kind ≡ Identifier) (below : Below s) (key : ℕ)
+        (e : let t = get_or l.tokens at past in key ≡ key_of (map lower (take (t.start + t.length - t.start) (drop t.start s))))
+        (o : StdOption Mnemonic) (n : found_meant o ≡ find (λ q. eqb (key_of q.mnemonic) key) table) where
+      named : found_meant o ≡ row_named (map lower word)
+      named =
+          let t = get_or l.tokens at past in
+          let q : t.start + t.length - t.start ≡ t.length = omega arith in
+          let k : key ≡ key_of (map lower word) = e ∙ ap (λ j. key_of (map lower (take j (drop t.start s)))) q in
+          rw k at n ∙ sym (row-by-key (map lower word) (lowered-below word (below-part t.start t.length s below)))
+
+      pub no-mnemonic : o ≡ None → ParsedIs s l at (Err UnknownMnemonic)
+      unfolding read_mnemonic read_identifier
+      no-mnemonic e = record { means = (let q : none ≡ row_named (map lower word) = rw e at named in rw (i, read_mnemonic, ← q)) ∙ a-token; settled = tt }
+
+      pub row-is : (m : Mnemonic) → o ≡ Some m → (r : Answer Parsed Refusal) → RowIs m l at r → ParsedIs s l at r
+      unfolding read_mnemonic read_identifier
+      row-is m e r p = record { means = p.means s ∙ (let q : some (row_of m) ≡ row_named (map lower word) = rw e at named in rw (i, read_mnemonic, ← q)) ∙ a-token; settled = p.settled }
 
 -- ---- a line without a label
 
 -- Where no token is taken off, the line is read as it is.
-pub behind-none : (l : Line) → read_instruction (behind 0 l) ≡ read_instruction l
+pub behind-none : (l : MeantLine) → read_instruction (behind 0 l) ≡ read_instruction l
 unfolding behind
 behind-none l = let e : l.count - 0 ≡ l.count = omega arith in λ j. read_instruction (record { count = e j; first = l.first })

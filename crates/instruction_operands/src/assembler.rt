@@ -1,205 +1,126 @@
 // Operands: the tokens of a line read as an instruction.
 ghost use Rattle.std.specs.Prelude.{◌≡◌, List, ℕ, ◌≤◌, ◌<◌, length};
+ghost use Rattle.text_lexical.specs.Promised.{index_of};
+ghost use Rattle.refusal.specs.Refusals.{answered};
 ghost use Rattle.text.specs.Lines.{kept};
 ghost use Rattle.text.specs.Promised.{kind_meant};
 ghost use Rattle.instruction.specs.Table.{places};
 ghost use Rattle.instruction.specs.Operands.{read_register};
-ghost use Rattle.instruction.specs.Promised.{row_at, form_at, form_number, mnemonic_keys, form_numbers, slot_rows};
-ghost use Rattle.instruction_operands.specs.Promised.{register_meant, OperandIs, Within, MarkIs, Reads, RowIs, ParsedIs, Kept};
+ghost use Rattle.instruction.specs.Promised.{form_meant};
+ghost use Rattle.instruction_operands.specs.Promised.{Within, MarkIs, Reads, RowIs, ParsedIs, Kept};
 
-use instruction::form::Mark;
+use instruction::form::{Form, Mark};
 use instruction::instruction::Operands;
-use instruction::opcode::Row;
+use instruction::opcode::Mnemonic;
+use refusal::refusal::Refusal;
 use text::lexer::{Kind, Token};
-use text::parser::{Extracted, KEPT, Line};
+use text::parser::{KEPT, Line};
 use text_lexical::number::Whole;
 use text_lexical::register::Register;
 
-// The row of an instruction's mnemonic and its operands, or why there is none.
+// An instruction's mnemonic and its operands.
 #[derive(Clone, Copy)]
-pub enum Parsed {
-    Is { row: usize, operands: Operands },
-    Refused(u8),
+pub struct Parsed {
+    pub mnemonic: Mnemonic,
+    pub operands: Operands,
 }
 
-// Operands, or why there are none.
-#[derive(Clone, Copy)]
-enum Operand {
-    Are(Operands),
-    Refused(u8),
-}
-
-#[derive(Clone, Copy)]
-enum RegisterOperand {
-    Is(Register),
-    Refused(u8),
-}
-
-// The operand that a token is read as, or why it is none.
-#[derive(Clone, Copy)]
-enum OperandToken {
-    Register(Register),
-    Number(Whole),
-    Refused(u8),
-}
-
-// The place after a mark, or why there is none.
-#[derive(Clone, Copy)]
-enum Passed {
-    At(usize),
-    Refused(u8),
-}
-
-// The register that a token names: 17, 18.
-fn extract_register(kind: Kind) -> RegisterOperand
-    ensures { (u : List ℕ) → register_meant result ≡ read_register (kind_meant kind u) }
+// The register that a token names.
+#[tactic(auto, unfolding(instruction::specs::Operands::read_register))]
+fn extract_register(kind: Kind) -> Result<Register, Refusal>
+    ensures { (u : List ℕ) → answered index_of result ≡ read_register (kind_meant kind u) }
 {
     match kind {
-        Kind::Register(register) => RegisterOperand::Is(register),
-        Kind::NoRegister => RegisterOperand::Refused(18),
-        _ => RegisterOperand::Refused(17),
+        Kind::Register(register) => Ok(register),
+        Kind::NoRegister => Err(Refusal::NoSuchRegister),
+        _ => Err(Refusal::RegisterExpected),
     }
 }
 
-// A token at an operand's place: a number (8), or a register (17, 18).
-fn read_operand(kind: Kind, numeric: bool) -> OperandToken
-    ensures { OperandIs kind numeric result }
-{
-    if numeric {
-        return match text::parser::extract_number(kind) {
-            Extracted::Refused(n) => OperandToken::Refused(n),
-            Extracted::Number(number) => OperandToken::Number(number),
-        };
-    }
-    match extract_register(kind) {
-        RegisterOperand::Refused(n) => OperandToken::Refused(n),
-        RegisterOperand::Is(register) => OperandToken::Register(register),
-    }
-}
-
-// The place after the mark that follows an operand, if one does: 19, 20, 21.
-fn after_mark(tokens: [Token; KEPT], at: usize, mark: Mark) -> Passed
+// The place after the mark that follows an operand, if one does.
+fn after_mark(tokens: [Token; KEPT], at: usize, mark: Option<Mark>) -> Result<usize, Refusal>
     requires tokens_kept { length tokens ≡ kept }
     requires mark_within { Within at mark }
     ensures { MarkIs tokens at mark result }
 {
-    match mark {
-        Mark::Nothing => Passed::At(at),
-        Mark::Is { byte, refusal } => {
-            let token = tokens[at];
-            let kind = token.kind;
-            if !text::lexer::is_mark(kind, byte) {
-                return Passed::Refused(refusal);
-            }
-            Passed::At(at + 1)
-        }
+    let Some(mark) = mark else {
+        return Ok(at);
+    };
+    if !text::lexer::is_mark(tokens[at].kind, mark.byte) {
+        return Err(mark.refusal);
     }
+    Ok(at + 1)
 }
 
 // How many operand tokens a form has.
-fn operand_count(form: u8) -> usize
-    ensures { result ≡ length (places (form_at form)) }
+fn operand_count(form: Form) -> usize
+    ensures { result ≡ length (places (form_meant form)) }
 {
     let mut count = 0;
-    let mut left = instruction::form::operands_of(form);
-    while 0 < left {
+    for operand in form.operands() {
         count += 1;
-        if let Mark::Is { .. } = instruction::form::mark_of(left % 8) {
+        if operand.mark().is_some() {
             count += 1;
         }
-        left = left / 8;
     }
     count
 }
 
 // The operands of a form, from the tokens after the one at `at`: from left to right, as the form describes them.
-fn parse_operands(form: u8, tokens: [Token; KEPT], at: usize) -> Operand
+fn parse_operands(form: Form, tokens: [Token; KEPT], at: usize) -> Result<Operands, Refusal>
     requires tokens_kept { length tokens ≡ kept }
     requires place_in_range { at ≤ 2 }
-    ensures { Reads (places (form_at form)) tokens at result }
+    ensures { Reads (places (form_meant form)) tokens at result }
 {
     let mut registers = [Register::R0; 3];
     let mut count = 0;
-    let mut number = instruction::instruction::no_number();
+    let mut number = Whole::default();
     let mut next = at + 1;
-    let mut left = instruction::form::operands_of(form);
-    while 0 < left {
-        let operand = left % 8;
-        let token = tokens[next];
-        let kind = token.kind;
-        match read_operand(kind, instruction::form::is_number(operand)) {
-            OperandToken::Refused(n) => return Operand::Refused(n),
-            OperandToken::Number(n) => {
-                number = n;
-            }
-            OperandToken::Register(register) => {
-                registers[count] = register;
-                count += 1;
-            }
+    for operand in form.operands() {
+        let kind = tokens[next].kind;
+        if operand.is_number() {
+            number = text::parser::extract_number(kind)?;
+        } else {
+            registers[count] = extract_register(kind)?;
+            count += 1;
         }
-        match after_mark(tokens, next + 1, instruction::form::mark_of(operand)) {
-            Passed::Refused(n) => return Operand::Refused(n),
-            Passed::At(after) => {
-                next = after;
-            }
-        }
-        left = left / 8;
+        next = after_mark(tokens, next + 1, operand.mark())?;
     }
-    Operand::Are(Operands::new(registers, number))
+    Ok(Operands::new(registers, number))
 }
 
-// The instruction of a row, by the operand tokens after the mnemonic at `at`: 16, then the operands.
-fn parse_row(row: usize, form: u8, line: Line, at: usize) -> Parsed
-    requires row_in_table { row < 50 }
-    requires form_is { form ≡ form_number (row_at row).form }
+// The instruction of a mnemonic's row, by the operand tokens after the one at `at`.
+fn parse_row(mnemonic: Mnemonic, line: Line, at: usize) -> Result<Parsed, Refusal>
     requires token_there { at < line.count }
     requires place_in_range { at ≤ 2 }
     requires tokens_kept { length line.tokens ≡ kept }
-    ensures { RowIs row line at result }
+    ensures { RowIs mnemonic line at result }
 {
-    let count = line.count;
-    let tokens = line.tokens;
-    if count - at - 1 != operand_count(form) {
-        return Parsed::Refused(16);
+    let form = mnemonic.form();
+    if line.count - at - 1 != operand_count(form) {
+        return Err(Refusal::OperandCount);
     }
-    match parse_operands(form, tokens, at) {
-        Operand::Refused(n) => Parsed::Refused(n),
-        Operand::Are(operands) => Parsed::Is { row, operands },
-    }
+    let operands = parse_operands(form, line.tokens, at)?;
+    Ok(Parsed { mnemonic, operands })
 }
 
-// The instruction whose mnemonic is the token at `at`: 14, 15, 16, then the operands. A label's two tokens stand before it, at most.
-// `line.bad` is not looked at: a caller refuses a line with a bad token (3) before it asks for its instruction.
-pub fn parse_instruction(
-    source: &[u8],
-    line: Line,
-    at: usize,
-    mnemonics: &[u64; 50],
-    forms: &[u8; 50],
-    slots: &[u8; 293],
-) -> Parsed
+// The instruction whose mnemonic is the token at `at`. A label's two tokens stand before it, at most.
+pub fn parse_instruction(source: &[u8], line: Line, at: usize) -> Result<Parsed, Refusal>
     requires kept_line { Kept source.now line }
     requires place_in_range { at ≤ 2 }
-    requires mnemonics_are { mnemonics.now ≡ mnemonic_keys }
-    requires forms_are { forms.now ≡ form_numbers }
-    requires slots_are { slots.now ≡ slot_rows }
     ensures { ParsedIs source.now line at result }
 {
-    let tokens = line.tokens;
-    let count = line.count;
-    if count <= at {
-        return Parsed::Refused(14);
+    if line.count <= at {
+        return Err(Refusal::MnemonicExpected);
     }
-    let token = tokens[at];
-    let kind = token.kind;
-    let Kind::Identifier = kind else {
-        return Parsed::Refused(14);
+    let token = line.tokens[at];
+    let Kind::Identifier = token.kind else {
+        return Err(Refusal::MnemonicExpected);
     };
-    let start = token.start;
-    let end = start + token.length;
-    let key = text_lexical::name::lower_key(&source[start..end]);
-    match instruction::opcode::find_mnemonic(key, mnemonics, slots) {
-        Row::Missing => Parsed::Refused(15),
-        Row::At(row) => parse_row(row, forms[row], line, at),
-    }
+    let end = token.start + token.length;
+    let key = text_lexical::name::lower_key(&source[token.start..end]);
+    let Some(mnemonic) = instruction::opcode::find_mnemonic(key) else {
+        return Err(Refusal::UnknownMnemonic);
+    };
+    parse_row(mnemonic, line, at)
 }

@@ -1,8 +1,11 @@
 -- Laws of texts that are put into a room, one after the other, and of a number's digits.
-use Rattle.std.proofs.Common.{◌≡◌, ℕ, zero, suc, ◌+◌, ◌/◌, ◌%◌, ◌^◌, ◌<◌, ◌≤◌, min, true, false, eqb, List, [], ◌∷◌, ◌++◌, length, get_or, drop, set, sym, refl, ap, ◌∙◌, append_assoc, append-nil, add-zero, add-suc, suc-add, lt_of_not-le, add-one, arith, length-append, length-set, drop_of_length-le, length-take-le, drop-cons, le-ltb, lt-ltb}
+use Rattle.std.proofs.Common.{◌≡◌, ℕ, zero, suc, ◌+◌, ◌/◌, ◌%◌, ◌^◌, ◌<◌, ◌≤◌, min, true, false, eqb, List, [], ◌∷◌, ◌++◌, length, get_or, drop, set, sym, refl, ap, ◌∙◌, append_assoc, append-nil, add-zero, add-suc, suc-add, lt_of_not-le, add-one, arith, length-append, drop_of_length-le, length-take-le, take, ◌-◌, drop-cons, le-ltb, lt-ltb}
 use native.Mathlib.Nat.{min-eq_left, min-eq_right, min-le_right}
 use native.Mathlib.Decide.{dec_le}
-use lib.Seq.{sets, length-sets, set_out}
+use lib.Seq.{sets, length-sets, set_out, drop-drop}
+use borrow.Rule.Slice.PartMut.{put_mid}
+use lib.ListN.{take-append-drop}
+use Rattle.std.proofs.lemmas.List.Edits.{sets-eq}
 use Rattle.std.specs.Fmt.{decimal as written}
 use Rattle.std.proofs.lemmas.Fmt.{decimal_digit, decimal_step}
 use Rattle.test_replay.specs.Report.{decimal_in, decimal, filled, refusal_text, refusals_from, Put}
@@ -52,39 +55,21 @@ put-append {old} {mid} {new} {at} {place} {end} {s} {t} p q =
           (q.ends ∙ rw (l, e) (min-eq_right (omega arith) ∙ sym (min-eq_right (omega arith))))
     ]
 
--- ---- a text that is put byte by byte
-
--- What is left of the text at a place, put into the room as it is, makes of it what the whole text makes of the room before.
-pub record Putting (old : List ℕ) (at : ℕ) (text new : List ℕ) (place i : ℕ) : Type 0 where
-  pub long : length new ≡ length old
-  pub fits : place ≤ length new
-  pub some_of : i ≤ length text
-  pub goes : place ≡ at + i
-  pub holds : sets new place (drop i text) ≡ sets old at text
-
-pub putting-none : (old : List ℕ) (at : ℕ) (text : List ℕ) → at ≤ length old → Putting old at text old at 0
-putting-none old at text h = record { long = refl; fits = h; some_of = omega arith; goes = sym (add-zero at); holds = refl }
-
-module _ {old : List ℕ} {at : ℕ} {text new : List ℕ} {place i : ℕ} (p : Putting old at text new place i) where
-  pub putting-more : i < length text → place < length new → Putting old at text (set new place (get_or text i 0)) (place + 1) (i + 1)
-  putting-more h g =
-      rw (add-one place, add-one i) (record {
-        long = simp length-set p.long;
-        fits = simp length-set (omega arith);
-        some_of = omega arith;
-        goes = omega (arith, p.goes);
-        holds = rw (drop-cons text i 0 h) at p.holds;
-      })
-
-  pub putting-all : length text ≤ i → Put old at text place new
-  putting-all h =
-      let e : at + length text ≡ place = omega (arith, p.goes, p.some_of) in
-      put-made (rw (drop_of_length-le text h) at p.holds) (sym (rw e (min-eq_left (omega (arith, p.fits, p.long)))))
-
-  pub putting-full : length new ≤ place → Put old at text place new
-  putting-full h =
-      let e : place ≡ length old = omega (arith, p.fits, p.long) in
-      put-made (sym (sets-out new place (drop i text) h) ∙ p.holds) (e ∙ sym (min-eq_right (omega (arith, p.goes, p.some_of))))
+-- As much of a text as there is room for, put as one part.
+pub put_part : (old : List ℕ) (at n : ℕ) (text : List ℕ) → at ≤ length old → n ≡ min (length text) (length old - at)
+    → Put old at text (at + n) (put_mid at n old (take n text))
+put_part old at n text h e =
+    let w : length (take n text) ≡ n = length-take-le n text (omega arith) in
+    let t : sets old at text ≡ sets (sets old at (take n text)) (at + length (take n text)) (drop n text) =
+    rw (take-append-drop n text) at (sets-append old at (take n text) (drop n text)) in
+    let m : sets old at (take n text) ≡ put_mid at n old (take n text) =
+    sets-eq (take n text) old at (omega arith) ∙ rw (w, ← drop-drop n at old, append_assoc (take at old) (take n text) (drop n (drop at old))) in
+    let r : sets (sets old at (take n text)) (at + length (take n text)) (drop n text) ≡ sets old at (take n text) =
+    elim (dec_le (length text) n) [
+      | yes k ↦ rw (drop_of_length-le text k)
+      | no k ↦ let g = lt_of_not-le k in sets-out (sets old at (take n text)) (at + length (take n text)) (drop n text) (rw (length-sets old at (take n text)) (omega arith))
+    ] in
+    put-made (sym (t ∙ r ∙ m)) (omega arith)
 
 -- ---- a number's digits
 

@@ -1,5 +1,5 @@
 -- Counts of what was compared, and their text.
-use Rattle.std.specs.Prelude.{ℕ, ◌+◌, ◌%◌, ◌^◌, Bool, true, false, List, [], ◌∷◌, ◌++◌, slice_index, slice_set}
+use Rattle.std.specs.Prelude.{ℕ, ◌+◌, ◌%◌, ◌^◌, Bool, true, false, List, [], ◌∷◌, ◌++◌, replicate, slice_index, slice_set}
 use Rattle.test_replay.specs.Report.{filled, refusals_text}
 use Rattle.test_replay.specs.declared.tally.Outcome.{Outcome}
 use Rattle.test_replay.specs.declared.tally.Outcome.TheVariants.{Differs, Assembled, Listed, Refused}
@@ -18,6 +18,10 @@ agreed Differs = false
 agreed Assembled = true
 agreed Listed = true
 agreed (Refused n) = true
+
+-- Nothing is counted as yet.
+abbrev pub nothing_tallied : Tally
+nothing_tallied = record { records = 0; differences = 0; assembled = 0; listed = 0; refusals = record { counts = replicate 33 0 } }
 
 -- A record more.
 unfoldable pub tallied : Tally → Outcome → Tally

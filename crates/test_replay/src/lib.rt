@@ -2,6 +2,7 @@
 // calls a crate under test, so that no fault of one can hide itself.
 #![tactic(auto)]
 
+pub mod cursor;
 pub mod list;
 pub mod report;
 pub mod tally;

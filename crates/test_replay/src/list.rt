@@ -8,7 +8,6 @@ ghost use Rattle.test_replay.specs.List.{hex_digit, hex_byte_at, unescaped_at, l
 
 use std::io;
 use std::io::Read;
-use std::num::wrapping_add_usize;
 
 // A number, and the place behind the byte that ends it.
 #[derive(Clone, Copy)]
@@ -40,6 +39,7 @@ pub fn read_full<R: Read>(input: &mut R, room: &mut [u8]) -> io::Result<usize>
     ensures end { IfOk result (λ n. n < length room.new → IsAtEnd (R.remaining input.new)) }
 {
     let mut done = 0;
+    // each read says how far the next one begins
     while done < room.len() {
         let n = input.read(&mut room[done..])?;
         if n == 0 {
@@ -53,17 +53,22 @@ pub fn read_full<R: Read>(input: &mut R, room: &mut [u8]) -> io::Result<usize>
 pub fn byte_at(list: &[u8], at: usize) -> u8
     ensures { result ≡ byte_at list.now at }
 {
-    if at < list.len() { list[at] } else { 0 }
+    match list.get(at) {
+        Some(&byte) => byte,
+        None => 0,
+    }
 }
 
 // Whether a line with this tag stands at a place.
+#[tactic(auto, unfolding(crate::specs::List::has_tag, crate::specs::List::behind))]
 pub fn has_tag(list: &[u8], at: usize, tag: u8) -> bool
     ensures { result ≡ has_tag list.now at tag }
 {
-    byte_at(list, at) == tag && byte_at(list, wrapping_add_usize(at, 1)) == b' '
+    byte_at(list, at) == tag && byte_at(list, at.wrapping_add(1)) == b' '
 }
 
 // Whether a record ends before a place: at an empty line, or at the list's end, but not where it was read past that.
+#[tactic(auto, unfolding(crate::specs::List::is_record_end))]
 pub fn is_record_end(list: &[u8], at: usize) -> bool
     ensures { result ≡ is_record_end list.now at }
 {
@@ -78,68 +83,54 @@ pub fn next_record(list: &[u8], from: usize) -> usize
     ensures lower_bound { from < result }
 {
     let mut last = 0;
-    let mut at = from;
-    while at < list.len() {
+    for at in from..list.len() {
         let byte = list[at];
-        at += 1;
         if last == b'\n' && byte == b'\n' {
-            return at;
+            return at + 1;
         }
         last = byte;
     }
-    at
-}
-
-pub fn wide(x: u8) -> u64
-    ensures { result ≡ x }
-{
-    x as u64
+    list.len()
 }
 
 // The value of a digit, and 16 for what is none.
+#[tactic(auto, unfolding(crate::specs::List::digit_value))]
 fn digit_value(b: u8) -> u8
     ensures { result ≡ digit_value b }
 {
     match b {
         b'0'..=b'9' => b - b'0',
-        b'a'..=b'f' => b - 87,
+        b'a'..=b'f' => b - b'a' + 10,
         _ => 16,
     }
 }
 
 // A number with a digit behind it; the largest of 64 bits where that does not fit.
+#[tactic(auto, unfolding(crate::specs::List::fitted))]
 fn extended(value: u64, radix: u64, digit: u64) -> u64
-    requires { 0 < radix }
     ensures { result ≡ fitted (value * radix + digit) }
 {
-    let most: u64 = 0xFFFF_FFFF_FFFF_FFFF;
-    if most / radix < value {
-        return most;
-    }
-    let shifted = value * radix;
-    if most - shifted < digit {
-        return most;
-    }
-    shifted + digit
+    value.saturating_mul(radix).saturating_add(digit)
 }
 
 fn number_in(list: &[u8], from: usize, radix: u64) -> Number
     requires { 0 < radix }
     ensures { result ≡ number_at radix list.now from }
 {
-    let mut value: u64 = 0;
-    let mut at = from;
-    while at < list.len() {
-        let digit = wide(digit_value(list[at]));
+    let mut value = 0;
+    for at in from..list.len() {
+        let digit = u64::from(digit_value(list[at]));
         if radix <= digit {
-            break;
+            return Number {
+                value,
+                next: at.wrapping_add(1),
+            };
         }
         value = extended(value, radix, digit);
-        at += 1;
     }
     Number {
         value,
-        next: wrapping_add_usize(at, 1),
+        next: from.max(list.len()).wrapping_add(1),
     }
 }
 
@@ -156,6 +147,7 @@ pub fn hex_at(list: &[u8], from: usize) -> Number
     number_in(list, from, 16)
 }
 
+#[tactic(auto, unfolding(crate::specs::List::hex_digit))]
 fn hex_digit(b: u8) -> u8
     ensures value { result ≡ hex_digit b }
     ensures upper_bound { result < 16 }
@@ -165,23 +157,25 @@ fn hex_digit(b: u8) -> u8
 }
 
 // A byte of two digits in hex, lower case.
+#[tactic(auto, unfolding(crate::specs::List::hex_byte_at, crate::specs::List::behind))]
 pub fn hex_byte_at(list: &[u8], at: usize) -> Spelled
     ensures { result ≡ hex_byte_at list.now at }
 {
     let high = hex_digit(byte_at(list, at));
-    let low = hex_digit(byte_at(list, wrapping_add_usize(at, 1)));
+    let low = hex_digit(byte_at(list, at.wrapping_add(1)));
     Spelled {
         byte: high * 16 + low,
-        next: wrapping_add_usize(at, 2),
+        next: at.wrapping_add(2),
     }
 }
 
 // A byte that stands for itself, or is escaped.
+#[tactic(auto, unfolding(crate::specs::List::unescaped_at, crate::specs::List::behind))]
 pub fn unescaped_at(list: &[u8], at: usize) -> Spelled
     ensures { result ≡ unescaped_at list.now at }
 {
     let byte = byte_at(list, at);
-    let next = wrapping_add_usize(at, 1);
+    let next = at.wrapping_add(1);
     if byte == b'\\' {
         return hex_byte_at(list, next);
     }
@@ -200,6 +194,7 @@ pub fn line_at(list: &[u8], from: usize, room: &mut [u8]) -> Piece
     let start = 2;
     let mut end: usize = start;
     let mut at = from;
+    // two places go on at once, of which that of the list is told by what is read
     while end < room.len() - 1 && byte_at(list, at) != b'\n' {
         let next = unescaped_at(list, at);
         room[end] = next.byte;
@@ -210,6 +205,6 @@ pub fn line_at(list: &[u8], from: usize, room: &mut [u8]) -> Piece
     Piece {
         start,
         end,
-        next: wrapping_add_usize(at, 1),
+        next: at.wrapping_add(1),
     }
 }

@@ -1,5 +1,5 @@
-// The text of a report, put piece after piece into a room that the program lends and then writes. What goes past the room's end is
-// left out.
+// The text of a report, put piece after piece into a room that the program lends and then writes: there is no heap, and a struct of the room
+// and a place would be handed on as both are. What goes past the room's end is left out.
 ghost use Rattle.test_replay.specs.Report.{decimal, filled, verdict_text, Put};
 
 use itoa::Buffer;
@@ -11,14 +11,10 @@ pub fn put(room: &mut [u8], at: usize, bytes: &[u8]) -> usize
     if room.len() < at {
         return room.len();
     }
-    let mut place = at;
-    let mut i = 0;
-    while i < bytes.len() && place < room.len() {
-        room[place] = bytes[i];
-        place += 1;
-        i += 1;
-    }
-    place
+    let n = bytes.len().min(room.len() - at);
+    let end = at + n;
+    room[at..end].copy_from_slice(&bytes[..n]);
+    end
 }
 
 // Puts a number in decimal.
@@ -34,18 +30,14 @@ pub fn put_filled(room: &mut [u8], at: usize, text: &[u8], numbers: &[u64]) -> u
     ensures { Put room.old at (filled text.now numbers.now) result room.new }
 {
     let mut place = put(room, at, b"");
-    let mut i = 0;
     let mut n = 0;
-    while i < text.len() {
-        let byte = text[i];
+    for &byte in text {
         if n < numbers.len() && byte == b'#' {
             place = put_number(room, place, numbers[n]);
             n += 1;
         } else {
-            let bytes = [byte];
-            place = put(room, place, &bytes);
+            place = put(room, place, &[byte]);
         }
-        i += 1;
     }
     place
 }
@@ -57,6 +49,5 @@ pub fn put_verdict(room: &mut [u8], at: usize, number: u64, agrees: bool) -> usi
     if agrees {
         return put(room, at, b"");
     }
-    let numbers = [number];
-    put_filled(room, at, b"differs: record #\n", &numbers)
+    put_filled(room, at, b"differs: record #\n", &[number])
 }

@@ -1,19 +1,18 @@
 // Counts of what was compared.
 ghost use Rattle.std.specs.Prelude.{◌≡◌, replicate};
-ghost use Rattle.test_replay.specs.Tally.{one_more, counted, agreed, tallied, tally_text};
+ghost use Rattle.test_replay.specs.Tally.{one_more, counted, agreed, nothing_tallied, tallied, tally_text};
 ghost use Rattle.test_replay.specs.Report.{refusals_text, Put};
 
 use crate::report::{put, put_filled};
-use std::num::wrapping_add_u64;
 
 // No run counts to 2^64.
 pub fn more(n: u64) -> u64
     ensures { result ≡ one_more n }
 {
-    wrapping_add_u64(n, 1)
+    n.wrapping_add(1)
 }
 
-// How often each refusal was met.
+// How often each refusal was met, by its number in the list.
 #[derive(Drop)]
 pub struct Refusals {
     pub counts: [u64; 33],
@@ -26,14 +25,13 @@ impl Refusals {
         Refusals { counts: [0u64; 33] }
     }
 
+    #[tactic(auto, unfolding(crate::specs::Tally::counted))]
     pub fn with(mut self, number: u64) -> Refusals
         ensures { result ≡ record { counts = counted self.counts number } }
     {
-        let mut counts = self.counts;
         let at = number as usize;
-        if at < 33 {
-            counts[at] = more(counts[at]);
-            self.counts = counts;
+        if at < self.counts.len() {
+            self.counts[at] = more(self.counts[at]);
         }
         self
     }
@@ -44,19 +42,18 @@ impl Refusals {
     {
         let counts = self.counts;
         let mut place = put(room, at, b"");
-        let mut number: usize = 0;
-        while number < 33 {
+        for number in 0..counts.len() {
             if 0 < counts[number] {
                 let numbers = [counts[number], number as u64];
                 place = put_filled(room, place, b"# refused by #\n", &numbers);
             }
-            number += 1;
         }
         place
     }
 }
 
-// What comparing a record gave: it differs, or it agrees in what is assembled, in what is listed, or in a refusal.
+// What comparing a record gave: it differs, or it agrees in what is assembled, in what is listed, or in a refusal, by the list's own number for
+// it.
 #[derive(Clone, Copy)]
 pub enum Outcome {
     Differs,
@@ -66,15 +63,11 @@ pub enum Outcome {
 }
 
 // Whether a record agrees.
+#[tactic(auto, unfolding(crate::specs::Tally::agreed))]
 pub fn agrees(outcome: Outcome) -> bool
     ensures { result ≡ agreed outcome }
 {
-    match outcome {
-        Outcome::Differs => false,
-        Outcome::Assembled => true,
-        Outcome::Listed => true,
-        Outcome::Refused(_) => true,
-    }
+    !matches!(outcome, Outcome::Differs)
 }
 
 // How much was compared: records, those that differ, and of the others what was answered.
@@ -90,7 +83,7 @@ pub struct Tally {
 impl Tally {
     // Nothing is counted as yet.
     pub fn new() -> Tally
-        ensures { result ≡ record { records = 0; differences = 0; assembled = 0; listed = 0; refusals = record { counts = replicate 33 0 } } }
+        ensures { result ≡ nothing_tallied }
     {
         Tally {
             records: 0,
@@ -102,6 +95,7 @@ impl Tally {
     }
 
     // One record more.
+    #[tactic(auto, unfolding(crate::specs::Tally::tallied))]
     pub fn with(mut self, outcome: Outcome) -> Tally
         ensures { result ≡ tallied self outcome }
     {

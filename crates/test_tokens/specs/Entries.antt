@@ -1,10 +1,13 @@
 -- When the record of a line is what the list has for it. The list's format is described in oracle/README.md, which is quoted.
-use Rattle.std.specs.Prelude.{ℕ, ◌+◌, ◌-◌, ◌%◌, ◌^◌, Bool, true, false, ◌&&◌, List, [], ◌∷◌, ◌==◌, nat_lt}
+use Rattle.std.specs.Prelude.{ℕ, ◌+◌, ◌-◌, ◌%◌, ◌^◌, Bool, true, false, ◌&&◌, List, [], ◌∷◌, ◌==◌, nat_lt, eqb, Result, Ok, Err}
 use Rattle.text_lexical.specs.Promised.{index_of}
 use Rattle.text.specs.declared.lexer.Kind.{Kind}
 use Rattle.text.specs.declared.lexer.Kind.TheVariants.{Identifier, Register, NoRegister, Number, Negative, Hex, Binary, Directive, Comma, Colon, LParen, RParen}
 use Rattle.text.specs.declared.lexer.Token.{Token}
 use Rattle.text.specs.declared.parser.Line.{Line}
+use Rattle.refusal.specs.Refusals.{number_of}
+use Rattle.refusal.specs.declared.refusal.Refusal.{Refusal}
+use Rattle.test_replay.specs.declared.list.Piece.{Piece}
 use Rattle.test_replay.specs.List.{byte_at, behind, number_at, is_record_end}
 use Rattle.test_tokens.specs.declared.list.Entry.{Entry}
 use Rattle.test_tokens.specs.declared.list.Spelling.{Spelling}
@@ -66,13 +69,10 @@ same_tokens left from [] s at = is_record_end s at
 same_tokens left from (t ∷ ts) s at =
     same_token t (wanted_at left from s at) && same_tokens (left - 1) from ts s (wanted_at left from s at).next
 
--- The record of the line from `from` to `end`, whose content starts at `start`, is what the list has at a place: "`b`: a token of it is bad", of which the record
--- holds nothing; "`n COUNT`: or all its tokens, then the first nine of them".
-unfoldable pub same_line : Line → ℕ → ℕ → ℕ → List ℕ → ℕ → Bool
-same_line l from start end s at =
-    elim l.bad [
-      | true ↦ (byte_at s at == 98) && l.count == 0 && l.end == start && same_tokens l.count from l.tokens s (behind at 2)
-      | false ↦
-          let count = number_at 10 s (behind at 2) in
-          (byte_at s at == 110) && l.count == count.value && l.end == end && same_tokens l.count from l.tokens s count.next
-    ]
+-- What is read of a line is what the list has after it: "`b`: a token of it is bad"; "`n COUNT`: or all its tokens, then the first nine of them". No line is
+-- refused for anything else.
+unfoldable pub same_line : Result Line Refusal → Piece → List ℕ → Bool
+same_line (Ok l) p s =
+    let count = number_at 10 s (behind p.next 2) in
+    (byte_at s p.next == 110) && l.count == count.value && l.end == p.end && same_tokens l.count p.start l.tokens s count.next
+same_line (Err r) p s = eqb (number_of r) 3 && byte_at s p.next == 98 && is_record_end s (behind p.next 2)

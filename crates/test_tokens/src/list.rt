@@ -2,10 +2,10 @@
 ghost use Rattle.std.specs.Prelude.{◌≡◌};
 ghost use Rattle.test_tokens.specs.Entries.{spelling_of, entry_at, filler_at, same_token, same_tokens, same_line};
 
-use std::num::{wrapping_add_u64, wrapping_add_usize};
-use test_replay::list::{byte_at, number_at};
+use refusal::refusal::Refusal;
+use test_replay::list::{Piece, byte_at, is_record_end, number_at};
 use text::lexer::{Kind, Token};
-use text::parser::Line;
+use text::parser::{KEPT, Line};
 
 // A token, and the place after its line of the list.
 #[derive(Clone, Copy)]
@@ -33,12 +33,13 @@ impl Spelling {
     }
 }
 
+#[tactic(auto, unfolding(crate::specs::Entries::spelling_of))]
 fn spelled(kind: Kind) -> Spelling
     ensures { result ≡ spelling_of kind }
 {
     match kind {
         Kind::Identifier => Spelling::new(b'i', 0),
-        Kind::Register(register) => Spelling::new(b'r', test_replay::list::wide(register.index())),
+        Kind::Register(register) => Spelling::new(b'r', u64::from(u8::from(register))),
         Kind::NoRegister => Spelling::new(b'r', 16),
         Kind::Number(value) => Spelling::new(b'n', value),
         Kind::Negative(value) => Spelling::new(b'm', value),
@@ -53,16 +54,17 @@ fn spelled(kind: Kind) -> Spelling
 }
 
 // A token of a line that begins at `from` of the text.
+#[tactic(auto, unfolding(crate::specs::Entries::entry_at, test_replay::specs::List::behind))]
 fn entry_at(list: &[u8], at: usize, from: usize) -> Entry
     ensures { result ≡ entry_at list.now at from }
 {
-    let start = number_at(list, wrapping_add_usize(at, 4));
+    let start = number_at(list, at.wrapping_add(4));
     let length = number_at(list, start.next);
     let value = number_at(list, length.next);
     Entry {
         tag: byte_at(list, at),
-        kind: byte_at(list, wrapping_add_usize(at, 2)),
-        start: wrapping_add_u64(start.value, from as u64),
+        kind: byte_at(list, at.wrapping_add(2)),
+        start: start.value.wrapping_add(from as u64),
         length: length.value,
         value: value.value,
         next: value.next,
@@ -70,6 +72,7 @@ fn entry_at(list: &[u8], at: usize, from: usize) -> Entry
 }
 
 // What stands past the count, where the list has nothing.
+#[tactic(auto, unfolding(crate::specs::Entries::filler_at))]
 fn filler(next: usize) -> Entry
     ensures { result ≡ filler_at next }
 {
@@ -84,6 +87,7 @@ fn filler(next: usize) -> Entry
 }
 
 // Whether a token is what the list has.
+#[tactic(auto, unfolding(crate::specs::Entries::same_token))]
 fn is_entry(token: Token, entry: Entry) -> bool
     ensures { result ≡ same_token token entry }
 {
@@ -96,14 +100,13 @@ fn is_entry(token: Token, entry: Entry) -> bool
         && token.length as u64 == entry.length
 }
 
-// Whether the nine places hold the tokens that the list has from `at` on, and then the filler.
+// Whether the places of a line from `from` hold the tokens that the list has from `at` on, and then the filler.
 fn are_entries(line: Line, from: usize, list: &[u8], at: usize) -> bool
     ensures { result ≡ same_tokens line.count from line.tokens list.now at }
 {
     let tokens = line.tokens;
     let mut next = at;
-    let mut i: usize = 0;
-    while i < 9 {
+    for i in 0..KEPT {
         let entry = if i < line.count {
             entry_at(list, next, from)
         } else {
@@ -113,34 +116,26 @@ fn are_entries(line: Line, from: usize, list: &[u8], at: usize) -> bool
             return false;
         }
         next = entry.next;
-        i += 1;
     }
-    test_replay::list::is_record_end(list, next)
+    is_record_end(list, next)
 }
 
-// Whether the record of the line from `from` to `end`, whose content starts at `start`, is what the list has at `at`. Of a bad line it holds
-// nothing.
-pub(crate) fn is_answer(
-    line: Line,
-    from: usize,
-    start: usize,
-    end: usize,
-    list: &[u8],
-    at: usize,
-) -> bool
-    ensures { result ≡ same_line line from start end list.now at }
+// Whether what is read of a line is what the list has after it.
+#[tactic(auto, unfolding(crate::specs::Entries::same_line, test_replay::specs::List::behind))]
+pub(crate) fn is_answer(read: Result<Line, Refusal>, piece: Piece, list: &[u8]) -> bool
+    ensures { result ≡ same_line read piece list.now }
 {
-    let tag = byte_at(list, at);
-    let next = wrapping_add_usize(at, 2);
-    if line.bad {
-        return tag == b'b'
-            && line.count == 0
-            && line.end == start
-            && are_entries(line, from, list, next);
+    let tag = byte_at(list, piece.next);
+    let next = piece.next.wrapping_add(2);
+    match read {
+        Ok(line) => {
+            let count = number_at(list, next);
+            tag == b'n'
+                && line.count as u64 == count.value
+                && line.end == piece.end
+                && are_entries(line, piece.start, list, count.next)
+        }
+        Err(Refusal::BadToken) => tag == b'b' && is_record_end(list, next),
+        Err(_) => false,
     }
-    let count = number_at(list, next);
-    tag == b'n'
-        && line.count as u64 == count.value
-        && line.end == end
-        && are_entries(line, from, list, count.next)
 }

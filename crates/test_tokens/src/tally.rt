@@ -2,12 +2,13 @@
 ghost use Rattle.test_replay.specs.Report.{Put};
 ghost use Rattle.test_tokens.specs.Tally.{tally_text};
 
+use refusal::refusal::Refusal;
 use test_replay::report::put_filled;
 use test_replay::tally::more;
 use text::lexer::Kind;
 use text::parser::Line;
 
-#[derive(Clone, Copy)]
+#[derive(Clone, Copy, Default)]
 pub struct Tally {
     pub lines: u64,
     pub differences: u64,
@@ -26,25 +27,6 @@ pub struct Tally {
 }
 
 impl Tally {
-    pub(crate) fn new() -> Tally {
-        Tally {
-            lines: 0,
-            differences: 0,
-            bad: 0,
-            identifiers: 0,
-            registers: 0,
-            numbers: 0,
-            negatives: 0,
-            hexes: 0,
-            binaries: 0,
-            directives: 0,
-            commas: 0,
-            colons: 0,
-            openings: 0,
-            closings: 0,
-        }
-    }
-
     fn with_token(mut self, kind: Kind) -> Tally {
         match kind {
             Kind::Identifier => self.identifiers = more(self.identifiers),
@@ -64,30 +46,26 @@ impl Tally {
 
     // The tokens that a line keeps.
     fn with_tokens(self, line: Line) -> Tally {
-        let tokens = line.tokens;
         let mut tally = self;
-        let mut i: usize = 0;
-        while i < 9 {
-            if i < line.count {
-                let token = tokens[i];
-                let kind = token.kind;
-                tally = tally.with_token(kind);
-            }
-            i += 1;
+        for token in line.tokens.iter().take(line.count) {
+            tally = tally.with_token(token.kind);
         }
         tally
     }
 
     // One line more.
-    pub(crate) fn with_line(mut self, line: Line, agrees: bool) -> Tally {
+    pub(crate) fn with_line(mut self, read: Result<Line, Refusal>, agrees: bool) -> Tally {
         self.lines = more(self.lines);
         if !agrees {
             self.differences = more(self.differences);
         }
-        if line.bad {
-            self.bad = more(self.bad);
+        match read {
+            Ok(line) => self.with_tokens(line),
+            Err(_) => {
+                self.bad = more(self.bad);
+                self
+            }
         }
-        self.with_tokens(line)
     }
 
     // The counts, put into a room.

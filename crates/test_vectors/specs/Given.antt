@@ -1,52 +1,42 @@
--- The library's answers, as the list has them.
+-- The library's answers, as the list has them: a number, 0 where nothing is refused, and the other values in the order of the exported
+-- functions' answers.
+use Rattle.std.specs.Prelude.{ℕ, List, [], ◌∷◌, replicate, Result, Ok, Err}
+use Rattle.refusal.specs.Refusals.{number_of}
+use Rattle.refusal.specs.declared.refusal.Refusal.{Refusal}
 use Rattle.image_assembler.specs.declared.assembler.Assembled.{Assembled}
-use Rattle.image_assembler.specs.declared.assembler.Assembled.TheVariants.{Is as IsAssembled, Refused as RefusedAssembling, TooShort as ImageTooShort}
+use Rattle.image_assembler.specs.declared.assembler.AssembleError.{AssembleError}
+use Rattle.image_assembler.specs.declared.assembler.AssembleError.TheVariants.{Refused as RefusedAssembling, TooShort as ImageTooShort}
 use Rattle.image.specs.declared.program.Opened.{Opened}
-use Rattle.image.specs.declared.program.Opened.TheVariants.{Is as IsOpened, Refused as RefusedOpening}
-use Rattle.image_listing.specs.declared.disassembler.Listing.{Listing}
-use Rattle.image_listing.specs.declared.disassembler.Listing.TheVariants.{Is as IsListed, Refused as RefusedListing, Faulty, TooShort as TextTooShort}
-use Rattle.test_vectors.specs.Answers.{refused_answer, refused_header}
+use Rattle.image.specs.declared.program.ProgramHeader.{ProgramHeader}
+use Rattle.image_listing.specs.declared.disassembler.ListError.{ListError}
+use Rattle.image_listing.specs.declared.disassembler.ListError.TheVariants.{Refused as RefusedListing, Faulty, TooShort as TextTooShort}
 use Rattle.test_vectors.specs.declared.answer.Answer.{Answer}
-use Rattle.test_vectors.specs.declared.answer.Header.{Header}
-use Rattle.test_vectors.specs.declared.answer.Text.{Text}
 
-unfoldable pub answer_given : Assembled → Answer
-answer_given (IsAssembled words labels config) =
+-- Words, labels, limb_bits, data_limbs, addr_limbs, the Rust's line, the line, the needed length.
+unfoldable pub answer_given : Result Assembled AssembleError → Answer 8
+answer_given (Ok a) =
     record {
       number = 0;
-      words = words;
-      labels = labels;
-      limb_bits = config.limb_bits;
-      data_limbs = config.data_limbs;
-      addr_limbs = config.addr_limbs;
-      rust_line = 0;
-      line = 0;
-      needed = 0;
+      values = a.words ∷ a.labels ∷ a.config.limb_bits ∷ a.config.data_limbs ∷ a.config.addr_limbs ∷ 0 ∷ 0 ∷ 0 ∷ [];
     }
-answer_given (RefusedAssembling number rust_line line labels) = refused_answer number rust_line line labels 0
-answer_given (ImageTooShort labels needed) = refused_answer 23 0 0 labels needed
+answer_given (Err (RefusedAssembling r rust_line line labels)) =
+    record { number = number_of r; values = 0 ∷ labels ∷ 0 ∷ 0 ∷ 0 ∷ rust_line ∷ line ∷ 0 ∷ [] }
+answer_given (Err (ImageTooShort labels needed)) =
+    record { number = 23; values = 0 ∷ labels ∷ 0 ∷ 0 ∷ 0 ∷ 0 ∷ 0 ∷ needed ∷ [] }
 
-unfoldable pub header_given : Opened → Header
-header_given (IsOpened h end) =
-    record {
-      number = 0;
-      magic = h.magic;
-      version = h.version;
-      limb_bits = h.config.limb_bits;
-      data_limbs = h.config.data_limbs;
-      addr_limbs = h.config.addr_limbs;
-      flags = h.flags;
-      entry = h.entry_point;
-      code_size = h.code_size;
-      data_size = h.data_size;
-      bss = h.bss_size;
-      stack = h.stack_size;
-      code_end = end;
-    }
-header_given (RefusedOpening n) = refused_header n
+-- The header's fields in their order, and where the code ends.
+abbrev pub header_values : ProgramHeader → ℕ → List ℕ
+header_values h end =
+    h.magic ∷ h.version ∷ h.config.limb_bits ∷ h.config.data_limbs ∷ h.config.addr_limbs ∷ h.flags ∷ h.entry_point
+    ∷ h.code_size ∷ h.data_size ∷ h.bss_size ∷ h.stack_size ∷ end ∷ []
 
-unfoldable pub text_given : Listing → Text
-text_given (IsListed n) = record { number = 0; length = n; index = 0; needed = 0 }
-text_given (RefusedListing n) = record { number = n; length = 0; index = 0; needed = 0 }
-text_given (Faulty n i) = record { number = n; length = 0; index = i; needed = 0 }
-text_given (TextTooShort n) = record { number = 32; length = 0; index = 0; needed = n }
+unfoldable pub header_given : Result Opened Refusal → Answer 12
+header_given (Ok o) = record { number = 0; values = header_values o.header o.code_end }
+header_given (Err r) = record { number = number_of r; values = replicate 12 0 }
+
+-- The text's length, the index of a faulty word, the needed length.
+unfoldable pub text_given : Result ℕ ListError → Answer 3
+text_given (Ok n) = record { number = 0; values = n ∷ 0 ∷ 0 ∷ [] }
+text_given (Err (RefusedListing r)) = record { number = number_of r; values = replicate 3 0 }
+text_given (Err (Faulty r i)) = record { number = number_of r; values = 0 ∷ i ∷ 0 ∷ [] }
+text_given (Err (TextTooShort n)) = record { number = 32; values = 0 ∷ 0 ∷ n ∷ [] }

@@ -10,6 +10,7 @@ ghost use Rattle.test_vectors.specs.Counts.{counts};
 mod answer;
 mod calls;
 mod images;
+mod lines;
 mod pieces;
 mod record;
 mod room;
@@ -18,85 +19,58 @@ mod table;
 
 use std::io;
 use std::io::Write;
-use test_replay::list::{has_tag, read_full};
+use test_replay::cursor::Cursor;
+use test_replay::list::{next_record, read_full};
 use test_replay::report::put_verdict;
 use test_replay::tally::{Outcome, Tally, agrees};
 
-fn source_outcome(
-    list: &[u8],
-    at: usize,
-    source: &mut [u8],
-    image: &mut [u8],
-    image_buffer: &mut [u8],
-    text_buffer: &mut [u8],
-) -> Outcome {
-    let record = record::source_at(list, at, source, image);
-    let asking = record.asking;
-    let answer = asking.answer;
-    if !record.is_whole {
-        return Outcome::Differs;
-    }
-    let n = room::part(image, record.image);
-    if !sources::agrees(record, list, source, &image[..n], image_buffer, text_buffer) {
-        return Outcome::Differs;
-    }
-    if answer.number == 0 {
-        return Outcome::Assembled;
-    }
-    Outcome::Refused(answer.number)
+// What a record's parts are read into, with a room for a text that is kept, and the buffers that are lent.
+#[derive(Drop)]
+struct Rooms<'a> {
+    source: &'a mut [u8],
+    text: &'a mut [u8],
+    image: &'a mut [u8],
+    image_buffer: &'a mut [u8],
+    text_buffer: &'a mut [u8],
 }
 
-fn image_outcome(
-    list: &[u8],
-    at: usize,
-    text: &mut [u8],
-    image: &mut [u8],
-    image_buffer: &mut [u8],
-    text_buffer: &mut [u8],
-) -> Outcome {
-    let record = record::image_at(list, at, text, image);
-    let answer = record.text;
-    let header = record.header;
-    let lent = record.room;
-    if !record.is_whole {
+fn source_outcome(place: Cursor, rooms: &mut Rooms) -> Outcome {
+    let Some(wanted) = record::source_at(place, rooms.source, rooms.image) else {
+        return Outcome::Differs;
+    };
+    if !sources::agrees(wanted, rooms.text, rooms.image_buffer, rooms.text_buffer) {
         return Outcome::Differs;
     }
-    let n = room::part(image, record.length);
-    let m = room::part(text, record.filled);
-    if !images::agrees(
-        &image[..n],
-        header,
-        lent,
-        answer,
-        &text[..m],
-        image_buffer,
-        text_buffer,
-    ) {
-        return Outcome::Differs;
+    match wanted.answer.number {
+        0 => Outcome::Assembled,
+        number => Outcome::Refused(number),
     }
-    if answer.number == 0 {
-        return Outcome::Listed;
-    }
-    Outcome::Refused(answer.number)
 }
 
-// Compares the record at `at`: a source's begins with a piece of it, an image's with a line of it or, if it is empty, with the
+fn image_outcome(place: Cursor, rooms: &mut Rooms) -> Outcome {
+    let Some(wanted) = record::image_at(place, rooms.text, rooms.image) else {
+        return Outcome::Differs;
+    };
+    if !images::agrees(wanted, rooms.image_buffer, rooms.text_buffer) {
+        return Outcome::Differs;
+    }
+    match wanted.listing.answer.number {
+        0 => Outcome::Listed,
+        number => Outcome::Refused(number),
+    }
+}
+
+// Compares the record at a place: a source's begins with a piece of it, an image's with a line of it or, if it is empty, with the
 // length of the text buffer.
-fn outcome(
-    list: &[u8],
-    at: usize,
-    source: &mut [u8],
-    image: &mut [u8],
-    image_buffer: &mut [u8],
-    text_buffer: &mut [u8],
-) -> Outcome {
-    if has_tag(list, at, b's') || has_tag(list, at, b'x') {
-        return source_outcome(list, at, source, image, image_buffer, text_buffer);
+fn outcome(place: Cursor, rooms: &mut Rooms) -> Outcome {
+    if place.has_tag(b's') || place.has_tag(b'x') {
+        return source_outcome(place, rooms);
     }
-    image_outcome(list, at, source, image, image_buffer, text_buffer)
+    image_outcome(place, rooms)
 }
 
 // Puts the counts into a room.
+#[tactic(auto, unfolding(crate::specs::Counts::counts, test_replay::specs::Report::bytes))]
 fn put_counts(tally: Tally, room: &mut [u8], at: usize) -> usize
     ensures { Put room.old at (tally_text counts tally) result room.new }
 {
@@ -108,14 +82,7 @@ fn put_counts(tally: Tally, room: &mut [u8], at: usize) -> usize
 }
 
 // Compares each record, and puts the report into the room. The promises are what `&room[..end]` asks for.
-fn compare(
-    list: &[u8],
-    source: &mut [u8],
-    image: &mut [u8],
-    image_buffer: &mut [u8],
-    text_buffer: &mut [u8],
-    room: &mut [u8],
-) -> usize
+fn compare(list: &[u8], rooms: &mut Rooms, room: &mut [u8]) -> usize
     ensures in_room { result ≤ length room.new }
     ensures slice_end { result ≡ length (take result room.new) }
 {
@@ -123,9 +90,9 @@ fn compare(
     let mut end = 0;
     let mut at = 0;
     while at < list.len() {
-        at = test_replay::list::next_record(list, at);
+        at = next_record(list, at);
         if at < list.len() {
-            let outcome = outcome(list, at, source, image, image_buffer, text_buffer);
+            let outcome = outcome(Cursor { list, at }, rooms);
             tally = tally.with(outcome);
             end = put_verdict(room, end, tally.records, agrees(outcome));
         }
@@ -133,7 +100,7 @@ fn compare(
     put_counts(tally, room, end)
 }
 
-// Room for the list.
+// Room for the list. Each room is a function's, since a proof that meets an array of this length as it is written does not close.
 fn list_room() -> [u8; 786432] {
     [0; 786432]
 }
@@ -162,17 +129,18 @@ fn main(rt: HostRuntime) -> io::Result<()> {
     let mut list = list_room();
     let n = read_full(&mut rt.stdin(), &mut list)?;
     let mut source = source_room();
+    let mut text = text_room();
     let mut image = image_room();
     let mut image_buffer = image_room();
     let mut text_buffer = text_room();
     let mut report = report_room();
-    let end = compare(
-        &list[..n],
-        &mut source,
-        &mut image,
-        &mut image_buffer,
-        &mut text_buffer,
-        &mut report,
-    );
+    let mut rooms = Rooms {
+        source: &mut source,
+        text: &mut text,
+        image: &mut image,
+        image_buffer: &mut image_buffer,
+        text_buffer: &mut text_buffer,
+    };
+    let end = compare(&list[..n], &mut rooms, &mut report);
     rt.stdout().write_all(&report[..end])
 }

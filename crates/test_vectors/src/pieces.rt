@@ -1,104 +1,93 @@
 // Bytes of a record: a source or a text in escaped lines, an image in lines of hex. A line may say how often its bytes come.
 ghost use Rattle.std.specs.Prelude.{◌≤◌, length};
 
-use std::num::wrapping_add_usize;
-use test_replay::list::{Spelled, has_tag};
+use crate::lines::setting;
+use test_replay::cursor::Cursor;
+use test_replay::list::Spelled;
 
-// How much of a room is filled, and the place behind the lines of the list.
-#[derive(Clone, Copy)]
-pub struct Filled {
-    pub length: usize,
-    pub next: usize,
+// How lines spell their bytes, and the tags of such lines, without and with a count.
+pub trait Spelling {
+    const TAG: u8;
+
+    const REPEATED: u8;
+
+    fn byte_at(list: &[u8], at: usize) -> Spelled;
 }
 
-fn spelled_at(list: &[u8], at: usize, is_hex: bool) -> Spelled {
-    if is_hex {
-        test_replay::list::hex_byte_at(list, at)
-    } else {
+pub struct Escaped;
+
+impl Spelling for Escaped {
+    const TAG: u8 = b's';
+
+    const REPEATED: u8 = b'x';
+
+    fn byte_at(list: &[u8], at: usize) -> Spelled {
         test_replay::list::unescaped_at(list, at)
     }
 }
 
-// Puts a line's bytes into the room behind the first `start`. What does not go in is left, and then the record differs.
-fn put_piece(list: &[u8], from: usize, is_hex: bool, room: &mut [u8], start: usize) -> Filled
-    requires { start ≤ length room.old }
-    ensures { result.length ≤ length room.new }
-{
-    let mut end = start;
-    let mut at = from;
-    while end < room.len() && test_replay::list::byte_at(list, at) != b'\n' {
-        let spelled = spelled_at(list, at, is_hex);
-        room[end] = spelled.byte;
-        at = spelled.next;
-        end += 1;
-    }
-    Filled {
-        length: end,
-        next: wrapping_add_usize(at, 1),
+pub struct Hex;
+
+impl Spelling for Hex {
+    const TAG: u8 = b'i';
+
+    const REPEATED: u8 = b'j';
+
+    fn byte_at(list: &[u8], at: usize) -> Spelled {
+        test_replay::list::hex_byte_at(list, at)
     }
 }
 
-// The same line's bytes `count` times.
-fn put_pieces(
-    list: &[u8],
-    from: usize,
+// Reads a line's bytes into the room after the first `start`, and answers where they end. What does not go in is left, and then the
+// record differs.
+fn put_line<S: Spelling>(cursor: &mut Cursor, room: &mut [u8], start: usize) -> usize
+    requires { start ≤ length room.old }
+    ensures { result ≤ length room.new }
+{
+    for end in start..room.len() {
+        if cursor.byte() == b'\n' {
+            cursor.skip(1);
+            return end;
+        }
+        let spelled = S::byte_at(cursor.list, cursor.at);
+        room[end] = spelled.byte;
+        cursor.at = spelled.next;
+    }
+    cursor.skip(1);
+    room.len()
+}
+
+// Reads the same line `count` times.
+fn put_repeated<S: Spelling>(
+    cursor: &mut Cursor,
     count: u64,
-    is_hex: bool,
     room: &mut [u8],
     start: usize,
-) -> Filled
+) -> usize
     requires { start ≤ length room.old }
-    ensures { result.length ≤ length room.new }
+    ensures { result ≤ length room.new }
 {
-    let mut length = start;
-    let mut next = from;
-    let mut i: u64 = 0;
-    while i < count {
-        let filled = put_piece(list, from, is_hex, room, length);
-        length = filled.length;
-        next = filled.next;
-        i += 1;
+    let line = *cursor;
+    let mut end = start;
+    for _ in 0..count {
+        *cursor = line;
+        end = put_line::<S>(cursor, room, end);
     }
-    Filled { length, next }
+    end
 }
 
-// A line with a count, if it has the tag of those, otherwise a line without.
-fn put_line(list: &[u8], at: usize, is_hex: bool, room: &mut [u8], start: usize) -> Filled
-    requires { start ≤ length room.old }
-    ensures { result.length ≤ length room.new }
-{
-    let from = wrapping_add_usize(at, 2);
-    if has_tag(list, at, repeated_tag(is_hex)) {
-        let count = test_replay::list::number_at(list, from);
-        return put_pieces(list, count.next, count.value, is_hex, room, start);
+// Reads the bytes of all lines from a place on into the room, and answers them. There are fewer lines than bytes in the list.
+pub(crate) fn put_lines<'a, S: Spelling>(cursor: &mut Cursor, room: &'a mut [u8]) -> &'a [u8] {
+    let mut filled = 0;
+    for _ in 0..cursor.list.len() {
+        if cursor.has_tag(S::TAG) {
+            cursor.skip(2);
+            filled = put_line::<S>(cursor, room, filled);
+        } else if let Some(count) = setting(cursor, S::REPEATED) {
+            filled = put_repeated::<S>(cursor, count, room, filled);
+        } else {
+            break;
+        }
     }
-    put_piece(list, from, is_hex, room, start)
-}
-
-fn tag(is_hex: bool) -> u8 {
-    if is_hex { b'i' } else { b's' }
-}
-
-fn repeated_tag(is_hex: bool) -> u8 {
-    if is_hex { b'j' } else { b'x' }
-}
-
-fn has_line(list: &[u8], at: usize, is_hex: bool) -> bool {
-    has_tag(list, at, tag(is_hex)) || has_tag(list, at, repeated_tag(is_hex))
-}
-
-// Puts the bytes of all lines from `at` on into the room. There are fewer lines than bytes in the list.
-pub(crate) fn put_lines(list: &[u8], at: usize, is_hex: bool, room: &mut [u8]) -> Filled
-    ensures { result.length ≤ length room.new }
-{
-    let mut length = 0;
-    let mut next = at;
-    let mut turn = 0;
-    while turn < list.len() && has_line(list, next, is_hex) {
-        let filled = put_line(list, next, is_hex, room, length);
-        length = filled.length;
-        next = filled.next;
-        turn += 1;
-    }
-    Filled { length, next }
+    &room[..filled]
 }

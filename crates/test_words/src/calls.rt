@@ -1,10 +1,16 @@
-// What is called of the crates under test, with the tables that they want lent.
+// Reading a line and writing a text with the crates under test.
 ghost use Rattle.std.specs.Prelude.{◌≡◌, ◌≤◌, length, take};
+ghost use Rattle.test_words.specs.Rooms.{AnyText, Went, room_laws};
 
 use instruction::instruction::Instruction;
-use instruction_codec::encoder::Decoded;
-use instruction_operands::assembler::Parsed;
-use text_lexical::bytes::Class;
+use instruction_display::display::put_instruction;
+use instruction_operands::assembler::parse_instruction;
+use itoa::Buffer;
+use refusal::refusal::Refusal;
+use test_replay::report::put;
+use text::parser::tokenize;
+use text_lexical::bytes::{Margin, run_end};
+use text_writer::sink::Sink;
 
 // The text of an instruction in the room: how long it was said to be, and where it ends.
 #[derive(Clone, Copy)]
@@ -13,53 +19,60 @@ pub struct Text {
     pub end: usize,
 }
 
-// What a line is read as: an instruction, or the number of its refusal.
-#[derive(Clone, Copy)]
-pub(crate) enum Line {
-    Is(Instruction),
-    Refused(u8),
-}
-
 // The instruction of the line that begins at `from`, its mnemonic the token at `place`.
-pub(crate) fn read(text: &[u8], from: usize, place: usize) -> Line
+pub(crate) fn read(text: &[u8], from: usize, place: usize) -> Result<Instruction, Refusal>
     requires in_text { from ≤ length text.now }
     requires place_in_range { place ≤ 2 }
 {
-    let start = text_lexical::bytes::run_end(text, from, Class::Margin);
-    let line = text::parser::tokenize(text, start);
-    if line.bad {
-        return Line::Refused(3);
+    let line = tokenize(text, run_end::<Margin>(text, from))?;
+    let parsed = parse_instruction(text, line, place)?;
+    Ok(Instruction::from_parts(parsed.mnemonic, parsed.operands))
+}
+
+// Takes a text into a room as far as the room goes, and counts all of it. So nothing has to be known of a text before it is put.
+#[derive(Drop)]
+pub struct Room<'a> {
+    pub bytes: &'a mut [u8],
+    pub end: usize,
+    pub length: usize,
+}
+
+impl Sink for Room<'_> {
+    ghost Fits = { AnyText };
+
+    ghost Took = { Went };
+
+    fn put(&mut self, byte: u8) {
+        self.put_bytes(&[byte]);
     }
-    let mnemonics = instruction::opcode::mnemonics();
-    let forms = instruction::opcode::forms();
-    let slots = instruction::opcode::slots();
-    match instruction_operands::assembler::parse_instruction(
-        text, line, place, &mnemonics, &forms, &slots,
-    ) {
-        Parsed::Refused(number) => Line::Refused(number),
-        Parsed::Is { row, operands } => Line::Is(Instruction::from_parts(row, operands)),
+
+    fn put_bytes(&mut self, bytes: &[u8]) {
+        self.end = put(self.bytes, self.end, bytes);
+        self.length = self.length.wrapping_add(bytes.len());
     }
+
+    fn put_decimal(&mut self, n: u64) {
+        let mut buffer = Buffer::new();
+        self.put_bytes(buffer.format(n).as_bytes());
+    }
+
+    ghost laws = { room_laws };
 }
 
-pub(crate) fn encode(instruction: Instruction) -> u32 {
-    let opcodes = instruction::opcode::opcodes();
-    instruction_encoder::encoder::encode(instruction, &opcodes)
-}
-
-pub(crate) fn decode(word: u32) -> Decoded {
-    let opcodes = instruction::opcode::opcodes();
-    let forms = instruction::opcode::forms();
-    instruction_codec::encoder::decode(word, &opcodes, &forms)
-}
-
-// Writes an instruction's text into the room, behind eight bytes that it leaves. The promises are what `&room[..end]` asks for.
+// Writes an instruction's text into the room, after eight bytes that it leaves. The promises are what `&room[..end]` asks for.
 pub(crate) fn write(instruction: Instruction, room: &mut [u8]) -> Text
     requires { length room.old ≡ 96 }
     ensures end_in_bounds { result.end ≤ length room.new }
     ensures slice_end { result.end ≡ length (take result.end room.new) }
 {
-    let mnemonics = instruction::opcode::mnemonics();
-    let length = instruction_display::display::instruction_length(instruction, &mnemonics);
-    let end = instruction_display::display::write_instruction(room, 8, instruction, &mnemonics);
-    Text { length, end }
+    let mut sink = Room {
+        bytes: room,
+        end: 8,
+        length: 0,
+    };
+    put_instruction(&mut sink, instruction);
+    Text {
+        length: sink.length,
+        end: sink.end,
+    }
 }

@@ -11,53 +11,55 @@ mod calls;
 mod list;
 
 use instruction::instruction::Instruction;
-use instruction_codec::encoder::Decoded;
+use instruction_codec::encoder::decode;
+use instruction_encoder::encoder::encode;
 use list::{after_text, has_text, refusal};
 use std::io;
 use std::io::Write;
-use std::num::wrapping_add_usize;
-use test_replay::list::{byte_at, has_tag, read_full};
+use test_replay::cursor::Cursor;
+use test_replay::list::read_full;
 use test_replay::report::put_verdict;
 use test_replay::tally::{Outcome, Tally, agrees};
 
-// Whether the text behind the first eight bytes is read as an instruction that has this word.
+// Whether the text after the first eight bytes is read as an instruction that has this word.
 fn reads(text: &[u8], word: u32) -> bool {
     if text.len() < 8 {
         return false;
     }
     match calls::read(text, 8, 0) {
-        calls::Line::Refused(_) => false,
-        calls::Line::Is(instruction) => calls::encode(instruction) == word,
+        Err(_) => false,
+        Ok(instruction) => encode(instruction) == word,
     }
 }
 
-// Whether a word's instruction has this word, and the text that the list has at `at`, from which it is read again.
-fn is_decoded(instruction: Instruction, word: u32, list: &[u8], at: usize, room: &mut [u8]) -> bool
+// Whether a word's instruction has this word, and the text that the list has at a place, from which it is read again.
+fn is_decoded(instruction: Instruction, word: u32, place: Cursor, room: &mut [u8]) -> bool
     requires { length room.old ≡ 96 }
 {
     let text = calls::write(instruction, room);
-    let end = text.end;
-    let is_read_again = reads(&room[..end], word);
+    let is_read_again = reads(&room[..text.end], word);
     is_read_again
-        && calls::encode(instruction) == word
-        && has_text(room, text, b'l', list, at)
-        && test_replay::list::is_record_end(list, after_text(at, text))
+        && encode(instruction) == word
+        && has_text(room, text, b'l', place)
+        && after_text(place, text).is_record_end()
 }
 
 // A word, of eight digits, and its text or refusal.
-fn word_outcome(list: &[u8], at: usize) -> Outcome {
-    let digits = test_replay::list::hex_at(list, wrapping_add_usize(at, 2));
-    let value = digits.value;
-    let next = digits.next;
-    if 0xFFFFFFFF < value || next != wrapping_add_usize(at, 11) || !has_tag(list, at, b'w') {
+fn word_outcome(place: Cursor) -> Outcome {
+    let mut cursor = place.after(2);
+    let word = cursor.hex();
+    let next = place.after(11);
+    if cursor.at != next.at || !place.has_tag(b'w') {
         return Outcome::Differs;
     }
-    let word = value as u32;
-    match calls::decode(word) {
-        Decoded::Refused(number) => refusal(number, list, next),
-        Decoded::Is(instruction) => {
+    let Ok(word) = u32::try_from(word) else {
+        return Outcome::Differs;
+    };
+    match decode(word) {
+        Err(met) => refusal(met, next),
+        Ok(instruction) => {
             let mut room = [b'$'; 96];
-            if is_decoded(instruction, word, list, next, &mut room) {
+            if is_decoded(instruction, word, next, &mut room) {
                 Outcome::Listed
             } else {
                 Outcome::Differs
@@ -67,53 +69,52 @@ fn word_outcome(list: &[u8], at: usize) -> Outcome {
 }
 
 // The instruction of a line: its text with the number as it stands there, its word, and all that holds of that word.
-fn instruction_outcome(instruction: Instruction, list: &[u8], at: usize) -> Outcome {
+fn instruction_outcome(instruction: Instruction, place: Cursor) -> Outcome {
     let mut room = [b'$'; 96];
     let text = calls::write(instruction, &mut room);
-    let next = after_text(at, text);
-    let word = test_replay::list::hex_at(list, wrapping_add_usize(next, 2));
-    if !has_text(&room, text, b'u', list, at) || word.value != calls::encode(instruction) as u64 {
+    let next = after_text(place, text);
+    let word = next.after(2).hex();
+    if !has_text(&room, text, b'u', place) || word != u64::from(encode(instruction)) {
         return Outcome::Differs;
     }
-    match word_outcome(list, next) {
+    match word_outcome(next) {
         Outcome::Listed => Outcome::Assembled,
         _ => Outcome::Differs,
     }
 }
 
 // A line, the place of its mnemonic, of one digit, and its instruction or refusal.
-fn line_outcome(list: &[u8], at: usize, room: &mut [u8]) -> Outcome
+fn line_outcome(place: Cursor, room: &mut [u8]) -> Outcome
     requires { 2 < length room.old }
 {
-    let piece = test_replay::list::line_at(list, wrapping_add_usize(at, 2), room);
-    let from = piece.start;
-    let next = piece.next;
-    let number = test_replay::list::number_at(list, wrapping_add_usize(next, 2));
-    let place = number.value;
-    let behind = number.next;
-    if 2 < place
-        || behind != wrapping_add_usize(next, 4)
-        || !has_tag(list, at, b's')
-        || !has_tag(list, next, b'm')
-    {
+    let piece = test_replay::list::line_at(place.list, place.after(2).at, room);
+    let next = Cursor {
+        list: place.list,
+        at: piece.next,
+    };
+    let mut cursor = next.after(2);
+    let mnemonic = cursor.number();
+    let after = next.after(4);
+    if 2 < mnemonic || cursor.at != after.at || !place.has_tag(b's') || !next.has_tag(b'm') {
         return Outcome::Differs;
     }
-    match calls::read(room, from, place as usize) {
-        calls::Line::Refused(number) => refusal(number, list, behind),
-        calls::Line::Is(instruction) => instruction_outcome(instruction, list, behind),
+    match calls::read(room, piece.start, mnemonic as usize) {
+        Err(met) => refusal(met, after),
+        Ok(instruction) => instruction_outcome(instruction, after),
     }
 }
 
-// Compares the record at `at`. Around a line stand bad tokens.
-fn outcome(list: &[u8], at: usize) -> Outcome {
-    if byte_at(list, at) == b'w' {
-        return word_outcome(list, at);
+// Compares the record at a place. Around a line stand bad tokens.
+fn outcome(place: Cursor) -> Outcome {
+    if place.byte() == b'w' {
+        return word_outcome(place);
     }
     let mut room = [b'$'; 512];
-    line_outcome(list, at, &mut room)
+    line_outcome(place, &mut room)
 }
 
 // Puts the counts into a room. A line that agrees is one that is assembled, a word one that is listed.
+#[tactic(auto, unfolding(crate::specs::Counts::counts, test_replay::specs::Report::bytes))]
 fn put_counts(tally: Tally, room: &mut [u8], at: usize) -> usize
     ensures { Put room.old at (tally_text counts tally) result room.new }
 {
@@ -122,7 +123,8 @@ fn put_counts(tally: Tally, room: &mut [u8], at: usize) -> usize
     tally.put(text, room, at)
 }
 
-// Compares each record, and puts the report into the room. The promises are what `&room[..end]` asks for.
+// Compares each record, and puts the report into the room. Where a record ends is found by reading, so no range gives the places.
+// The promises are what `&room[..end]` asks for.
 fn compare(list: &[u8], room: &mut [u8]) -> usize
     ensures in_room { result ≤ length room.new }
     ensures slice_end { result ≡ length (take result room.new) }
@@ -130,10 +132,11 @@ fn compare(list: &[u8], room: &mut [u8]) -> usize
     let mut tally = Tally::new();
     let mut end = 0;
     let mut at = 0;
+    // where a record ends is found by reading, so no range gives the places
     while at < list.len() {
         at = test_replay::list::next_record(list, at);
         if at < list.len() {
-            let outcome = outcome(list, at);
+            let outcome = outcome(Cursor { list, at });
             tally = tally.with(outcome);
             end = put_verdict(room, end, tally.records, agrees(outcome));
         }

@@ -17,7 +17,7 @@ use Rattle.text_lexical.specs.Names.{Name, named}
 use Rattle.text_lexical.specs.Promised.{name_meant, name_number, fitting, base_of, is_digit_of, digits_at}
 use Rattle.text_lexical.specs.declared.number.Radix.{Radix}
 use Rattle.text_lexical.specs.declared.number.Radix.TheVariants.{Binary as BinaryRadix, Decimal as DecimalRadix, Hex as HexRadix}
-use Rattle.text_lexical.specs.declared.number.Value.TheVariants.{Fits, TooLarge}
+use Rattle.std.specs.Prelude.{Some, None}
 use Rattle.text_lexical.specs.declared.number.Digits.{Digits}
 use Rattle.text_lexical.specs.declared.name.RegisterName.{RegisterName}
 use Rattle.text_lexical.specs.declared.name.RegisterName.TheVariants.{Is, NoSuch, Other}
@@ -149,10 +149,10 @@ digits_are radix s begin d l e =
 
 module _ (radix : Radix) (s : List ℕ) (begin : ℕ) (d : Digits) (q : Digits-are radix s begin d) where
   -- A value that fits, and one that does not.
-  value-fits : (n : ℕ) → d.value ≡ Fits n → (value_of (base_of radix) (take (d.end - begin) (drop begin s)) ≡ n) × (n < 2 ^ 64)
+  value-fits : (n : ℕ) → d.value ≡ Some n → (value_of (base_of radix) (take (d.end - begin) (drop begin s)) ≡ n) × (n < 2 ^ 64)
   value-fits n e = let (v, l) = fits-is (value_of (base_of radix) (take (d.end - begin) (drop begin s))) n (sym e ∙ q.value-is) in (v, omega (arith, v, l))
 
-  value-large : d.value ≡ TooLarge → 2 ^ 64 ≤ value_of (base_of radix) (take (d.end - begin) (drop begin s))
+  value-large : d.value ≡ None → 2 ^ 64 ≤ value_of (base_of radix) (take (d.end - begin) (drop begin s))
   value-large e = large_is (value_of (base_of radix) (take (d.end - begin) (drop begin s))) (sym e ∙ q.value-is)
 
 -- ---- marks
@@ -356,7 +356,7 @@ module _ (names : List Name) where
       decimal-read : front names (drop at s) ≡ sized (d.end - at) (within (ltb decimal-value (2 ^ 63)) (number (pos decimal-value)))
       decimal-read = decimal-front s at d.end some-digits q.in_text h.is_digit decimal-scanned
 
-      pub decimal-found : (n : ℕ) → d.value ≡ Fits n → n < 2 ^ 63 → Found (record { kind = NumberKind n; start = at; length = d.end - at }) d.end ≡ token_at names s at
+      pub decimal-found : (n : ℕ) → d.value ≡ Some n → n < 2 ^ 63 → Found (record { kind = NumberKind n; start = at; length = d.end - at }) d.end ≡ token_at names s at
       decimal-found n e k =
           let v : decimal-value ≡ n = (value-fits DecimalRadix s at d q n e).0 in
           at-allowed s at d.end _ _ decimal-read (NumberKind n) q.on (lt-ltb decimal-value (2 ^ 63) (rw v k)) (ap (λ (x : ℕ). number (pos x)) v)
@@ -366,10 +366,10 @@ module _ (names : List Name) where
       decimal-bad : 2 ^ 63 ≤ decimal-value → Bad ≡ token_at names s at
       decimal-bad k = at-refused s at d.end _ _ decimal-read (le-ltb decimal-value (2 ^ 63) k)
 
-      pub decimal-wide : d.value ≡ TooLarge → Bad ≡ token_at names s at
+      pub decimal-wide : d.value ≡ None → Bad ≡ token_at names s at
       decimal-wide e = decimal-bad (omega (arith, value-large DecimalRadix s at d q e))
 
-      pub decimal-over : (n : ℕ) → d.value ≡ Fits n → 2 ^ 63 ≤ n → Bad ≡ token_at names s at
+      pub decimal-over : (n : ℕ) → d.value ≡ Some n → 2 ^ 63 ≤ n → Bad ≡ token_at names s at
       decimal-over n e k = decimal-bad (omega (arith, (value-fits DecimalRadix s at d q n e).0))
 
     -- ---- decimal digits after a sign
@@ -385,7 +385,7 @@ module _ (names : List Name) where
         minus-read : front names (drop at s) ≡ sized (d.end - at) (within (leb minus-value (2 ^ 63)) (number (minus minus-value)))
         minus-read = minus-front s at d.end l b q.ends z ∙ ap (sized (d.end - at)) (minus-token (take (d.end - (at + 1)) (drop (at + 1) s)))
 
-        pub minus-found : (n : ℕ) → d.value ≡ Fits n → n ≤ 2 ^ 63 → Found (record { kind = Negative n; start = at; length = d.end - at }) d.end ≡ token_at names s at
+        pub minus-found : (n : ℕ) → d.value ≡ Some n → n ≤ 2 ^ 63 → Found (record { kind = Negative n; start = at; length = d.end - at }) d.end ≡ token_at names s at
         minus-found n e k =
             let v : minus-value ≡ n = (value-fits DecimalRadix s (at + 1) d q n e).0 in
             at-allowed s at d.end _ _ minus-read (Negative n) (omega (arith, q.on)) (le-leb minus-value (2 ^ 63) (rw v k)) (ap (λ (x : ℕ). number (minus x)) v)
@@ -394,10 +394,10 @@ module _ (names : List Name) where
         minus-bad : 2 ^ 63 < minus-value → Bad ≡ token_at names s at
         minus-bad k = at-refused s at d.end _ _ minus-read (lt-leb minus-value (2 ^ 63) k)
 
-        pub minus-wide : d.value ≡ TooLarge → Bad ≡ token_at names s at
+        pub minus-wide : d.value ≡ None → Bad ≡ token_at names s at
         minus-wide e = minus-bad (omega (arith, value-large DecimalRadix s (at + 1) d q e))
 
-        pub minus-over : (n : ℕ) → d.value ≡ Fits n → 2 ^ 63 < n → Bad ≡ token_at names s at
+        pub minus-over : (n : ℕ) → d.value ≡ Some n → 2 ^ 63 < n → Bad ≡ token_at names s at
         minus-over n e k = minus-bad (omega (arith, (value-fits DecimalRadix s (at + 1) d q n e).0))
 
     -- ---- a directive and a mark
@@ -464,12 +464,12 @@ module _ (names : List Name) where
             front-found (drop at s) (d.end - at) here.class scanned
             ∙ ap (sized (d.end - at)) (here.token-is (take (d.end - at) (drop at s)) ∙ rw (part-two s at d.end q.on q.in_text))
 
-        pub prefix-found : (n : ℕ) → d.value ≡ Fits n → Found (record { kind = pattern_kind radix n; start = at; length = d.end - at }) d.end ≡ token_at names s at
+        pub prefix-found : (n : ℕ) → d.value ≡ Some n → Found (record { kind = pattern_kind radix n; start = at; length = d.end - at }) d.end ≡ token_at names s at
         prefix-found n e =
             let u = take (d.end - at) (drop at s) in
             let (v, k) = value-fits radix s (at + 2) d q n e in
             at-allowed s at d.end _ _ prefix-read (pattern_kind radix n) (omega (arith, q.on)) (lt-ltb prefix-value (2 ^ 64) (rw v k)) (ap here.make v ∙ sym (here.kind-meant n u))
             (rw v (here.kind-for n u))
 
-        pub prefix-wide : d.value ≡ TooLarge → Bad ≡ token_at names s at
+        pub prefix-wide : d.value ≡ None → Bad ≡ token_at names s at
         prefix-wide e = at-refused s at d.end _ _ prefix-read (le-ltb prefix-value (2 ^ 64) (value-large radix s (at + 2) d q e))

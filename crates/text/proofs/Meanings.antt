@@ -1,15 +1,15 @@
 -- A token's kind, by its meaning and its spelling, means that token again, has the sign of that spelling, and the token's number.
 use Prim.Native.Nat.{ℕ, zero, suc, ◌^◌}
-use mathlib.Core.Path.{◌≡◌, refl, ap, ◌∙◌}
+use mathlib.Core.Path.{◌≡◌, refl, ap}
 use native.Mathlib.Omega.{arith}
 use mathlib.Core.Bool.{Bool, true, false}
 use mathlib.Core.Option.{Option, none, some}
 use mathlib.Core.List.{List, [], ◌∷◌}
 use lib.ListN.{take, drop, get_or}
 use lib.Dec.{leb, ltb, eqb}
-use lib.IntN.{ℤ, pos, nat_abs}
+use lib.IntN.{pos, nat_abs}
 use borrow.Author.Tests.{ltb-true, eqb-true, eq-eqb}
-use Rattle.text_lexical.specs.Bytes.{Result, value, refused, same}
+use Rattle.text_lexical.specs.Bytes.{value, same}
 use Rattle.text_lexical.specs.Numbers.{value_of, minus}
 use Rattle.text_lexical.specs.Names.{Name, named}
 use Rattle.text_lexical.proofs.Tests.{by-test, no_both}
@@ -19,6 +19,7 @@ use Rattle.text_lexical.proofs.Numbers.{whole-meant}
 use Rattle.text.specs.Tokens.{Class, Register, Identifier, Number, Hex, Binary, Directive, Mark, Match, Token, identifier, register, number, hex, binary, directive, comma, colon, opening, closing, within, number_token, pattern_token, register_token, mark_token, token_of, Sized, sized, matched, front, longest}
 use Rattle.text.specs.Values.{read_number}
 use Rattle.text.specs.NameSets.{is_numbered, Naming}
+use Rattle.refusal.specs.Refusals.{refusals}
 use Rattle.text.specs.Promised.{extract_for, extracted, extract_meant, kind_meant, register_kind, kind_for}
 use Rattle.text.specs.declared.lexer.Kind.{Kind}
 use Rattle.text.specs.declared.lexer.Kind.TheVariants.{Identifier as IdentifierKind, Register as RegisterKind, NoRegister, Number as NumberKind, Negative, Hex as HexKind, Binary as BinaryKind, Directive as DirectiveKind, Comma, Colon, LParen, RParen}
@@ -171,9 +172,17 @@ extracted-for Colon u = refl
 extracted-for LParen u = refl
 extracted-for RParen u = refl
 
-for-meant : (o : Result ℤ) → extract_meant (extract_for o) ≡ o
-for-meant (value z) = ap value (whole-meant z)
-for-meant (refused n) = refl
-
 pub extracted-number : (k : Kind) (u : List ℕ) → extract_meant (extracted k) ≡ read_number (kind_meant k u)
-extracted-number k u = ap extract_meant (extracted-for k u) ∙ for-meant (read_number (kind_meant k u))
+unfolding read_number refusals
+extracted-number IdentifierKind u = refl
+extracted-number (RegisterKind r) u = refl
+extracted-number NoRegister u = refl
+extracted-number (NumberKind n) u = refl
+extracted-number (Negative n) u = ap value (whole-meant (minus n))
+extracted-number (HexKind n) u = refl
+extracted-number (BinaryKind n) u = refl
+extracted-number DirectiveKind u = refl
+extracted-number Comma u = refl
+extracted-number Colon u = refl
+extracted-number LParen u = refl
+extracted-number RParen u = refl

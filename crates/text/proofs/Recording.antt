@@ -2,22 +2,27 @@
 use mathlib.Core.Path.{◌≡◌, refl, sym, ap, ◌∙◌}
 use Prim.Native.Nat.{ℕ, zero, suc, ◌+◌, ◌-◌, ◌≤◌, ◌<◌}
 use native.Mathlib.Omega.{arith}
-use mathlib.Core.Bool.{Bool, true, false, true≢false}
+use mathlib.Core.Bool.{false}
+use mathlib.Core.Logic.{◌⊎◌, inl, inr}
 use mathlib.Core.List.{List, [], ◌∷◌, ◌++◌, map, append_assoc, append-nil}
 use mathlib.Core.Option.{Option, none, some}
+use Rattle.std.specs.Prelude.{Ok, Err}
+use Rattle.std.specs.Prelude.{Result as Answer}
 use lib.ListN.{length, take, drop, get_or, set, replicate, length-append, length-drop, length-take, length-map, length-replicate, get_or-append}
 use lib.Seq.{take_all, take-append-le, take-append_seam, set_at, get_or-append-add, get_or-drop, get_or-take}
 use Rattle.text_lexical.specs.Bytes.{blank, run, margin}
 use Rattle.text_lexical.specs.Names.{Name}
 use Rattle.text_lexical.proofs.Tests.{split, not-true, no_both}
 use Rattle.text_lexical.proofs.Strings.{run-no, run_end, run-stop}
+use Rattle.refusal.specs.declared.refusal.Refusal.{Refusal}
+use Rattle.refusal.specs.declared.refusal.Refusal.TheVariants.{BadToken}
 use Rattle.text.specs.Tokens.{infront, tokens}
 use Rattle.text.specs.Tokens.{Token as Meant}
 use Rattle.text.specs.Lines.{indent, kept, line_of, record_of, read_line}
 use Rattle.text.specs.Lines.{Line as Record}
 use Rattle.text.specs.NameSets.{Naming}
 use Rattle.text.specs.Places.{rest_at, left_at, end_at, StartsAt}
-use Rattle.text.specs.Promised.{meant, past, scan_at, infront_of, followed, tokens_from, all_from, filler, first_kept, spoiled, line_with, record_at, firsts}
+use Rattle.text.specs.Promised.{meant, past, scan_at, infront_of, followed, tokens_from, all_from, filler, first_kept, line_with, record_at, firsts}
 use Rattle.text.specs.declared.lexer.Token.{Token}
 use Rattle.text.specs.declared.lexer.Scan.{Scan}
 use Rattle.text.specs.declared.lexer.Scan.TheVariants.{Found, Bad, End}
@@ -107,13 +112,10 @@ kept_full ts t h =
 
 -- ---- what a record says of its line
 
-abbrev pub unless_bad : Bool → Record → Option Record
-unless_bad true l = none
-unless_bad false l = some l
-
 -- The record that a line's record means; none: a bad token.
-abbrev pub line_meant : List ℕ → Line → Option Record
-line_meant s r = unless_bad r.bad (record { count = r.count; first = firsts s r.tokens r.count })
+abbrev pub line_meant : List ℕ → Answer Line Refusal → Option Record
+line_meant s (Ok l) = some (record { count = l.count; first = firsts s l.tokens l.count })
+line_meant s (Err e) = none
 
 map-take : (s : List ℕ) (n : ℕ) (ts : List Token) → map (meant s) (take n ts) ≡ take n (map (meant s) ts)
 map-take s zero ts = refl
@@ -163,48 +165,48 @@ unfolding joined
 joined-more ds t none = refl
 joined-more ds t (some ts) = rw (append_assoc ds (t ∷ []) ts)
 
+-- Where the tokens of a line's record stand.
+pub record PlacedIn (s : List ℕ) (from : ℕ) (l : Line) : Type 0 where
+  -- where the line ends
+  pub ends : l.end ≡ end_at s from
+  -- the first token begins where the line's content does
+  pub begins : 0 < l.count → (get_or l.tokens 0 filler).start ≡ from + indent (rest_at s from)
+  pub places : length l.tokens ≡ kept
+  -- each token is a part of the text, and each that is kept takes a byte at least
+  pub inside_text : (i : ℕ) → (get_or l.tokens i filler).start + (get_or l.tokens i filler).length ≤ length s
+  pub solid : (i : ℕ) → i < kept → i < l.count → 0 < (get_or l.tokens i filler).length
+
+-- Without one a token is bad.
+abbrev pub Placed : List ℕ → ℕ → Answer Line Refusal → Type 0
+Placed s from (Ok l) = PlacedIn s from l
+Placed s from (Err e) = e ≡ BadToken
+
 -- ---- by any set of names
 
 module _ (names : List Name) where
   -- ---- what a record says of its line
 
   -- What the record of a line has to say.
-  pub record LineRead (s : List ℕ) (from : ℕ) (r : Line) : Type 0 where
+  pub record LineRead (s : List ℕ) (from : ℕ) (r : Answer Line Refusal) : Type 0 where
     pub means : read_line names (rest_at s from) ≡ line_meant s r
-    -- where the line ends, unless a token is bad
-    pub ends : r.bad ≡ false → r.end ≡ end_at s from
-    pub bad-ends : r.bad ≡ true → r.end ≡ from
-    -- the first token begins where the line's content does
-    pub begins : 0 < r.count → (get_or r.tokens 0 filler).start ≡ from + indent (rest_at s from)
-    pub places : length r.tokens ≡ kept
-    -- each token is a part of the text, and each that is kept takes a byte at least
-    pub inside_text : (i : ℕ) → (get_or r.tokens i filler).start + (get_or r.tokens i filler).length ≤ length s
-    pub solid : (i : ℕ) → i < kept → i < r.count → 0 < (get_or r.tokens i filler).length
+    pub places : Placed s from r
 
   line-with : (s : List ℕ) (from : ℕ) (o : Option (List Token)) → AllParts s o → FirstAt (begin s from) o
       → read_line names (rest_at s from) ≡ record_of (meant_all s o) → LineRead s from (line_with s from o)
   unfolding AllParts FirstAt
-  line-with s from none p f e =
-      record {
-        means = e ∙ record-means s from none;
-        ends = λ h. absurd (true≢false h);
-        bad-ends = λ h. refl;
-        begins = λ h. absurd (omega arith);
-        places = refl;
-        inside_text = λ i. rw (fillers kept i) (omega arith);
-        solid = λ i h k. absurd (omega arith);
-      }
+  line-with s from none p f e = record { means = e ∙ record-means s from none; places = refl }
   line-with s from (some ts) p f e =
       record {
         means = e ∙ record-means s from (some ts);
-        ends = λ h. refl;
-        bad-ends = λ h. absurd (true≢false (sym h));
-        begins = λ h. ap (λ (t : Token). t.start) (kept_at ts 0 (omega arith) h) ∙ first ts f h ∙ ap (λ (x : ℕ). from + x) (sym (indent-at s from));
-        places = length-kept ts;
-        inside_text = λ i. split i (length (take kept ts))
-            (λ l. let n = length-take kept ts in rw (kept_at ts i (omega arith) (omega arith)) (part_at s ts i p (omega arith)).1)
-            (λ l. rw (kept-filled ts i l) (omega arith));
-        solid = λ i h k. rw (kept_at ts i h k) (part_at s ts i p k).0;
+        places = record {
+          ends = refl;
+          begins = λ h. ap (λ (t : Token). t.start) (kept_at ts 0 (omega arith) h) ∙ first ts f h ∙ ap (λ (x : ℕ). from + x) (sym (indent-at s from));
+          places = length-kept ts;
+          inside_text = λ i. split i (length (take kept ts))
+              (λ l. let n = length-take kept ts in rw (kept_at ts i (omega arith) (omega arith)) (part_at s ts i p (omega arith)).1)
+              (λ l. rw (kept-filled ts i l) (omega arith));
+          solid = λ i h k. rw (kept_at ts i h k) (part_at s ts i p k).0;
+        };
       }
     where
       first : (us : List Token) → FirstAt (begin s from) (some us) → 0 < length us → (get_or us 0 filler).start ≡ begin s from
@@ -282,7 +284,7 @@ module _ (names : List Name) where
         go (End stop) l = tt
 
     -- The record of the line from a place on says all of it.
-    pub line_read_lem : (s : List ℕ) (from : ℕ) (r : Line) → r ≡ record_at names s from → LineRead s from r
+    pub line_read_lem : (s : List ℕ) (from : ℕ) (r : Answer Line Refusal) → r ≡ record_at names s from → LineRead s from r
     unfolding read_line record_at
     line_read_lem s from r e =
         let at = begin s from in
@@ -311,18 +313,24 @@ module _ (names : List Name) where
             ends = end ∙ r.ends;
           }
 
-      pub reading-store : (t : Token) (next : ℕ) → n < kept → Found t next ≡ scan_at names s at → Reading s from (set ts n t) (n + 1) next
+      reading-store : (t : Token) (next : ℕ) → n < kept → Found t next ≡ scan_at names s at → Reading s from (set ts n t) (n + 1) next
       reading-store t next h e = more (set ts n t) t next (ap (λ (x : List Token). set x n t) r.keeps ∙ kept-stored r.read n t r.counts h) e
 
-      pub reading-full : (t : Token) (next : ℕ) → kept ≤ n → Found t next ≡ scan_at names s at → Reading s from ts (n + 1) next
+      reading-full : (t : Token) (next : ℕ) → kept ≤ n → Found t next ≡ scan_at names s at → Reading s from ts (n + 1) next
       reading-full t next h e = more ts t next (r.keeps ∙ kept_full r.read t (omega (arith, r.counts))) e
 
-      pub reading-end : (end : ℕ) → End end ≡ scan_at names s at → record { tokens = ts; count = n; bad = false; end = end } ≡ record_at names s from
+      -- The token is stored where there is room, and else counted only.
+      pub reading-next : (t : Token) (next : ℕ) (us : List Token) → Found t next ≡ scan_at names s at → ((n < kept) × (us ≡ set ts n t)) ⊎ ((kept ≤ n) × (us ≡ ts))
+          → Reading s from us (n + 1) next
+      reading-next t next us e (inl (h, k)) = rw k (reading-store t next h e)
+      reading-next t next us e (inr (h, k)) = rw k (reading-full t next h e)
+
+      pub reading-end : (end : ℕ) → End end ≡ scan_at names s at → Ok (record { tokens = ts; count = n; end = end }) ≡ record_at names s from
       unfolding record_at joined
       reading-end end e =
           let z : end ≡ end_at s from = (stepped names ok s at _ e).leads r.place ∙ r.ends in
           rw (r.keeps, r.counts, z, goes_on _ e, append-nil r.read)
 
-      pub reading-bad : Bad ≡ scan_at names s at → spoiled from ≡ record_at names s from
+      pub reading-bad : Bad ≡ scan_at names s at → Err BadToken ≡ record_at names s from
       unfolding record_at joined
       reading-bad e = rw (goes_on _ e)

@@ -1,5 +1,6 @@
 -- What the code's values mean in terms of the definitions, and what its functions answer.
-use Rattle.std.specs.Prelude.{ℕ, zero, suc, ◌+◌, ◌-◌, ◌<◌, ◌≡◌, Bool, true, false, ◌||◌, List, [], ◌∷◌, ◌++◌, map, length, take, drop, get_or, replicate, eqb, ℤ, pos, nat_abs}
+use Rattle.std.specs.Prelude.{ℕ, zero, suc, ◌+◌, ◌-◌, ◌<◌, ◌≡◌, Bool, true, false, ◌||◌, List, [], ◌∷◌, ◌++◌, map, length, take, drop, get_or, replicate, eqb, ℤ, pos, nat_abs, Ok, Err}
+use Rattle.std.specs.Prelude.{Result as Answer}
 use Rattle.std.proofs.Math.Option.{Option, none, some}
 use Rattle.text_lexical.specs.Bytes.{Result, value, refused, digit, name_start, blank, margin, run}
 use Rattle.text_lexical.specs.Numbers.{minus}
@@ -7,6 +8,10 @@ use Rattle.text_lexical.specs.Names.{Name}
 use Rattle.text_lexical.specs.Promised.{index_of, register_at, whole_meant, whole_for}
 use Rattle.text_lexical.specs.declared.number.Radix.{Radix}
 use Rattle.text_lexical.specs.declared.number.Radix.TheVariants.{Binary as BinaryRadix, Decimal as DecimalRadix, Hex as HexRadix}
+use Rattle.text_lexical.specs.declared.number.Whole.{Whole}
+use Rattle.refusal.specs.Refusals.{refusal_at, answered}
+use Rattle.refusal.specs.declared.refusal.Refusal.{Refusal}
+use Rattle.refusal.specs.declared.refusal.Refusal.TheVariants.{BadToken}
 use Rattle.text.specs.Tokens.{identifier, register, number, hex, binary, directive, comma, colon, opening, closing, Number as NumberClass, longest, Sized, front}
 use Rattle.text.specs.Tokens.{Token as Meant}
 use Rattle.text.specs.Values.{read_number}
@@ -19,21 +24,18 @@ use Rattle.text.specs.declared.lexer.Scan.{Scan}
 use Rattle.text.specs.declared.lexer.Scan.TheVariants.{Found, Bad, End}
 use Rattle.text.specs.declared.lexer.Ending.{Ending}
 use Rattle.text.specs.declared.lexer.Ending.TheVariants.{Line as LineEnd, Comment, Other}
-use Rattle.text.specs.declared.parser.Extracted.{Extracted}
-use Rattle.text.specs.declared.parser.Extracted.TheVariants.{Number as Extract, Refused as NoNumber}
 use Rattle.text.specs.declared.parser.Line.{Line}
 use Rattle.text.specs.declared.reader.Reader.{Reader}
 
 -- ---- numbers
 
 -- What is answered for the number that is read of a token, or for its refusal.
-abbrev pub extract_for : Result ℤ → Extracted
-extract_for (value z) = Extract (whole_for z)
-extract_for (refused n) = NoNumber n
+abbrev pub extract_for : Result ℤ → Answer Whole Refusal
+extract_for (value z) = Ok (whole_for z)
+extract_for (refused n) = Err (refusal_at n)
 
-abbrev pub extract_meant : Extracted → Result ℤ
-extract_meant (Extract w) = value (whole_meant w)
-extract_meant (NoNumber n) = refused n
+abbrev pub extract_meant : Answer Whole Refusal → Result ℤ
+extract_meant r = answered whole_meant r
 
 -- ---- tokens
 
@@ -53,7 +55,7 @@ kind_meant LParen u = opening
 kind_meant RParen u = closing
 
 -- What is read of a kind, whatever its spelling: the number is in the kind.
-abbrev pub extracted : Kind → Extracted
+abbrev pub extracted : Kind → Answer Whole Refusal
 extracted k = extract_for (read_number (kind_meant k []))
 
 -- The spelling of a token of a text, and the token that it means.
@@ -207,17 +209,13 @@ filler = record { kind = Comma; start = 0; length = 0 }
 unfoldable pub first_kept : List Token → List Token
 first_kept ts = take kept ts ++ replicate (kept - length ts) filler
 
--- The record of a line with a bad token.
-abbrev pub spoiled : ℕ → Line
-spoiled from = record { tokens = replicate kept filler; count = 0; bad = true; end = from }
-
--- The record of the line from a place on that has these tokens.
-abbrev pub line_with : List ℕ → ℕ → Option (List Token) → Line
-line_with s from none = spoiled from
-line_with s from (some ts) = record { tokens = first_kept ts; count = length ts; bad = false; end = end_at s from }
+-- The record of the line from a place on that has these tokens, unless one is bad.
+abbrev pub line_with : List ℕ → ℕ → Option (List Token) → Answer Line Refusal
+line_with s from none = Err BadToken
+line_with s from (some ts) = Ok (record { tokens = first_kept ts; count = length ts; end = end_at s from })
 
 -- The record of the line from a place on, whose tokens begin after its margin.
-unfoldable pub record_at : List Name → List ℕ → ℕ → Line
+unfoldable pub record_at : List Name → List ℕ → ℕ → Answer Line Refusal
 record_at names s from = line_with s from (all_from names s (from + run margin (drop from s)))
 
 -- The tokens that a record keeps: of its places the first `count`, so all of them where there are more.

@@ -1,12 +1,13 @@
-// Tokens: the one that stands at a place of a line, and the next one past blanks.
+// Tokens: the one that stands at a place of a line, and the next one past blanks. Each function takes the slice and a place in it, the form
+// that document 01 names for what the reader rests on, and so asks that the place is within the slice.
 ghost use Rattle.std.specs.Prelude.{◌≡◌, true, false, ◌+◌, ◌-◌, ◌≤◌, ◌<◌, length, get_or};
 ghost use Rattle.text_lexical.specs.Bytes.{name_start, digit, mark, blank};
 ghost use Rattle.text_lexical.specs.Names.{present};
 ghost use Rattle.text.specs.Promised.{pattern_kind, mark_of_byte, ending_at, token_at, scan_at, number_start, IsDecimal, Prefixed, NoWord};
 
-use text_lexical::bytes::Class;
+use text_lexical::bytes::{Blank, Margin, NamePart};
 use text_lexical::name::RegisterName;
-use text_lexical::number::{Radix, Value};
+use text_lexical::number::Radix;
 use text_lexical::register::Register;
 
 // A number's kinds keep its magnitude, and `Negative` is one that is spelled with `-`, -0 too. The spelling of a name is the token's part of
@@ -35,7 +36,8 @@ pub struct Token {
     pub length: usize,
 }
 
-// What stands at a place: a token and the place after it, no token, or nothing that is left to read, with the place where the line ends.
+// What stands at a place: a token and the place after it, no token, or nothing that is left to read, with the place where the line ends. Of
+// these three only the second is an error, and it is no refusal before the line is known to be read by tokens.
 #[derive(Clone, Copy)]
 pub enum Scan {
     Found { token: Token, next: usize },
@@ -43,7 +45,7 @@ pub enum Scan {
     End(usize),
 }
 
-// Where reading a line ends: at the line's end, or at a comment; or something is left to read.
+// Where reading a line ends: at the line's end, or at a comment, whose end is still to find; or something is left to read.
 #[derive(Clone, Copy)]
 pub enum Ending {
     Line(usize),
@@ -71,7 +73,7 @@ fn word(text: &[u8], at: usize) -> Scan
     requires name_starts { name_start (get_or text.now at 0) ≡ true }
     ensures { result ≡ token_at present text.now at }
 {
-    let end = text_lexical::bytes::run_end(text, at + 1, Class::NamePart);
+    let end = text_lexical::bytes::run_end::<NamePart>(text, at + 1);
     match text_lexical::name::parse_register(&text[at..end]) {
         RegisterName::Is(register) => found(Kind::Register(register), at, end),
         RegisterName::NoSuch => found(Kind::NoRegister, at, end),
@@ -88,17 +90,9 @@ fn decimal(text: &[u8], at: usize) -> Scan
     ensures { result ≡ token_at present text.now at }
 {
     let digits = text_lexical::number::digits_at(text, at, Radix::Decimal);
-    let end = digits.end;
-    let value = digits.value;
-    match value {
-        Value::TooLarge => Scan::Bad,
-        Value::Fits(magnitude) => {
-            if magnitude < LIMIT {
-                found(Kind::Number(magnitude), at, end)
-            } else {
-                Scan::Bad
-            }
-        }
+    match digits.value {
+        Some(magnitude) if magnitude < LIMIT => found(Kind::Number(magnitude), at, digits.end),
+        _ => Scan::Bad,
     }
 }
 
@@ -110,20 +104,12 @@ fn minus(text: &[u8], at: usize) -> Scan
 {
     let begin = at + 1;
     let digits = text_lexical::number::digits_at(text, begin, Radix::Decimal);
-    let end = digits.end;
-    let value = digits.value;
-    if end == begin {
+    if digits.end == begin {
         return Scan::Bad;
     }
-    match value {
-        Value::TooLarge => Scan::Bad,
-        Value::Fits(magnitude) => {
-            if magnitude <= LIMIT {
-                found(Kind::Negative(magnitude), at, end)
-            } else {
-                Scan::Bad
-            }
-        }
+    match digits.value {
+        Some(magnitude) if magnitude <= LIMIT => found(Kind::Negative(magnitude), at, digits.end),
+        _ => Scan::Bad,
     }
 }
 
@@ -145,14 +131,12 @@ fn prefixed(text: &[u8], at: usize, radix: Radix) -> Scan
 {
     let begin = at + 2;
     let digits = text_lexical::number::digits_at(text, begin, radix);
-    let end = digits.end;
-    let value = digits.value;
-    if end == begin {
+    if digits.end == begin {
         return decimal(text, at);
     }
-    match value {
-        Value::TooLarge => Scan::Bad,
-        Value::Fits(magnitude) => found(pattern(radix, magnitude), at, end),
+    match digits.value {
+        Some(magnitude) => found(pattern(radix, magnitude), at, digits.end),
+        None => Scan::Bad,
     }
 }
 
@@ -175,6 +159,7 @@ fn digits(text: &[u8], at: usize) -> Scan
 }
 
 // Whether a number may begin with a byte: a digit or `-`.
+#[tactic(auto, unfolding(crate::specs::Promised::number_start))]
 pub fn is_number_start(b: u8) -> bool
     ensures { result ≡ number_start b }
 {
@@ -206,7 +191,7 @@ fn directive(text: &[u8], at: usize) -> Scan
     if !text_lexical::bytes::is_name_start(text[second]) {
         return Scan::Bad;
     }
-    let end = text_lexical::bytes::run_end(text, second + 1, Class::NamePart);
+    let end = text_lexical::bytes::run_end::<NamePart>(text, second + 1);
     found(Kind::Directive, at, end)
 }
 
@@ -215,7 +200,7 @@ pub fn ending_at(text: &[u8], at: usize) -> Ending
     requires { at ≤ length text.now }
     ensures { result ≡ ending_at text.now at }
 {
-    let stop = text_lexical::bytes::run_end(text, at, Class::Margin);
+    let stop = text_lexical::bytes::run_end::<Margin>(text, at);
     if text.len() <= stop {
         return Ending::Line(stop);
     }
@@ -293,7 +278,7 @@ pub(crate) fn next_token(text: &[u8], from: usize) -> Scan
     requires { from ≤ length text.now }
     ensures { result ≡ scan_at present text.now from }
 {
-    let at = text_lexical::bytes::run_end(text, from, Class::Blank);
+    let at = text_lexical::bytes::run_end::<Blank>(text, from);
     if at < text.len() {
         return front(text, at);
     }

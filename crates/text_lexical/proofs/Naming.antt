@@ -11,13 +11,14 @@ use lib.ListN.{length, drop, get_or, length-take, length-drop}
 use lib.Seq.{drop-cons}
 use lib.Dec.{leb, ltb, eqb}
 use borrow.Author.Tests.{ne_eqb, eqb-true, leb-true, ltb-true}
+use Rattle.std.specs.Prelude.{None}
 use Rattle.text_lexical.specs.Bytes.{bytes, between, letter, digit, name_start, name_part, every, same, run, find, each}
 use Rattle.text_lexical.specs.Names.{Name, name, named, numbered, conventional, present}
 use Rattle.text_lexical.specs.Promised.{index_of, name_meant, name_number, register_number}
 use Rattle.text_lexical.specs.Words.{part, word_end, word_at, up_to, longest, RegisterWordIs}
 use Rattle.text_lexical.specs.declared.name.RegisterName.{RegisterName}
 use Rattle.text_lexical.specs.declared.name.RegisterName.TheVariants.{Is as Named, NoSuch, Other as NoName}
-use Rattle.text_lexical.specs.declared.name.RegisterWord.TheVariants.{Other}
+use Rattle.text_lexical.specs.declared.name.Pair.{Pair}
 use Rattle.text_lexical.proofs.Tests.{by-test, not-true, no_both, or_elim, Each, in-run}
 use Rattle.text_lexical.proofs.Strings.{same-eq, found, run-le, run_past, run-yes, run-no}
 
@@ -25,25 +26,27 @@ use Rattle.text_lexical.proofs.Strings.{same-eq, found, run-le, run_past, run-ye
 abbrev Is : List ℕ → ℕ → Type 0
 Is u n = some (register_number n) ≡ name_number (named present u)
 
--- ---- the tables, by the last three bits of the first of two bytes
+-- ---- the table, by the last three bits of the first of two bytes
 
--- The letters; how many digits may follow each, and the register of the first; the other byte that may follow, and its register.
-abbrev letters : List ℕ
-letters = 1 ∷ 97 ∷ 114 ∷ 115 ∷ 116 ∷ 0 ∷ 102 ∷ 103 ∷ []
+-- A letter's names: how many digits may follow it, and the register of the first; the other byte that may follow, and its register.
+abbrev blank-pair : Pair
+blank-pair = record { letter = 0; digits = 0; first = 0; other = 0; number = 0 }
 
-abbrev digits : List ℕ
-digits = 0 ∷ 6 ∷ 10 ∷ 2 ∷ 3 ∷ 0 ∷ 0 ∷ 0 ∷ []
+abbrev pairs : List Pair
+pairs =
+    record { letter = 1; digits = 0; first = 0; other = 0; number = 0 }
+    ∷ record { letter = 97; digits = 6; first = 11; other = 48; number = 11 }
+    ∷ record { letter = 114; digits = 10; first = 0; other = 97; number = 1 }
+    ∷ record { letter = 115; digits = 2; first = 6; other = 112; number = 2 }
+    ∷ record { letter = 116; digits = 3; first = 8; other = 112; number = 4 }
+    ∷ blank-pair
+    ∷ record { letter = 102; digits = 0; first = 0; other = 112; number = 5 }
+    ∷ record { letter = 103; digits = 0; first = 0; other = 112; number = 3 } ∷ []
 
-abbrev firsts : List ℕ
-firsts = 0 ∷ 11 ∷ 0 ∷ 6 ∷ 8 ∷ 0 ∷ 0 ∷ 0 ∷ []
+abbrev pair : ℕ → Pair
+pair n = get_or pairs n blank-pair
 
-abbrev seconds : List ℕ
-seconds = 0 ∷ 48 ∷ 97 ∷ 112 ∷ 112 ∷ 0 ∷ 112 ∷ 112 ∷ []
-
-abbrev others : List ℕ
-others = 0 ∷ 11 ∷ 1 ∷ 2 ∷ 4 ∷ 0 ∷ 5 ∷ 3 ∷ []
-
--- ---- what is in the tables is a name
+-- ---- what is in the table is a name
 
 -- A run of names that end in digits, from a digit on; the number is the last byte less another number.
 module _ (front : ℕ → List ℕ) (less : ℕ) where
@@ -66,13 +69,13 @@ four-named = refl
 
 -- A digit's register is one of the sixteen or the next, and the digit names it.
 abbrev Few : ℕ → Type 0
-Few n = get_or firsts n 0 + get_or digits n 0 ≤ 17
+Few n = (pair n).first + (pair n).digits ≤ 17
 
 few : Each Few 0 8
 few = (omega arith, (omega arith, (omega arith, (omega arith, (omega arith, (omega arith, (omega arith, (omega arith, tt))))))))
 
 abbrev ByDigit : ℕ → Type 0
-ByDigit n = Each (Run (λ b. get_or letters n 0 ∷ b ∷ []) (48 - get_or firsts n 0)) 48 (get_or digits n 0)
+ByDigit n = Each (Run (λ b. (pair n).letter ∷ b ∷ []) (48 - (pair n).first)) 48 ((pair n).digits)
 
 a-names : ByDigit 1
 unfolding find present numbered conventional name bytes same named register_number
@@ -92,29 +95,29 @@ t-names = (refl, (refl, (refl, tt)))
 
 -- So does the other byte, where there is a letter.
 abbrev ByOther : ℕ → Type 0
-ByOther n = get_or letters n 0 % 8 ≡ n → Is (get_or letters n 0 ∷ get_or seconds n 0 ∷ []) (get_or others n 0)
+ByOther n = (pair n).letter % 8 ≡ n → Is ((pair n).letter ∷ (pair n).other ∷ []) ((pair n).number)
 
 by-other : Each ByOther 0 8
 unfolding find present numbered conventional name bytes same named register_number
 by-other = (λ h. absurd (omega arith), (λ h. refl, (λ h. refl, (λ h. refl, (λ h. refl, (λ h. absurd (omega arith), (λ h. refl, (λ h. refl, tt))))))))
 
-module _ (first second : ℕ) (letter : get_or letters (first % 8) 0 ≡ first) where
+module _ (first second : ℕ) (letter : (pair (first % 8)).letter ≡ first) where
   few-here : Few (first % 8)
   few-here = in-run Few 0 8 (first % 8) (omega arith) (omega arith) few
 
-  pub digit-small : second - 48 < get_or digits (first % 8) 0 → get_or firsts (first % 8) 0 + (second - 48) < 17
+  pub digit-small : second - 48 < (pair (first % 8)).digits → (pair (first % 8)).first + (second - 48) < 17
   digit-small l = omega (arith, few-here)
 
-  pub digit-named : 48 ≤ second → second - 48 < get_or digits (first % 8) 0 → Is (first ∷ second ∷ []) (get_or firsts (first % 8) 0 + (second - 48))
+  pub digit-named : 48 ≤ second → second - 48 < (pair (first % 8)).digits → Is (first ∷ second ∷ []) ((pair (first % 8)).first + (second - 48))
   digit-named l k =
       let d = in-run ByDigit 0 8 (first % 8) (omega arith) (omega arith) (tt, (a-names, (r-names, (s-names, (t-names, (tt, (tt, (tt, tt)))))))) in
-      let r = in-names (λ b. get_or letters (first % 8) 0 ∷ b ∷ []) (48 - get_or firsts (first % 8) 0) (get_or digits (first % 8) 0) second (get_or firsts (first % 8) 0 + (second - 48)) d l (omega arith) (omega (arith, few-here)) in
+      let r = in-names (λ b. (pair (first % 8)).letter ∷ b ∷ []) (48 - (pair (first % 8)).first) ((pair (first % 8)).digits) second ((pair (first % 8)).first + (second - 48)) d l (omega arith) (omega (arith, few-here)) in
       r ∙ ap (λ (x : ℕ). name_number (named present (x ∷ second ∷ []))) letter
 
-  pub other-named : second ≡ get_or seconds (first % 8) 0 → Is (first ∷ second ∷ []) (get_or others (first % 8) 0)
+  pub other-named : second ≡ (pair (first % 8)).other → Is (first ∷ second ∷ []) ((pair (first % 8)).number)
   other-named f =
       let r = in-run ByOther 0 8 (first % 8) (omega arith) (omega arith) by-other (ap (λ (x : ℕ). x % 8) letter) in
-      rw f (r ∙ ap (λ (x : ℕ). name_number (named present (x ∷ get_or seconds (first % 8) 0 ∷ []))) letter)
+      rw f (r ∙ ap (λ (x : ℕ). name_number (named present (x ∷ (pair (first % 8)).other ∷ []))) letter)
 
 -- ---- and there is no other name
 
@@ -123,7 +126,7 @@ unfoldable listed : List ℕ → Bool
 listed [] = false
 listed (a ∷ []) = false
 listed (a ∷ b ∷ []) =
-    eqb (get_or letters (a % 8) 0) a && ((leb 48 b && ltb (b - 48) (get_or digits (a % 8) 0)) || eqb b (get_or seconds (a % 8) 0))
+    eqb ((pair (a % 8)).letter) a && ((leb 48 b && ltb (b - 48) ((pair (a % 8)).digits)) || eqb b ((pair (a % 8)).other))
 listed (a ∷ b ∷ c ∷ []) = eqb a 114 && (eqb b 49 && between 48 53 c)
 listed (a ∷ b ∷ c ∷ d ∷ []) = eqb a 122 && (eqb b 101 && (eqb c 114 && eqb d 111))
 listed (a ∷ b ∷ c ∷ d ∷ e ∷ s) = false
@@ -143,18 +146,18 @@ none_named u h = go (named present u) refl
         no_both (rw (same-eq n.spelling u p) at q) h
 
 -- By the first test that fails.
-pub no-letter : (a b : ℕ) → (get_or letters (a % 8) 0 ≡ a → ⊥) → none ≡ name_number (named present (a ∷ b ∷ []))
+pub no-letter : (a b : ℕ) → ((pair (a % 8)).letter ≡ a → ⊥) → none ≡ name_number (named present (a ∷ b ∷ []))
 unfolding listed
-no-letter a b h = none_named (a ∷ b ∷ []) (rw (listed, ne_eqb (get_or letters (a % 8) 0) a h))
+no-letter a b h = none_named (a ∷ b ∷ []) (rw (listed, ne_eqb ((pair (a % 8)).letter) a h))
 
-pub no_second : (a b : ℕ) → (48 ≤ b → b - 48 < get_or digits (a % 8) 0 → ⊥) → (b ≡ get_or seconds (a % 8) 0 → ⊥) → none ≡ name_number (named present (a ∷ b ∷ []))
+pub no_second : (a b : ℕ) → (48 ≤ b → b - 48 < (pair (a % 8)).digits → ⊥) → (b ≡ (pair (a % 8)).other → ⊥) → none ≡ name_number (named present (a ∷ b ∷ []))
 unfolding listed
 no_second a b f g =
     none_named (a ∷ b ∷ []) (not-true (listed (a ∷ b ∷ [])) (λ t.
-    let (l, r) = (and-eq-true_iff (eqb (get_or letters (a % 8) 0) a) _).0 t in
-    or_elim (leb 48 b && ltb (b - 48) (get_or digits (a % 8) 0)) (eqb b (get_or seconds (a % 8) 0)) r
-    (λ d. let (x, y) = (and-eq-true_iff (leb 48 b) (ltb (b - 48) (get_or digits (a % 8) 0))).0 d in f (leb-true 48 b x) (ltb-true (b - 48) (get_or digits (a % 8) 0) y))
-    (λ o. g (eqb-true b (get_or seconds (a % 8) 0) o))))
+    let (l, r) = (and-eq-true_iff (eqb ((pair (a % 8)).letter) a) _).0 t in
+    or_elim (leb 48 b && ltb (b - 48) ((pair (a % 8)).digits)) (eqb b ((pair (a % 8)).other)) r
+    (λ d. let (x, y) = (and-eq-true_iff (leb 48 b) (ltb (b - 48) ((pair (a % 8)).digits))).0 d in f (leb-true 48 b x) (ltb-true (b - 48) ((pair (a % 8)).digits) y))
+    (λ o. g (eqb-true b ((pair (a % 8)).other) o))))
 
 pub no-three : (a b c : ℕ) → (a ≡ 114 → b ≡ 49 → between 48 53 c ≡ true → ⊥) → none ≡ name_number (named present (a ∷ b ∷ c ∷ []))
 unfolding listed
@@ -173,7 +176,7 @@ no-four a b c d f =
     let (z, w) = (and-eq-true_iff (eqb c 114) _).0 q in
     f (eqb-true a 122 x) (eqb-true b 101 y) (eqb-true c 114 z) (eqb-true d 111 w)))
 
--- A spelling of another length is no name, and one of such a length is its bytes.
+-- A spelling of another length is no name.
 pub no_length : (u : List ℕ) → (length u ≡ 2 → ⊥) → (length u ≡ 3 → ⊥) → (length u ≡ 4 → ⊥) → none ≡ name_number (named present u)
 unfolding listed
 no_length [] f g h = none_named [] refl
@@ -185,20 +188,6 @@ no_length (a ∷ b ∷ c ∷ d ∷ e ∷ s) f g h = none_named (a ∷ b ∷ c �
 
 pub long-none : (u : List ℕ) → 4 < length u → name_number (named present u) ≡ none
 long-none u h = sym (no_length u (λ e. omega arith) (λ e. omega arith) (λ e. omega arith))
-
-pub two-are : (u : List ℕ) → length u ≡ 2 → u ≡ get_or u 0 0 ∷ get_or u 1 0 ∷ []
-two-are [] h = absurd (omega arith)
-two-are (a ∷ []) h = absurd (omega arith)
-two-are (a ∷ b ∷ []) h = refl
-two-are (a ∷ b ∷ c ∷ u) h = absurd (omega arith)
-
-pub three-are : (u : List ℕ) → length u ≡ 3 → u ≡ get_or u 0 0 ∷ get_or u 1 0 ∷ get_or u 2 0 ∷ []
-three-are [] h = absurd (omega arith)
-three-are (a ∷ u) h = ap (λ (t : List ℕ). a ∷ t) (two-are u (omega arith))
-
-pub four_are : (u : List ℕ) → length u ≡ 4 → u ≡ get_or u 0 0 ∷ get_or u 1 0 ∷ get_or u 2 0 ∷ get_or u 3 0 ∷ []
-four_are [] h = absurd (omega arith)
-four_are (a ∷ u) h = ap (λ (t : List ℕ). a ∷ t) (three-are u (omega arith))
 
 -- ---- the register that the word at a place names
 
@@ -256,7 +245,7 @@ module _ (s : List ℕ) (at : ℕ) (l : at + 4 < length s) where
       no_length (word_at s at) (λ e. f (sym n ∙ e)) (λ e. g (sym n ∙ e)) (λ e. h (sym n ∙ e))
 
   -- No name has five bytes.
-  pub long-word : 3 ≤ run name_part (drop (at + 2) s) → RegisterWordIs present s at Other
+  pub long-word : 3 ≤ run name_part (drop (at + 2) s) → RegisterWordIs present s at None
   long-word m h n e =
       let z = no_word (λ k. ⊎_elim (λ w. omega arith) (λ w. omega arith) two-or-fewer) (λ k. ⊎_elim (λ w. omega arith) (λ w. omega arith) two-or-fewer) (λ k. ⊎_elim (λ w. omega arith) (λ w. omega arith) two-or-fewer) in
       let y : ◌≡◌ {A = ℕ} 0 1 = cc in

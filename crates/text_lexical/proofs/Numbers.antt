@@ -23,7 +23,7 @@ digit_value_lem : (d : ℕ) → d < 10 → digit_value (48 + d) ≡ d
 unfolding digit_value
 digit_value_lem d h = rw (digit_value, le-leb (48 + d) 57 (omega arith)) (omega arith)
 
-value_from-append : (radix a : ℕ) (s t : List ℕ) → value_from radix a (s ++ t) ≡ value_from radix (value_from radix a s) t
+pub value_from-append : (radix a : ℕ) (s t : List ℕ) → value_from radix a (s ++ t) ≡ value_from radix (value_from radix a s) t
 unfolding value_from
 value_from-append radix a [] t = refl
 value_from-append radix a (d ∷ s) t = value_from-append radix (a * radix + digit_value d) s t

@@ -1,6 +1,6 @@
 -- Laws of byte strings and of searching a list.
 use mathlib.Core.Path.{◌≡◌, refl, sym, ap, ◌∙◌}
-use Prim.Native.Nat.{ℕ, zero, suc, ◌+◌, ◌≤◌, ◌<◌}
+use Prim.Native.Nat.{ℕ, zero, suc, ◌+◌, ◌-◌, ◌≤◌, ◌<◌}
 use native.Mathlib.Omega.{arith}
 use native.Mathlib.Nat.{le_of_suc-le-suc}
 use mathlib.Core.Bool.{Bool, true, false, true≢false}
@@ -10,6 +10,8 @@ use lib.ListN.{length, take, drop, get_or, length-drop, drop_of_length-le, take-
 use lib.Seq.{take-suc, drop-cons, get_or-drop, drop-drop}
 use lib.Dec.{eqb}
 use borrow.Author.Tests.{eqb-true, eq-eqb}
+use Rattle.std.specs.Cmp.Lexicographic.{pointwise}
+use Rattle.std.specs.Prelude.{nat_eq}
 use Rattle.text_lexical.specs.Bytes.{every, same, before, run, find, is_some, each}
 use Rattle.text_lexical.proofs.Tests.{by-test, both, and_both}
 
@@ -66,6 +68,14 @@ eq-same s t e = rw (← e) (refl-same s)
     refl-same : (u : List ℕ) → same u u ≡ true
     refl-same [] = refl
     refl-same (x ∷ u) = and_both (eqb x x) (same u u) (eq-eqb x x refl) (refl-same u)
+
+-- So the library's equality of bytes finds.
+pub pointwise-same : (s t : List ℕ) → pointwise nat_eq s t ≡ same s t
+unfolding same
+pointwise-same [] [] = refl
+pointwise-same [] (y ∷ t) = refl
+pointwise-same (x ∷ s) [] = refl
+pointwise-same (x ∷ s) (y ∷ t) = by-test (eqb x y) (λ e. rw (same, e) (pointwise-same s t)) (λ e. rw (same, e))
 
 -- ---- runs of a class
 
@@ -154,7 +164,7 @@ pub run_end : (p : ℕ → Bool) (s : List ℕ) (i : ℕ) → length s ≤ i →
 unfolding run before
 run_end p s i l = rw (drop_of_length-le s l)
 
--- A part of a slice byte by byte, as a loop over it meets it.
+-- A class of bytes byte by byte, as a loop over them meets it.
 every-snoc-yes : (p : ℕ → Bool) (s : List ℕ) (b : ℕ) → p b ≡ true → every p (s ++ (b ∷ [])) ≡ every p s
 unfolding every
 every-snoc-yes p [] b h = rw h
@@ -165,15 +175,20 @@ unfolding every
 every-snoc-no p [] b h = rw h
 every-snoc-no p (x ∷ s) b h = by-test (p x) (λ e. rw (every, e) (every-snoc-no p s b h)) (λ e. rw (every, e))
 
-module _ (p : ℕ → Bool) (s : List ℕ) (at j : ℕ) (l : at + j < length s) where
-  one_more_lem : take (suc j) (drop at s) ≡ take j (drop at s) ++ (get_or s (at + j) 0 ∷ [])
-  one_more_lem = take-suc (drop at s) j 0 (simp length-drop (omega arith)) ∙ ap (λ (b : ℕ). take j (drop at s) ++ (b ∷ [])) (get_or-drop at s j 0)
+module _ (p : ℕ → Bool) (s : List ℕ) (j : ℕ) (l : j < length s) where
+  pub every-yes : p (get_or s j 0) ≡ true → every p (take (suc j) s) ≡ every p (take j s)
+  every-yes e = rw (take-suc s j 0 l) (every-snoc-yes p (take j s) (get_or s j 0) e)
 
-  pub every-yes : p (get_or s (at + j) 0) ≡ true → every p (take (suc j) (drop at s)) ≡ every p (take j (drop at s))
-  every-yes e = rw one_more_lem (every-snoc-yes p (take j (drop at s)) (get_or s (at + j) 0) e)
+  pub every-no : p (get_or s j 0) ≡ false → every p (take (suc j) s) ≡ false
+  every-no e = rw (take-suc s j 0 l) (every-snoc-no p (take j s) (get_or s j 0) e)
 
-  pub every-no : p (get_or s (at + j) 0) ≡ false → every p (take (suc j) (drop at s)) ≡ false
-  every-no e = rw one_more_lem (every-snoc-no p (take j (drop at s)) (get_or s (at + j) 0) e)
+-- A part of a text with its next byte.
+pub part-more : (s : List ℕ) (at i : ℕ) → at ≤ i → i < length s → take (i + 1 - at) (drop at s) ≡ take (i - at) (drop at s) ++ (get_or s i 0 ∷ [])
+part-more s at i o l =
+    let m : i + 1 - at ≡ suc (i - at) = omega arith in
+    let a : at + (i - at) ≡ i = omega arith in
+    let g : get_or (drop at s) (i - at) 0 ≡ get_or s i 0 = get_or-drop at s (i - at) 0 ∙ ap (λ (x : ℕ). get_or s x 0) a in
+    rw m (take-suc (drop at s) (i - at) 0 (omega (arith, length-drop at s)) ∙ rw g)
 
 -- A run block by block: a block of the class is passed.
 pub run-block : (p : ℕ → Bool) (n : ℕ) (s : List ℕ) (i : ℕ) → i + n ≤ length s → every p (take n (drop i s)) ≡ true

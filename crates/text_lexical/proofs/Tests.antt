@@ -67,3 +67,15 @@ pub in-run : (P : ℕ → Type 0) (lo k n : ℕ) → lo ≤ n → n < lo + k →
 in-run P lo zero n l h e = absurd (omega arith)
 in-run P lo (suc k) n l h e =
     split lo n (λ m. in-run P (suc lo) k n m (omega arith) e.1) (λ m. let q : lo ≡ n = omega arith in subst P q e.0)
+
+-- A test of each number below one, by computing.
+unfoldable pub each_below : (ℕ → Bool) → ℕ → Bool
+each_below q zero = true
+each_below q (suc k) = elim (q k) [ true ↦ each_below q k | false ↦ false ]
+
+pub below-each : (q : ℕ → Bool) (k : ℕ) → each_below q k ≡ true → (n : ℕ) → n < k → q n ≡ true
+unfolding each_below
+below-each q zero h n l = absurd (omega arith)
+below-each q (suc k) h n l =
+    let (hk, hs) = both (q k) (each_below q k) h in
+    split n k (λ m. below-each q k hs n m) (λ m. let e : n ≡ k = omega arith in rw e hk)

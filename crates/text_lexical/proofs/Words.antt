@@ -6,13 +6,13 @@ use native.Mathlib.Omega.{arith}
 use mathlib.Core.Bool.{true, false}
 use mathlib.Core.List.{List, [], ◌∷◌, ◌++◌, map, map-append}
 use lib.ListN.{length, drop, get_or, length-map, length-take, length-drop, length-append}
-use lib.Seq.{drop-drop, take-suc, get_or-drop}
+use lib.Seq.{drop-drop}
 use Rattle.text_lexical.specs.Bytes.{name_part, lower, every, run}
 use Rattle.text_lexical.specs.Promised.{packed, key_of}
 use Rattle.text_lexical.specs.Words.{Roomy, with_byte, part, WordIs}
 use Rattle.text_lexical.specs.declared.name.Packed.{Packed}
 use Rattle.text_lexical.proofs.Tests.{split}
-use Rattle.text_lexical.proofs.Strings.{every_append, every-cons, run-le, run_past, run-yes, run-no, run_end}
+use Rattle.text_lexical.proofs.Strings.{every_append, every-cons, run-le, run_past, run-yes, run-no, run_end, part-more}
 use Rattle.text_lexical.proofs.Keys.{key-short, key-long, lower-below}
 
 -- ---- packing
@@ -90,27 +90,20 @@ module _ {s : List ℕ} {at : ℕ} {p : Packed} {i : ℕ} (q : Spelling s at p i
   pub spelling-key : p.sum + p.scale ≡ key_of (map lower (part s at (i - at)))
   spelling-key = packs-key q.packs (omega (arith, size, q.few, q.on))
 
-  part-more : i < length s → part s at (i + 1 - at) ≡ part s at (i - at) ++ (get_or s i 0 ∷ [])
-  part-more l =
-      let m : i + 1 - at ≡ suc (i - at) = omega (arith, q.on) in
-      let a : at + (i - at) ≡ i = omega (arith, q.on) in
-      let g : get_or (drop at s) (i - at) 0 ≡ get_or s i 0 = get_or-drop at s (i - at) 0 ∙ ap (λ (x : ℕ). get_or s x 0) a in
-      rw m (take-suc (drop at s) (i - at) 0 (omega (arith, length-drop at s, q.on)) ∙ rw g)
-
   pub spelling-more : i < length s → i - at < 7 → get_or s i 0 < 256 → Spelling s at (with_byte p (lower (get_or s i 0))) (i + 1)
   spelling-more l k b =
       record {
         on = omega (arith, q.on);
         in_text = omega arith;
         few = omega (arith, q.on);
-        packs = rw (part-more l, map-append lower (part s at (i - at)) (get_or s i 0 ∷ [])) (packs-more q.packs (lower (get_or s i 0)) (lower-below (get_or s i 0) b));
+        packs = rw (part-more s at i q.on l, map-append lower (part s at (i - at)) (get_or s i 0 ∷ [])) (packs-more q.packs (lower (get_or s i 0)) (lower-below (get_or s i 0) b));
       }
 
   -- ---- the bytes of a word so far
 
   pub parts_more : i < length s → every name_part (part s at (i - at)) ≡ true → name_part (get_or s i 0) ≡ true → every name_part (part s at (i + 1 - at)) ≡ true
   unfolding every
-  parts_more l e h = rw (part-more l) (every_append name_part (part s at (i - at)) (get_or s i 0 ∷ []) e (every-cons name_part (get_or s i 0) [] h refl))
+  parts_more l e h = rw (part-more s at i q.on l) (every_append name_part (part s at (i - at)) (get_or s i 0 ∷ []) e (every-cons name_part (get_or s i 0) [] h refl))
 
   module _ (parts : every name_part (part s at (i - at)) ≡ true) where
     run_on : run name_part (drop at s) ≡ i - at + run name_part (drop i s)

@@ -1,30 +1,18 @@
 -- What the code's values mean in terms of the definitions, and what its functions promise.
-use Rattle.std.specs.Prelude.{ℕ, suc, ◌+◌, ◌-◌, ◌*◌, ◌%◌, ◌^◌, ◌≤◌, ◌<◌, ◌≡◌, Bool, true, false, List, [], ◌∷◌, length, drop, get_or, leb, ltb, ℤ, pos, negsuc}
+use Rattle.std.specs.Prelude.{ℕ, suc, ◌+◌, ◌-◌, ◌*◌, ◌%◌, ◌^◌, ◌≡◌, Bool, true, false, List, [], ◌∷◌, length, drop, get_or, leb, ltb, ℤ, pos, negsuc}
+use Rattle.std.specs.Prelude.{Option as CodeOption, Some, None}
 use Rattle.std.proofs.Math.Option.{Option, none, some}
-use Rattle.text_lexical.specs.Bytes.{digit, hex_digit, binary_digit, name_part, blank, inside, margin, ascii, before, run}
+use Rattle.text_lexical.specs.Bytes.{digit, hex_digit, binary_digit, before, run}
 use Rattle.text_lexical.specs.Numbers.{digit_value, value_of, minus, residue}
 use Rattle.text_lexical.specs.Names.{Name}
-use Rattle.text_lexical.specs.declared.bytes.Class.{Class}
-use Rattle.text_lexical.specs.declared.bytes.Class.TheVariants.{NamePart, Blank, Margin, Inside, Ascii}
 use Rattle.text_lexical.specs.declared.register.Register.{Register}
 use Rattle.text_lexical.specs.declared.register.Register.TheVariants.{R0, R1, R2, R3, R4, R5, R6, R7, R8, R9, R10, R11, R12, R13, R14, R15}
 use Rattle.text_lexical.specs.declared.name.RegisterName.{RegisterName}
 use Rattle.text_lexical.specs.declared.name.RegisterName.TheVariants.{Is, NoSuch, Other}
 use Rattle.text_lexical.specs.declared.number.Radix.{Radix}
 use Rattle.text_lexical.specs.declared.number.Radix.TheVariants.{Binary, Decimal, Hex}
-use Rattle.text_lexical.specs.declared.number.Value.{Value}
-use Rattle.text_lexical.specs.declared.number.Value.TheVariants.{Fits, TooLarge}
 use Rattle.text_lexical.specs.declared.number.Digits.{Digits}
 use Rattle.text_lexical.specs.declared.number.Whole.{Whole}
-
--- ---- classes and runs
-
-abbrev pub is_of : Class → ℕ → Bool
-is_of NamePart = name_part
-is_of Blank = blank
-is_of Margin = margin
-is_of Inside = inside
-is_of Ascii = ascii
 
 -- ---- registers
 
@@ -75,8 +63,8 @@ key_of s = elim (leb (length s) 7) [ true ↦ packed s | false ↦ 0 ]
 -- ---- numbers
 
 -- A value, where it fits 64 bits.
-unfoldable pub fitting : ℕ → Value
-fitting n = elim (ltb n (2 ^ 64)) [ true ↦ Fits n | false ↦ TooLarge ]
+unfoldable pub fitting : ℕ → CodeOption ℕ
+fitting n = elim (ltb n (2 ^ 64)) [ true ↦ Some n | false ↦ None ]
 
 abbrev pub base_of : Radix → ℕ
 base_of Binary = 2
@@ -89,9 +77,9 @@ is_digit_of Binary = binary_digit
 is_digit_of Decimal = digit
 is_digit_of Hex = hex_digit
 
--- A byte's rank among the sixteen digits; 16 if it is none of them.
-unfoldable pub digit_rank : ℕ → ℕ
-digit_rank b = elim (hex_digit b) [ true ↦ digit_value b | false ↦ 16 ]
+-- The value of a digit of the radix.
+unfoldable pub digit_of : Radix → ℕ → CodeOption ℕ
+digit_of radix b = elim (is_digit_of radix b) [ true ↦ Some (digit_value b) | false ↦ None ]
 
 -- The digits of a radix from a place on: their value, where it fits, and where they end.
 abbrev pub digits_at : List ℕ → ℕ → Radix → Digits
@@ -100,11 +88,6 @@ digits_at s at radix =
       value = fitting (value_of (base_of radix) (before (is_digit_of radix) (drop at s)));
       end = at + run (is_digit_of radix) (drop at s);
     }
-
--- The cap is the largest number whose product with the radix is below 2^64.
-pub record Capped (radix cap : ℕ) : Type 0 where
-  pub fits : cap * radix < 2 ^ 64
-  pub most : 2 ^ 64 ≤ suc cap * radix
 
 abbrev pub signed_meant : Bool → ℕ → ℤ
 signed_meant true n = minus n

@@ -1,5 +1,6 @@
 -- The word at a place of a text: where it ends, and its key. A word's bytes are parts of a name.
 use Rattle.std.specs.Prelude.{ℕ, ◌+◌, ◌-◌, ◌*◌, ◌^◌, ◌≤◌, ◌<◌, max, ◌≡◌, List, [], ◌∷◌, map, length, take, drop}
+use Rattle.std.specs.Prelude.{Option as CodeOption, Some, None}
 use Rattle.std.proofs.Math.Option.{some}
 use Rattle.text_lexical.specs.Bytes.{name_part, lower, run}
 use Rattle.text_lexical.specs.Names.{Name, named}
@@ -9,7 +10,6 @@ use Rattle.text_lexical.specs.declared.name.Word.{Word}
 use Rattle.text_lexical.specs.declared.name.RegisterName.{RegisterName}
 use Rattle.text_lexical.specs.declared.name.RegisterName.TheVariants.{Is as Named, NoSuch, Other as NoName}
 use Rattle.text_lexical.specs.declared.name.RegisterWord.{RegisterWord}
-use Rattle.text_lexical.specs.declared.name.RegisterWord.TheVariants.{Is, Other}
 
 -- There is room for a byte more in a key of 64 bits.
 pub record Roomy (p : Packed) : Type 0 where
@@ -36,10 +36,10 @@ pub record WordIs (s : List ℕ) (at : ℕ) (w : Word) : Type 0 where
   pub key_is : w.key ≡ key_of (map lower (part s at (w.end - at)))
 
 -- A register that is named up to a place.
-abbrev pub up_to : RegisterName → ℕ → RegisterWord
-up_to (Named r) end = Is r end
-up_to NoSuch end = Other
-up_to NoName end = Other
+abbrev pub up_to : RegisterName → ℕ → CodeOption RegisterWord
+up_to (Named r) end = Some (record { register = r; end = end })
+up_to NoSuch end = None
+up_to NoName end = None
 
 -- How many bytes the longest name has.
 unfoldable pub longest : List Name → ℕ
@@ -48,6 +48,6 @@ longest (n ∷ ns) = max (length n.spelling) (longest ns)
 
 -- The register that the word at a place names, and its end; or it names none. Nothing is found where not so many bytes follow that the end of
 -- the longest name would be seen.
-abbrev pub RegisterWordIs : List Name → List ℕ → ℕ → RegisterWord → Type 0
-RegisterWordIs names s at (Is r end) = (at + longest names < length s) × (at < end) × (end ≡ word_end s at) × (name_number (named names (part s at (end - at))) ≡ some (some (index_of r)))
-RegisterWordIs names s at Other = at + longest names < length s → (n : ℕ) → name_number (named names (word_at s at)) ≡ some (some n) → ⊥
+abbrev pub RegisterWordIs : List Name → List ℕ → ℕ → CodeOption RegisterWord → Type 0
+RegisterWordIs names s at (Some w) = (at + longest names < length s) × (at < w.end) × (w.end ≡ word_end s at) × (name_number (named names (part s at (w.end - at))) ≡ some (some (index_of w.register)))
+RegisterWordIs names s at None = at + longest names < length s → (n : ℕ) → name_number (named names (word_at s at)) ≡ some (some n) → ⊥

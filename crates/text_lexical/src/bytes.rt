@@ -1,180 +1,188 @@
 // Byte classes, where a run of one class ends, lower case, and comparing spellings.
-ghost use Rattle.std.specs.Prelude.{◌≡◌, ◌+◌, ◌≤◌, length, take, drop};
-ghost use Rattle.text_lexical.specs.Bytes.{between, letter, digit, hex_digit, name_start, name_part, blank, inside, ascii, lower, every, run, margin};
+ghost use Rattle.std.specs.Prelude.{◌≡◌, ◌+◌, ◌^◌, ◌≤◌, ◌<◌, ℕ, Bool, length, drop};
+ghost use Rattle.text_lexical.specs.Bytes.{between, letter, digit, name_start, name_part, blank, inside, ascii, lower, every, run, margin};
 ghost use Rattle.text_lexical.specs.Bytes.{same as sameSpelling};
-ghost use Rattle.text_lexical.specs.Promised.{is_of};
 
-// Byte classes that `run_end` can skip.
-#[derive(Clone, Copy)]
-pub enum Class {
-    NamePart,
-    Blank,
-    Margin,
-    Inside,
-    Ascii,
+// A class of bytes that a run can be of.
+pub trait Class {
+    ghost has: { ℕ → Bool };
+
+    fn has(b: u8) -> bool
+        ensures { result ≡ has b };
+
+    // Whether the bytes of a block are all of the class. Each is tested, so that they can be tested at once.
+    fn has_all(block: &[u8]) -> bool
+        ensures { result ≡ every has block.now }
+    {
+        let mut all = true;
+        for &b in block {
+            if !Self::has(b) {
+                all = false;
+            }
+        }
+        all
+    }
 }
 
+// A name's bytes after its first.
+pub struct NamePart;
+
+impl Class for NamePart {
+    ghost has = { name_part };
+
+    fn has(b: u8) -> bool {
+        is_name_part(b)
+    }
+}
+
+// What is skipped within a line.
+pub struct Blank;
+
+impl Class for Blank {
+    ghost has = { blank };
+
+    #[tactic(auto, unfolding(crate::specs::Bytes::blank))]
+    fn has(b: u8) -> bool {
+        b == b'\t' || b == b' '
+    }
+}
+
+// What an end of a line loses, byte 10 aside, which ends the line.
+pub struct Margin;
+
+impl Class for Margin {
+    ghost has = { margin };
+
+    #[tactic(auto, unfolding(crate::specs::Bytes::margin, crate::specs::Bytes::inside, crate::specs::Bytes::edge))]
+    fn has(b: u8) -> bool {
+        b != b'\n' && (within(9, 13, b) || b == b' ')
+    }
+}
+
+// The bytes of one line.
+pub struct Inside;
+
+impl Class for Inside {
+    ghost has = { inside };
+
+    #[tactic(auto, unfolding(crate::specs::Bytes::inside))]
+    fn has(b: u8) -> bool {
+        b != b'\n'
+    }
+}
+
+// The bytes that a source may have.
+pub struct Ascii;
+
+impl Class for Ascii {
+    ghost has = { ascii };
+
+    #[tactic(auto, unfolding(crate::specs::Bytes::ascii))]
+    fn has(b: u8) -> bool {
+        b.is_ascii()
+    }
+
+    // All are where the largest is. A test of each byte, as in the other classes, takes six times as long here.
+    fn has_all(block: &[u8]) -> bool {
+        let mut most = 0;
+        for &b in block {
+            most = b.max(most);
+        }
+        Self::has(most)
+    }
+}
+
+#[tactic(auto, unfolding(crate::specs::Bytes::between))]
 pub fn within(lo: u8, hi: u8, b: u8) -> bool
     ensures { result ≡ between lo hi b }
 {
     lo <= b && b <= hi
 }
 
+#[tactic(auto, unfolding(crate::specs::Bytes::letter, crate::specs::Bytes::between))]
 fn is_letter(b: u8) -> bool
     ensures { result ≡ letter b }
 {
-    within(b'a', b'z', b) || within(b'A', b'Z', b)
+    b.is_ascii_alphabetic()
 }
 
+#[tactic(auto, unfolding(crate::specs::Bytes::digit, crate::specs::Bytes::between))]
 pub fn is_digit(b: u8) -> bool
     ensures { result ≡ digit b }
 {
-    within(b'0', b'9', b)
+    b.is_ascii_digit()
 }
 
-pub(crate) fn is_hex_digit(b: u8) -> bool
-    ensures { result ≡ hex_digit b }
-{
-    is_digit(b) || (within(b'a', b'f', b) || within(b'A', b'F', b))
-}
-
+#[tactic(auto, unfolding(crate::specs::Bytes::name_start))]
 pub fn is_name_start(b: u8) -> bool
     ensures { result ≡ name_start b }
 {
     is_letter(b) || b == b'_'
 }
 
+#[tactic(auto, unfolding(crate::specs::Bytes::name_part))]
 pub fn is_name_part(b: u8) -> bool
     ensures { result ≡ name_part b }
 {
     is_name_start(b) || is_digit(b)
 }
 
-fn is_blank(b: u8) -> bool
-    ensures { result ≡ blank b }
-{
-    b == b'\t' || b == b' '
-}
-
-// What an end of a line loses, byte 10 aside, which ends the line.
-fn is_margin(b: u8) -> bool
-    ensures { result ≡ margin b }
-{
-    if b == b'\n' {
-        return false;
-    }
-    within(9, 13, b) || b == b' '
-}
-
-fn is_in(class: Class, b: u8) -> bool
-    ensures { result ≡ is_of class b }
-{
-    match class {
-        Class::NamePart => is_name_part(b),
-        Class::Blank => is_blank(b),
-        Class::Margin => is_margin(b),
-        Class::Inside => b != b'\n',
-        Class::Ascii => b <= 127,
-    }
-}
-
 // Where the run of bytes of a class from `at` on ends.
-pub fn run_end(text: &[u8], at: usize, class: Class) -> usize
+pub fn run_end<C: Class>(text: &[u8], at: usize) -> usize
     requires { at ≤ length text.now }
-    ensures { result ≡ at + run (is_of class) (drop at text.now) }
+    ensures { result ≡ at + run C.has (drop at text.now) }
 {
-    let mut i = at;
-    while i < text.len() {
-        if !is_in(class, text[i]) {
+    for i in at..text.len() {
+        if !C::has(text[i]) {
             return i;
         }
-        i += 1;
     }
-    i
+    text.len()
 }
 
-// Whether the 16 bytes from `at` on are all of one line. Each is tested, so that they can be tested at once.
-fn line_block(text: &[u8], at: usize) -> bool
-    requires { at + 16 ≤ length text.now }
-    ensures { result ≡ every inside (take 16 (drop at text.now)) }
+// Where the run of bytes of a class from `at` on ends, found by blocks of N bytes and then by bytes: for runs that are often long.
+fn run_end_by_blocks<C: Class, const N: usize>(text: &[u8], at: usize) -> usize
+    requires steps { 0 < N }
+    requires small { N < 2 ^ 63 }
+    requires in_text { at ≤ length text.now }
+    ensures { result ≡ at + run C.has (drop at text.now) }
 {
-    let mut all = true;
-    let mut j: usize = 0;
-    while j < 16 {
-        if !is_in(Class::Inside, text[at + j]) {
-            all = false;
+    let mut i = at;
+    while let Some(block) = text[i..].first_chunk::<N>() {
+        if !C::has_all(block) {
+            break;
         }
-        j += 1;
+        i += N;
     }
-    all
+    run_end::<C>(text, i)
 }
 
-// Where the line that a place stands in ends: by blocks, and then by bytes.
+// Where the line that a place stands in ends.
 pub fn line_end(text: &[u8], at: usize) -> usize
     requires { at ≤ length text.now }
     ensures { result ≡ at + run inside (drop at text.now) }
 {
-    let mut i = at;
-    while 16 <= text.len() - i {
-        if !line_block(text, i) {
-            return run_end(text, i, Class::Inside);
-        }
-        i += 16;
-    }
-    run_end(text, i, Class::Inside)
+    run_end_by_blocks::<Inside, 16>(text, at)
 }
 
-// Whether the 32 bytes from `at` on are all up to 127: their largest is.
-fn ascii_block(text: &[u8], at: usize) -> bool
-    requires { at + 32 ≤ length text.now }
-    ensures { result ≡ every ascii (take 32 (drop at text.now)) }
-{
-    let mut most: u8 = 0;
-    let mut j: usize = 0;
-    while j < 32 {
-        let b = text[at + j];
-        if most < b {
-            most = b;
-        }
-        j += 1;
-    }
-    is_in(Class::Ascii, most)
-}
-
-// Where the bytes up to 127 end, from a place on: by blocks, and then by bytes.
+// Where the bytes up to 127 end, from a place on.
 pub fn ascii_end(text: &[u8], at: usize) -> usize
     requires { at ≤ length text.now }
     ensures { result ≡ at + run ascii (drop at text.now) }
 {
-    let mut i = at;
-    while 32 <= text.len() - i {
-        if !ascii_block(text, i) {
-            return run_end(text, i, Class::Ascii);
-        }
-        i += 32;
-    }
-    run_end(text, i, Class::Ascii)
+    run_end_by_blocks::<Ascii, 32>(text, at)
 }
 
+#[tactic(auto, unfolding(crate::specs::Bytes::lower, crate::specs::Bytes::between))]
 pub(crate) fn to_lower(b: u8) -> u8
     ensures { result ≡ lower b }
 {
-    if within(b'A', b'Z', b) { b + 32 } else { b }
+    b.to_ascii_lowercase()
 }
 
 // Whether two spellings are the same.
 pub fn same(a: &[u8], b: &[u8]) -> bool
     ensures { result ≡ sameSpelling a.now b.now }
 {
-    if a.len() != b.len() {
-        return false;
-    }
-    let mut i = 0;
-    while i < a.len() {
-        if a[i] != b[i] {
-            return false;
-        }
-        i += 1;
-    }
-    true
+    a == b
 }

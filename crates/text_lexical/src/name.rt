@@ -1,12 +1,12 @@
 // Register names, looked up by their bytes, and the packed keys by which other words are told apart.
-ghost use Rattle.std.specs.Prelude.{◌≡◌, [], ◌∷◌, map, ◌+◌, ◌/◌, ◌%◌, ◌^◌, ◌≤◌, ◌<◌, length, ltb};
+ghost use Rattle.std.specs.Prelude.{◌≡◌, [], ◌∷◌, map, ◌+◌, ◌^◌, ◌≤◌, ◌<◌, length};
 ghost use Rattle.std.proofs.Math.Option.{some};
 ghost use Rattle.text_lexical.specs.Bytes.{lower};
 ghost use Rattle.text_lexical.specs.Names.{named, present};
 ghost use Rattle.text_lexical.specs.Promised.{key_of, name_meant, name_number, register_number};
 ghost use Rattle.text_lexical.specs.Words.{Roomy, with_byte, WordIs, up_to, RegisterWordIs};
 
-use crate::bytes::Class;
+use crate::bytes::NamePart;
 use crate::register::Register;
 
 // The key of a word, and its end.
@@ -16,6 +16,7 @@ pub struct Word {
     pub end: usize,
 }
 
+// Three answers: an `Option` within another would say less plainly which is which.
 #[derive(Clone, Copy)]
 pub enum RegisterName {
     Is(Register),
@@ -27,30 +28,41 @@ pub enum RegisterName {
 
 // The register that the word at a place names, and the word's end.
 #[derive(Clone, Copy)]
-pub enum RegisterWord {
-    Is { register: Register, end: usize },
-    // The word names no register, or it stands too near the text's end for this look-up.
-    Other,
+pub struct RegisterWord {
+    pub register: Register,
+    pub end: usize,
 }
 
 // How many bytes the longest name has.
 pub const LONGEST: usize = 4;
 
-// The names of two bytes, by the last three bits of the first byte, which tell the letters apart: a branch for each letter would often be
-// guessed wrong. Each table has eight bytes, so that it stays in a register.
-//
-// The letter itself; where there is none, a byte with other last bits.
-const LETTERS: [u8; 8] = [1, b'a', b'r', b's', b't', 0, b'f', b'g'];
-// How many digits may follow the letter, and the register's number for the digit 0.
-const DIGITS: [u8; 8] = [0, 6, 10, 2, 3, 0, 0, 0];
+// The names of two bytes that begin with one letter.
+struct Pair {
+    letter: u8,
+    // How many digits may follow the letter, and the register's number for the digit 0.
+    digits: u8,
+    first: u8,
+    // The other byte that may follow (ra; sp, tp, fp and gp), and its register's number; `a` has only digits.
+    other: u8,
+    number: u8,
+}
 
-const FIRSTS: [u8; 8] = [0, 11, 0, 6, 8, 0, 0, 0];
-// The other byte that may follow (ra; sp, tp, fp and gp), and its register's number; `a` has only digits.
-const SECONDS: [u8; 8] = [0, b'0', b'a', b'p', b'p', 0, b'p', b'p'];
+// They are looked up by the last three bits of the first byte, which tell the letters apart: a branch for each letter would often be
+// guessed wrong. Where there is no letter, a byte with other last bits stands in its place, so that no other test is needed.
+#[rattlefmt::skip]
+static PAIRS: [Pair; 8] = [
+    Pair { letter: 1, digits: 0, first: 0, other: 0, number: 0 },
+    Pair { letter: b'a', digits: 6, first: 11, other: b'0', number: 11 },
+    Pair { letter: b'r', digits: 10, first: 0, other: b'a', number: 1 },
+    Pair { letter: b's', digits: 2, first: 6, other: b'p', number: 2 },
+    Pair { letter: b't', digits: 3, first: 8, other: b'p', number: 4 },
+    Pair { letter: 0, digits: 0, first: 0, other: 0, number: 0 },
+    Pair { letter: b'f', digits: 0, first: 0, other: b'p', number: 5 },
+    Pair { letter: b'g', digits: 0, first: 0, other: b'p', number: 3 },
+];
 
-const OTHERS: [u8; 8] = [0, 11, 1, 2, 4, 0, 5, 3];
-
-// The register with a number; a name with a higher number (a5) names none.
+// The register with a number; a name with a higher number (a5) names none, so it is not a register's.
+#[tactic(auto, unfolding(crate::specs::Promised::register_number))]
 fn numbered(number: u8) -> RegisterName
     ensures { name_meant result ≡ some (register_number number) }
 {
@@ -64,18 +76,18 @@ fn numbered(number: u8) -> RegisterName
 fn two_bytes(first: u8, second: u8) -> RegisterName
     ensures { name_meant result ≡ name_number (named present (first ∷ second ∷ [])) }
 {
-    let slot = (first % 8) as usize;
-    if LETTERS[slot] != first {
+    let pair = &PAIRS[(first % 8) as usize];
+    if pair.letter != first {
         return RegisterName::Other;
     }
     if b'0' <= second {
         let digit = second - b'0';
-        if digit < DIGITS[slot] {
-            return numbered(FIRSTS[slot] + digit);
+        if digit < pair.digits {
+            return numbered(pair.first + digit);
         }
     }
-    if second == SECONDS[slot] {
-        return numbered(OTHERS[slot]);
+    if second == pair.other {
+        return numbered(pair.number);
     }
     RegisterName::Other
 }
@@ -84,32 +96,17 @@ fn two_bytes(first: u8, second: u8) -> RegisterName
 fn three_bytes(first: u8, second: u8, third: u8) -> RegisterName
     ensures { name_meant result ≡ name_number (named present (first ∷ second ∷ third ∷ [])) }
 {
-    if first != b'r' {
+    if first != b'r' || second != b'1' || !crate::bytes::within(b'0', b'5', third) {
         return RegisterName::Other;
     }
-    if second != b'1' {
-        return RegisterName::Other;
-    }
-    if !crate::bytes::within(b'0', b'5', third) {
-        return RegisterName::Other;
-    }
-    numbered(third - 38)
+    numbered(10 + (third - b'0'))
 }
 
 // The register that four bytes name: zero.
 fn four_bytes(first: u8, second: u8, third: u8, fourth: u8) -> RegisterName
     ensures { name_meant result ≡ name_number (named present (first ∷ second ∷ third ∷ fourth ∷ [])) }
 {
-    if first != b'z' {
-        return RegisterName::Other;
-    }
-    if second != b'e' {
-        return RegisterName::Other;
-    }
-    if third != b'r' {
-        return RegisterName::Other;
-    }
-    if fourth != b'o' {
+    if first != b'z' || second != b'e' || third != b'r' || fourth != b'o' {
         return RegisterName::Other;
     }
     RegisterName::Is(Register::R0)
@@ -119,37 +116,33 @@ fn four_bytes(first: u8, second: u8, third: u8, fourth: u8) -> RegisterName
 pub fn parse_register(name: &[u8]) -> RegisterName
     ensures { name_meant result ≡ name_number (named present name.now) }
 {
-    let length = name.len();
-    if length == 2 {
-        return two_bytes(name[0], name[1]);
+    match *name {
+        [first, second] => two_bytes(first, second),
+        [first, second, third] => three_bytes(first, second, third),
+        [first, second, third, fourth] => four_bytes(first, second, third, fourth),
+        _ => RegisterName::Other,
     }
-    if length == 3 {
-        return three_bytes(name[0], name[1], name[2]);
-    }
-    if length == 4 {
-        return four_bytes(name[0], name[1], name[2], name[3]);
-    }
-    RegisterName::Other
 }
 
 // A register that is named up to a place.
-fn up_to(name: RegisterName, end: usize) -> RegisterWord
+fn up_to(name: RegisterName, end: usize) -> Option<RegisterWord>
     ensures { result ≡ up_to name end }
 {
     match name {
-        RegisterName::Is(register) => RegisterWord::Is { register, end },
-        _ => RegisterWord::Other,
+        RegisterName::Is(register) => Some(RegisterWord { register, end }),
+        _ => None,
     }
 }
 
 // The register that the word at `at` names, found while the word's end is: for an operand, whose name is looked up at once. The byte after
-// the longest name is looked at too, so that a word at the text's end is left to `parse_register`.
-pub fn register_word(text: &[u8], at: usize) -> RegisterWord
+// the longest name is looked at too, so that a word at the text's end is left to `parse_register`. There is none where the word names no
+// register, or stands too near the text's end for this look-up.
+pub fn register_word(text: &[u8], at: usize) -> Option<RegisterWord>
     requires { at ≤ length text.now }
     ensures { RegisterWordIs present text.now at result }
 {
     if text.len() - at <= LONGEST {
-        return RegisterWord::Other;
+        return None;
     }
     let first = text[at];
     let second = text[at + 1];
@@ -164,7 +157,7 @@ pub fn register_word(text: &[u8], at: usize) -> RegisterWord
     if !crate::bytes::is_name_part(text[at + 4]) {
         return up_to(four_bytes(first, second, third, fourth), at + 4);
     }
-    RegisterWord::Other
+    None
 }
 
 // How many bytes a key has at most.
@@ -190,7 +183,7 @@ impl Packed {
         ensures { result ≡ with_byte self (lower b) }
     {
         Packed {
-            sum: self.sum + crate::number::wide(crate::bytes::to_lower(b)) * self.scale,
+            sum: self.sum + u64::from(crate::bytes::to_lower(b)) * self.scale,
             scale: self.scale * BYTE,
         }
     }
@@ -204,27 +197,6 @@ impl Packed {
     }
 }
 
-// Whether a key has a byte: it is more than the 1 after the last.
-pub fn has_byte(key: u64) -> bool
-    ensures { result ≡ ltb 1 key }
-{
-    1 < key
-}
-
-// The first byte of a key.
-pub fn first_byte(key: u64) -> u8
-    ensures { result ≡ key % 256 }
-{
-    (key % BYTE) as u8
-}
-
-// The key of the bytes after the first.
-pub fn after_first(key: u64) -> u64
-    ensures { result ≡ key / 256 }
-{
-    key / BYTE
-}
-
 // The key of a spelling in lower case; 0 where it has too many bytes.
 pub fn lower_key(spelling: &[u8]) -> u64
     ensures { result ≡ key_of (map lower spelling.now) }
@@ -233,10 +205,8 @@ pub fn lower_key(spelling: &[u8]) -> u64
         return 0;
     }
     let mut packed = UNPACKED;
-    let mut i = 0;
-    while i < spelling.len() {
-        packed = packed.with(spelling[i]);
-        i += 1;
+    for &b in spelling {
+        packed = packed.with(b);
     }
     packed.key()
 }
@@ -247,8 +217,7 @@ pub fn lower_word(text: &[u8], at: usize) -> Word
     ensures { WordIs text.now at result }
 {
     let mut packed = UNPACKED;
-    let mut i = at;
-    while i < text.len() {
+    for i in at..text.len() {
         let b = text[i];
         if !crate::bytes::is_name_part(b) {
             return Word {
@@ -259,14 +228,13 @@ pub fn lower_word(text: &[u8], at: usize) -> Word
         if KEY_BYTES <= i - at {
             return Word {
                 key: 0,
-                end: crate::bytes::run_end(text, i, Class::NamePart),
+                end: crate::bytes::run_end::<NamePart>(text, i),
             };
         }
         packed = packed.with(b);
-        i += 1;
     }
     Word {
         key: packed.key(),
-        end: i,
+        end: text.len(),
     }
 }

@@ -1,121 +1,52 @@
 // Numbers: digits at a place of a text, their value where it fits 64 bits, whole numbers, and their residues.
-ghost use Rattle.std.specs.Prelude.{◌≡◌, suc, ◌+◌, ◌%◌, ◌≤◌, length, drop};
-ghost use Rattle.text_lexical.specs.Bytes.{run};
-ghost use Rattle.text_lexical.specs.Numbers.{digit_value};
-ghost use Rattle.text_lexical.specs.Promised.{base_of, is_digit_of, digit_rank, digits_at, Capped, whole_meant, Reduced};
+ghost use Rattle.std.specs.Prelude.{◌≡◌, suc, ◌+◌, ◌*◌, ◌%◌, ◌≤◌, length, None, MatchOption};
+ghost use Rattle.text_lexical.specs.Promised.{base_of, digit_of, digits_at, fitting, whole_meant, Reduced};
 
 // The radix by which digits are read.
 #[derive(Clone, Copy)]
 pub enum Radix {
-    Binary,
-    Decimal,
-    Hex,
+    Binary = 2,
+    Decimal = 10,
+    Hex = 16,
 }
 
-#[derive(Clone, Copy)]
-pub enum Value {
-    Fits(u64),
-    TooLarge,
-}
-
-// Digits from a place on: their value, and the place after them.
+// Digits from a place on: their value, unless it does not fit 64 bits, and the place after them.
 #[derive(Clone, Copy)]
 pub struct Digits {
-    pub value: Value,
+    pub value: Option<u64>,
     pub end: usize,
 }
 
-// A whole number by its sign and its magnitude; -0 is 0.
-#[derive(Clone, Copy)]
+// A whole number by its sign and its magnitude; -0 is 0. No type of 64 bits has both 2^64 - 1 and -2^63, and one of
+// 128 would make each operand larger.
+#[derive(Clone, Copy, Default)]
 pub struct Whole {
     pub negative: bool,
     pub magnitude: u64,
 }
 
-// A digit's value.
-fn digit_value(b: u8) -> u8
-    ensures { result ≡ digit_value b }
-{
-    if b <= b'9' {
-        if b < b'0' {
-            return 0;
-        }
-        return b - 48;
-    }
-    if b <= b'F' {
-        return b - 55;
-    }
-    if b < 87 {
-        return 0;
-    }
-    b - 87
-}
-
-// A byte's rank among the sixteen digits; 16 if it is none of them.
-fn digit_rank(b: u8) -> u8
-    ensures { result ≡ digit_rank b }
-{
-    if crate::bytes::is_hex_digit(b) {
-        return digit_value(b);
-    }
-    16
-}
-
-// A byte as a number of 64 bits.
-pub fn wide(x: u8) -> u64
-    ensures { result ≡ x }
-{
-    x as u64
-}
-
 impl Radix {
-    fn base(self) -> u64
+    fn base(self) -> u32
         ensures { result ≡ base_of self }
     {
-        match self {
-            Radix::Binary => 2,
-            Radix::Decimal => 10,
-            Radix::Hex => 16,
-        }
+        self as u32
     }
 
-    // The largest number whose product with the base fits 64 bits: known beforehand, so that no number costs a division.
-    fn cap(self) -> u64
-        ensures { Capped (base_of self) result }
+    // The value of a digit of the radix.
+    fn digit(self, b: u8) -> Option<u32>
+        ensures { result ≡ digit_of self b }
     {
-        match self {
-            Radix::Binary => 9223372036854775807,
-            Radix::Decimal => 1844674407370955161,
-            Radix::Hex => 1152921504606846975,
-        }
+        char::from(b).to_digit(self.base())
     }
 }
 
-// Where the digits of a radix from `at` on end.
-fn digits_end(text: &[u8], at: usize, radix: Radix) -> usize
-    requires { at ≤ length text.now }
-    ensures { result ≡ at + run (is_digit_of radix) (drop at text.now) }
+// The value of digits with one more, where it fits. The compiler makes one multiplication with a test of it, and no division.
+fn with_digit(value: Option<u64>, base: u32, digit: u32) -> Option<u64>
+    ensures { MatchOption value (result ≡ None) (λ v. result ≡ fitting (v * base + digit)) }
 {
-    let mut i = at;
-    while i < text.len() {
-        if radix.base() <= wide(digit_rank(text[i])) {
-            return i;
-        }
-        i += 1;
-    }
-    i
-}
-
-// The digits from `begin` on where their value does not fit: only their end is left to find.
-fn too_large(text: &[u8], begin: usize, radix: Radix) -> Digits
-    requires { begin ≤ length text.now }
-    ensures { result ≡ record { value = Value.TooLarge; end = begin + run (is_digit_of radix) (drop begin text.now) } }
-{
-    let end = digits_end(text, begin, radix);
-    Digits {
-        value: Value::TooLarge,
-        end,
-    }
+    value?
+        .checked_mul(u64::from(base))?
+        .checked_add(u64::from(digit))
 }
 
 // The digits of a radix from `begin` on, the highest first, in one pass.
@@ -123,35 +54,20 @@ pub fn digits_at(text: &[u8], begin: usize, radix: Radix) -> Digits
     requires { begin ≤ length text.now }
     ensures { result ≡ digits_at text.now begin radix }
 {
-    let base = radix.base();
-    let cap = radix.cap();
-    let mut value: u64 = 0;
-    let mut end = begin;
-    while end < text.len() {
-        let digit = wide(digit_rank(text[end]));
-        if base <= digit {
-            return Digits {
-                value: Value::Fits(value),
-                end,
-            };
-        }
-        if cap < value {
-            return too_large(text, begin, radix);
-        }
-        let shifted = value * base;
-        if 0xFFFF_FFFF_FFFF_FFFF - shifted < digit {
-            return too_large(text, begin, radix);
-        }
-        value = shifted + digit;
-        end += 1;
+    let mut value = Some(0);
+    for end in begin..text.len() {
+        let Some(digit) = radix.digit(text[end]) else {
+            return Digits { value, end };
+        };
+        value = with_digit(value, radix.base(), digit);
     }
     Digits {
-        value: Value::Fits(value),
-        end,
+        value,
+        end: text.len(),
     }
 }
 
-// What a number leaves modulo `most` + 1, which may be 2^64.
+// What a number leaves modulo `most` + 1, which may be 2^64. Most numbers are not above `most`, and cost no division.
 fn wrapped(n: u64, most: u64) -> u64
     ensures { result ≡ n % suc most }
 {
@@ -166,12 +82,9 @@ impl Whole {
     pub fn residue(self, most: u64) -> u64
         ensures { Reduced (suc most) (whole_meant self) result }
     {
-        let magnitude = self.magnitude;
-        if self.negative {
-            if 0 < magnitude {
-                return most - wrapped(magnitude - 1, most);
-            }
+        if self.negative && 0 < self.magnitude {
+            return most - wrapped(self.magnitude - 1, most);
         }
-        wrapped(magnitude, most)
+        wrapped(self.magnitude, most)
     }
 }

@@ -2,7 +2,7 @@
 ghost use Rattle.std.specs.Prelude.{◌≡◌, min};
 ghost use Rattle.text_lexical.specs.Promised.{index_of};
 
-#[derive(Clone, Copy)]
+#[derive(Clone, Copy, PartialEq, Eq)]
 pub enum Register {
     R0,
     R1,
@@ -22,32 +22,18 @@ pub enum Register {
     R15,
 }
 
-impl Register {
-    // The register's number, 0 to 15.
-    pub fn index(self) -> u8
-        ensures { result ≡ index_of self }
+// The register's number, 0 to 15.
+impl From<Register> for u8 {
+    fn from(register: Register) -> u8
+        ensures { result ≡ index_of register }
     {
-        match self {
-            Register::R0 => 0,
-            Register::R1 => 1,
-            Register::R2 => 2,
-            Register::R3 => 3,
-            Register::R4 => 4,
-            Register::R5 => 5,
-            Register::R6 => 6,
-            Register::R7 => 7,
-            Register::R8 => 8,
-            Register::R9 => 9,
-            Register::R10 => 10,
-            Register::R11 => 11,
-            Register::R12 => 12,
-            Register::R13 => 13,
-            Register::R14 => 14,
-            Register::R15 => 15,
-        }
+        register as u8
     }
+}
 
-    // The register with a number; there is none above R15.
+impl Register {
+    // The register with a number; there is none above R15. Each number is answered, where a `TryFrom` would make those who read a field of four
+    // bits ask again.
     pub fn from_index(index: u8) -> Register
         ensures { index_of result ≡ min index 15 }
     {

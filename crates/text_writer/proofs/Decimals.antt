@@ -1,14 +1,18 @@
--- Laws of printed decimals as the code makes them, digit by digit from the last.
+-- Laws of printed decimals: their last digit, their length, and how the library prints them.
 use mathlib.Core.Path.{◌≡◌, refl, sym, ap, ◌∙◌}
 use mathlib.Core.List.{List, [], ◌∷◌, ◌++◌}
-use Prim.Native.Nat.{ℕ, zero, suc, ◌+◌, ◌-◌, ◌/◌, ◌%◌, ◌≤◌, ◌<◌}
+use Prim.Native.Nat.{ℕ, zero, suc, ◌+◌, ◌/◌, ◌%◌, ◌*◌, ◌^◌, ◌≤◌, ◌<◌}
 use native.Mathlib.Omega.{arith}
-use lib.ListN.{length, set, length-append, length-set}
+use lib.ListN.{length, take, drop, set, length-append, take-append-drop}
 use borrow.Author.Tests.{lt-ltb, le-ltb}
 use Rattle.text_lexical.specs.Numbers.{minus, decimal_in, decimal, signed_decimal}
+use native.Mathlib.Nat.{mod-eq_of_lt, pow-suc}
+use Rattle.std.specs.Fmt.{decimal as std_decimal}
+use Rattle.std.proofs.lemmas.Fmt.{decimal_by_steps}
+use Rattle.text_lexical.proofs.Numbers.{decimal-length}
 use Rattle.text_lexical.proofs.Tests.{split}
 use Rattle.text_writer.specs.Promised.{put, Written}
-use Rattle.text_writer.proofs.Writing.{put_byte, put-before}
+use Rattle.text_writer.specs.Laws.{written_byte}
 
 -- ---- the last digit
 
@@ -47,39 +51,46 @@ unfolding minus signed_decimal
 signed-zero zero h = refl
 signed-zero (suc n) h = absurd (omega arith)
 
--- ---- writing digits, the last first
+-- ---- as the library prints
 
--- What is still to be written of n at a place: the digits of `rest`, which end at `place`.
-pub record Unwritten (old : List ℕ) (at n : ℕ) (out : List ℕ) (place rest : ℕ) : Type 0 where
-  pub ends : place ≡ at + length (decimal rest)
-  pub room : place ≤ length out
-  pub long : length out ≡ length old
-  pub holds : put out at (decimal rest) ≡ put old at (decimal n)
+-- The library's decimals are the document's, for numbers of 64 bits.
+pub decimal-std : (n : ℕ) → n < 2 ^ 64 → std_decimal n ≡ decimal n
+decimal-std =
+    decimal_by_steps (λ n ds. ds ≡ decimal n) (λ n h. rw (decimal-one n h, ap (λ d. 48 + d) (mod-eq_of_lt h)) refl)
+    (λ n ds h e. rw (decimal-more n h, e) refl)
 
-pub unwritten-all : (old : List ℕ) (at n : ℕ) → at + length (decimal n) ≤ length old → Unwritten old at n old (at + length (decimal n)) n
-unwritten-all old at n h = record { ends = refl; room = h; long = refl; holds = refl }
+ten-power : (k : ℕ) → 0 < 10 ^ k
+ten-power zero = omega arith
+ten-power (suc k) = omega (arith, pow-suc 10 k, ten-power k)
 
-module _ {old out : List ℕ} {at n place rest : ℕ} (u : Unwritten old at n out place rest) where
-  -- the last digit, and those before it
-  pub unwritten-less : 10 ≤ rest → Unwritten old at n (set out (place - 1) (48 + rest % 10)) (place - 1) (rest / 10)
-  unwritten-less h =
-      let e = decimal-longer rest h in
-      let p : place - 1 ≡ at + length (decimal (rest / 10)) = omega (arith, u.ends) in
-      let l : place - 1 < length out = omega (arith, u.ends, u.room) in
-      let s = length-set out (place - 1) (48 + rest % 10) in
-      let b = put-before out at (decimal (rest / 10)) ((48 + rest % 10) ∷ []) (omega (arith, u.ends, u.room)) in
-      record {
-        ends = p;
-        room = omega (arith, u.room);
-        long = s ∙ u.long;
-        holds = rw (← put_byte out (place - 1) (48 + rest % 10) l, p) (b ∙ ap (put out at) (sym (decimal-more rest h)) ∙ u.holds);
-      }
+-- A number from 10^k on, below 10^(k+1), has k + 1 digits.
+decimal-least : (k n : ℕ) → 10 ^ k ≤ n → k < length (decimal n)
+decimal-least zero n h = split n 10 (λ l. omega (arith, ap length (decimal-one n l))) (λ l. omega (arith, decimal-longer n l))
+decimal-least (suc k) n h =
+    let p = pow-suc 10 k in
+    let q = ten-power k in
+    let r = decimal-least k (n / 10) (omega arith) in
+    omega (arith, decimal-longer n (omega arith))
 
-  -- the first digit
-  pub unwritten-none : rest < 10 → Written old at (decimal n) (at + length (decimal n)) (set out at (48 + rest % 10))
-  unwritten-none h =
-      let e = ap length (decimal-one rest h) in
-      record {
-        ends = refl;
-        holds = sym (put_byte out at (48 + rest % 10) (omega (arith, u.ends, u.room))) ∙ ap (put out at) (sym (decimal-one rest h)) ∙ u.holds;
-      }
+pub decimal-powers : (k n : ℕ) → 10 ^ k ≤ n → n < 10 * 10 ^ k → length (decimal n) ≡ k + 1
+decimal-powers k n h l = omega (arith, decimal-least k n h, decimal-length k n (omega (arith, pow-suc 10 k)))
+
+-- One digit at its place is written.
+pub written-digit : (l : List ℕ) (at n : ℕ) → n < 10 → at + length (decimal n) ≤ length l → Written l at (decimal n) (at + 1) (set l at (48 + n))
+written-digit l at n h room =
+    let e : decimal n ≡ (48 + n) ∷ [] = decimal-one n h ∙ ap (λ (d : ℕ). (48 + d) ∷ []) (mod-eq_of_lt h) in
+    rw e (written_byte l at (48 + n) (omega (arith, ap length e)))
+
+-- Digits that end at a place, with the rest of a buffer before and after them, are written.
+pub written-digits : (l : List ℕ) (at start n : ℕ) (m : List ℕ) → n < 2 ^ 64 → at + length (decimal n) ≤ length l
+    → start + length (std_decimal n) ≡ at + length (decimal n)
+    → drop start m ≡ std_decimal n ++ drop (at + length (decimal n)) l → take start m ≡ take start l
+    → Written l at (decimal n) (at + length (decimal n)) m
+unfolding put
+written-digits l at start n m small room starts written before =
+    let e = decimal-std n small in
+    let s : start ≡ at = omega (arith, ap length e) in
+    record {
+      ends = refl;
+      holds = sym (take-append-drop start m) ∙ rw (written, before, s, e) refl;
+    }

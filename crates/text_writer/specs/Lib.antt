@@ -1,1 +1,3 @@
 pub mod Promised
+pub mod Sinks
+pub mod Laws

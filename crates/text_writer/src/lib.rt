@@ -1,4 +1,5 @@
 // Writers of bytes, below everything that writes an image or a text.
 #![tactic(auto)]
 
+pub mod sink;
 pub mod writer;

@@ -22,7 +22,7 @@ use Rattle.image.specs.Meaning.{instructions_of, image_of}
 use Rattle.image.specs.Lent.{over, assembled, refusal, answer_of, image_after, listed, unlisted, list_answer_of, text_after}
 use Rattle.image_listing.specs.Promised.{Lists}
 use Rattle.zkasm.specs.Zkasm.{most_input, table_room, image_room, refusal_text, output_of, program_output}
-use Rattle.image_listing.specs.declared.disassembler.Listing.TheVariants.{Is}
+use Rattle.std.specs.Prelude.{Ok}
 use Rattle.image.proofs.Lengths.{source-image-length}
 use Rattle.image.proofs.Over.{take-over, length_over}
 use Rattle.image.proofs.Walking.{MeansIf, reading-means}
@@ -70,7 +70,7 @@ module _ (b old : List ℕ) (e : listing b (length old) ≡ written (text_of b))
       let p : unlisted n i k ≡ listed (length (text_of b)) = q ∙ ap list_answer_of e in
       let z : ◌≡◌ {A = ℕ} 0 1 = cc in absurd (omega arith)
 
-  pub lists-prints : {new : List ℕ} {n : ℕ} → length (text_of b) ≤ length old → Lists b old new (Is n) → Prints (text_of b) old new n
+  pub lists-prints : {new : List ℕ} {n : ℕ} → length (text_of b) ≤ length old → Lists b old new (Ok n) → Prints (text_of b) old new n
   unfolding text_after
   lists-prints room l = prints-over (text_of b) old room (lists_length l.answer) (l.text ∙ ap (λ x. text_after x old) e)
 

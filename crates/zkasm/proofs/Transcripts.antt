@@ -11,7 +11,10 @@ use lib.Seq.{length-take-le}
 use lib.Dec.{eqb, ltb}
 use lib.IntN.{ℤ, pos, negsuc}
 use borrow.Author.Tests.{ltb-true, ltb-false}
-use Rattle.std.proofs.Common.{Option as Known, None}
+use Rattle.std.proofs.Common.{Option as Known, Some, None}
+use Rattle.std.specs.Prelude.{Ok, Err, Result as Answered}
+use Rattle.std.specs.IoError.{raw_os_error}
+use Rattle.std.specs.declared.io.Error.{Error as IoError}
 use Rattle.std.specs.Io.KnownBytes.{Consumes}
 use Rattle.std.proofs.KnownBytes.{Consumes-trans}
 use Rattle.text_writer.specs.Promised.{put}
@@ -19,7 +22,7 @@ use Rattle.text_writer.proofs.Writing.{put-append}
 use Rattle.image.specs.Lent.{over}
 use Rattle.zkasm.specs.Zkasm.{program_output}
 use Rattle.image.proofs.Over.{length_over, take-over}
-use Rattle.zkasm.specs.Stdin.{Moved, input_room, interruption, failure_of, delivery_of, count_of, step_of, Transcript, start, next, Writing, printed, told, writing_of}
+use Rattle.zkasm.specs.Stdin.{Moved, input_room, interruption, failure_of, failed, delivery_of, count_of, step_of, Transcript, start, next, Writing, printed, told, writing_of}
 use Rattle.zkasm.specs.Promised.{Delivers, ReadsPiece, Received, Writes, Replies}
 use Rattle.zkasm.specs.declared.stdin.Delivery.{Delivery}
 use Rattle.zkasm.specs.declared.stdin.Delivery.TheVariants.{Piece, End, Interrupted, Failed}
@@ -27,12 +30,12 @@ use Rattle.zkasm.specs.declared.stdin.Input.{Input}
 use Rattle.zkasm.specs.declared.stdin.Input.TheVariants.{Whole, TooLong, Incomplete}
 use Rattle.zkasm.specs.declared.stdin.Step.{Step}
 use Rattle.zkasm.specs.declared.stdin.Step.TheVariants.{Again, Done}
-use Rattle.zkasm.specs.declared.reply.Reply.TheVariants.{Output, Error}
+use Rattle.zkasm.specs.declared.reply.Unread.{Unread}
 use Rattle.zkasm.proofs.Printing.{output_long}
 
 -- ---- one read
 
-pub failure-none : (error : ℤ) → count_of (failure_of error) ≡ 0
+failure-none : (number : ℤ) → count_of (failure_of number) ≡ 0
 unfolding failure_of count_of
 failure-none (pos n) = go (eqb n interruption)
   where
@@ -41,12 +44,17 @@ failure-none (pos n) = go (eqb n interruption)
     go false = refl
 failure-none (negsuc n) = refl
 
+pub failed-none : (number : Known ℤ) → count_of (failed number) ≡ 0
+unfolding count_of
+failed-none (Some number) = failure-none number
+failed-none None = refl
+
 -- No more bytes come than were asked for.
-delivered-fits : (room : ℕ) (got error : ℤ) → Moved room got → count_of (delivery_of got error) ≤ room
+delivered-fits : (room : ℕ) (answer : Answered ℕ IoError) → Moved room answer → count_of (delivery_of answer) ≤ room
 unfolding delivery_of count_of
-delivered-fits room (pos zero) error h = omega arith
-delivered-fits room (pos (suc n)) error h = h
-delivered-fits room (negsuc n) error h = omega (arith, failure-none error)
+delivered-fits room (Ok zero) h = omega arith
+delivered-fits room (Ok (suc n)) h = h
+delivered-fits room (Err e) h = omega (arith, failed-none (raw_os_error e))
 
 -- A piece is never empty.
 abbrev Advances : Delivery → Type 0
@@ -55,7 +63,7 @@ Advances End = Unit {0}
 Advances Interrupted = Unit {0}
 Advances Failed = Unit {0}
 
-failure-advances : (error : ℤ) → Advances (failure_of error)
+failure-advances : (number : ℤ) → Advances (failure_of number)
 unfolding failure_of
 failure-advances (pos n) = go (eqb n interruption)
   where
@@ -64,18 +72,22 @@ failure-advances (pos n) = go (eqb n interruption)
     go false = tt
 failure-advances (negsuc n) = tt
 
-delivered-advances : (got error : ℤ) → Advances (delivery_of got error)
+failed-advances : (number : Known ℤ) → Advances (failed number)
+failed-advances (Some number) = failure-advances number
+failed-advances None = tt
+
+delivered-advances : (answer : Answered ℕ IoError) → Advances (delivery_of answer)
 unfolding delivery_of
-delivered-advances (pos zero) error = tt
-delivered-advances (pos (suc n)) error = omega arith
-delivered-advances (negsuc n) error = failure-advances error
+delivered-advances (Ok zero) = tt
+delivered-advances (Ok (suc n)) = omega arith
+delivered-advances (Err e) = failed-advances (raw_os_error e)
 
 module _ {room : ℕ} {r : Delivery} (a : Delivers room r) where
   pub delivers-fit : count_of r ≤ room
-  delivers-fit = rw a.delivery (delivered-fits room a.got a.error a.moved)
+  delivers-fit = rw a.delivery (delivered-fits room a.answer a.moved)
 
   delivers-advance : Advances r
-  delivers-advance = rw a.delivery (delivered-advances a.got a.error)
+  delivers-advance = rw a.delivery (delivered-advances a.answer)
 
 -- ---- how many bytes came
 
@@ -208,44 +220,37 @@ pub rest-alike : (came rest : List ℕ) → length came ≡ input_room → progr
 rest-alike came rest h = output_long (came ++ rest) (omega (arith, length-append came rest)) ∙ sym (output_long came (omega arith))
 
 module _ {old new : List ℕ} {n : ℕ} where
-  pub output-fits : Replies old new (Output n) → n ≤ length new
+  pub output-fits : Replies old new (Ok n) → n ≤ length new
   output-fits r = go (writing_of r.read r.came) r.writes
     where
-      go : (w : Writing) → Writes w old new (Output n) → n ≤ length new
+      go : (w : Writing) → Writes w old new (Ok n) → n ≤ length new
       go (printed text) h = h.fits
       go (told line) h = absurd h
 
-  pub error-fits : Replies old new (Error n) → n ≤ length new
-  error-fits r = go (writing_of r.read r.came) r.writes
-    where
-      go : (w : Writing) → Writes w old new (Error n) → n ≤ length new
-      go (printed text) h = absurd h
-      go (told line) h = h.fits
-
   -- A text is printed only after a call that answered that the input had ended, or if the input is too long by now.
-  pub output-ended : (r : Replies old new (Output n)) → (last_of r.calls ≡ some End) ⊎ (length r.came ≡ input_room)
+  pub output-ended : (r : Replies old new (Ok n)) → (last_of r.calls ≡ some End) ⊎ (length r.came ≡ input_room)
   unfolding writing_of
   output-ended r = go r.read r.calls r.writes
     where
-      go : (i : Input) {came : List ℕ} (calls : Transcript (Done i) came) → Writes (writing_of i came) old new (Output n)
+      go : (i : Input) {came : List ℕ} (calls : Transcript (Done i) came) → Writes (writing_of i came) old new (Ok n)
           → (last_of calls ≡ some End) ⊎ (length came ≡ input_room)
       go (Whole k) calls w = inl (whole-ended calls)
       go TooLong calls w = inr (counted calls)
       go Incomplete calls w = absurd w
 
   -- It is what the program prints for the bytes that came.
-  pub output-text : (r : Replies old new (Output n)) → take n new ≡ program_output r.came
+  pub output-text : (r : Replies old new (Ok n)) → take n new ≡ program_output r.came
   unfolding writing_of
   output-text r = go r.read r.writes
     where
-      go : (i : Input) → Writes (writing_of i r.came) old new (Output n) → take n new ≡ program_output r.came
+      go : (i : Input) → Writes (writing_of i r.came) old new (Ok n) → take n new ≡ program_output r.came
       go (Whole k) w = w.printed
       go TooLong w = w.printed
       go Incomplete w = absurd w
 
   -- So it is what the program prints for the whole input, if the input is the bytes that came and a rest, and if there is no rest once
   -- a call has answered that the input had ended. That the bytes are the input's, and the answer true, is all that is left to `read`.
-  pub prints-whole : (r : Replies old new (Output n)) (rest : List ℕ) → (last_of r.calls ≡ some End → rest ≡ [])
+  pub prints-whole : (r : Replies old new (Ok n)) (rest : List ℕ) → (last_of r.calls ≡ some End → rest ≡ [])
       → take n new ≡ program_output (r.came ++ rest)
   prints-whole r rest ended =
       output-text r

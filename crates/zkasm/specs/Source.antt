@@ -1,5 +1,5 @@
 -- What reading does with the bytes that the input has left, where those are known, and what is printed for them.
-use Rattle.std.specs.Prelude.{ℕ, ◌≡◌, List, take, ⊤, None, Some, ℤ, pos}
+use Rattle.std.specs.Prelude.{ℕ, ◌≡◌, List, take, ⊤, None, Some, Ok, Err, Result}
 use Rattle.std.specs.Io.KnownBytes.{Consumes, IsAtEnd}
 use Rattle.std.specs.declared.option.Option.{Option}
 use Rattle.zkasm.specs.Zkasm.{program_output}
@@ -7,13 +7,7 @@ use Rattle.zkasm.specs.declared.stdin.Delivery.{Delivery}
 use Rattle.zkasm.specs.declared.stdin.Delivery.TheVariants.{End}
 use Rattle.zkasm.specs.declared.stdin.Input.{Input}
 use Rattle.zkasm.specs.declared.stdin.Input.TheVariants.{Whole, TooLong, Incomplete}
-use Rattle.zkasm.specs.declared.reply.Reply.{Reply}
-use Rattle.zkasm.specs.declared.reply.Reply.TheVariants.{Output, Error}
-
--- The number of an error, by what the operating system has for it: 0 for one that it does not know.
-abbrev pub error_number : Option ℤ → ℤ
-error_number (Some number) = number
-error_number None = pos 0
+use Rattle.zkasm.specs.declared.reply.Unread.{Unread}
 
 -- A piece is the next bytes that the input has left, and nothing is left where the call says that the input has ended.
 abbrev pub Brings : Option (List ℕ) → Option (List ℕ) → List ℕ → Delivery → Type 0
@@ -27,7 +21,7 @@ Takes left rest buffer TooLong = Consumes left rest buffer
 Takes left rest buffer Incomplete = (came : List ℕ) × Consumes left rest came
 
 -- A text for standard output is what the program prints for the whole input.
-abbrev pub PrintsInput : Option (List ℕ) → List ℕ → Reply → Type 0
+abbrev pub PrintsInput : Option (List ℕ) → List ℕ → Result ℕ Unread → Type 0
 PrintsInput None buffer reply = ⊤
-PrintsInput (Some input) buffer (Output n) = take n buffer ≡ program_output input
-PrintsInput (Some input) buffer (Error n) = ⊤
+PrintsInput (Some input) buffer (Ok n) = take n buffer ≡ program_output input
+PrintsInput (Some input) buffer (Err u) = ⊤

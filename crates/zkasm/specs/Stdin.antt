@@ -1,7 +1,9 @@
 -- Standard input: what an answer of `read` means, when reading goes on, and what is written in the end. "A program reads standard
 -- input (at most 16,384 bytes, otherwise 1; ..) and prints the listing": the quotations are document 01's. The meaning of an answer
 -- is POSIX's. Which bytes come, where it is known what the input has left, `Source` says.
-use Rattle.std.specs.Prelude.{ℕ, zero, suc, ◌+◌, ◌≤◌, ◌≡◌, true, false, List, [], ◌∷◌, ◌++◌, length, eqb, ltb, ℤ, pos, negsuc}
+use Rattle.std.specs.Prelude.{ℕ, zero, suc, ◌+◌, ◌≤◌, ◌≡◌, true, false, List, [], ◌∷◌, ◌++◌, length, eqb, ltb, ℤ, pos, negsuc, ⊤, Option, Some, None, Result, Ok, Err}
+use Rattle.std.specs.IoError.{raw_os_error}
+use Rattle.std.specs.declared.io.Error.{Error}
 use Rattle.text_lexical.specs.Bytes.{bytes}
 use Rattle.zkasm.specs.Zkasm.{most_input, program_output}
 use Rattle.zkasm.specs.declared.stdin.Delivery.{Delivery}
@@ -25,21 +27,26 @@ interruption = 4
 
 -- ---- one read
 
--- What a call that is lent a buffer of n bytes may answer: -1, or how many bytes came, at most n.
-abbrev pub Moved : ℕ → ℤ → Type 0
-Moved n (pos k) = k ≤ n
-Moved n (negsuc k) = k ≡ 0
+-- What a call that is lent a buffer of n bytes may answer: how many bytes came, at most n, or an error.
+abbrev pub Moved : ℕ → Result ℕ Error → Type 0
+Moved n (Ok k) = k ≤ n
+Moved n (Err e) = ⊤
 
--- A call that failed, by the number of its error.
+-- A call that failed, by the number that the operating system has for its error,
 unfoldable pub failure_of : ℤ → Delivery
-failure_of (pos error) = elim (eqb error interruption) [ true ↦ Interrupted | false ↦ Failed ]
+failure_of (pos number) = elim (eqb number interruption) [ true ↦ Interrupted | false ↦ Failed ]
 failure_of (negsuc n) = Failed
 
--- `read` answers the number of bytes that came, 0 at the end of the input, and a negative number if it failed.
-unfoldable pub delivery_of : ℤ → ℤ → Delivery
-delivery_of (pos zero) error = End
-delivery_of (pos (suc n)) error = Piece (suc n)
-delivery_of (negsuc n) error = failure_of error
+-- if it has one.
+abbrev pub failed : Option ℤ → Delivery
+failed (Some number) = failure_of number
+failed None = Failed
+
+-- `read` answers the number of bytes that came, 0 at the end of the input, or an error.
+unfoldable pub delivery_of : Result ℕ Error → Delivery
+delivery_of (Ok zero) = End
+delivery_of (Ok (suc n)) = Piece (suc n)
+delivery_of (Err e) = failed (raw_os_error e)
 
 -- The number of bytes that came.
 unfoldable pub count_of : Delivery → ℕ

@@ -6,14 +6,13 @@ mod reply;
 mod report;
 mod stdin;
 
-use reply::Reply;
 use std::io::Write;
 
 fn main(rt: HostRuntime) {
     let mut out = [0u8; report::TEXT_ROOM];
     match reply::answer_input(&mut rt.stdin(), &mut out) {
-        Reply::Output(length) => print(rt, &out[..length]),
-        Reply::Error(length) => tell(rt, &out[..length]),
+        Ok(length) => print(rt, &out[..length]),
+        Err(unread) => tell(rt, unread.line()),
     }
 }
 

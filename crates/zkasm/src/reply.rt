@@ -1,6 +1,7 @@
 // What the program writes, and whether to standard output or to standard error.
-ghost use Rattle.std.specs.Prelude.{◌≤◌, length};
+ghost use Rattle.std.specs.Prelude.{◌≡◌, ◌≤◌, length};
 ghost use Rattle.zkasm.specs.Zkasm.{text_room};
+ghost use Rattle.zkasm.specs.Stdin.{incomplete_line};
 ghost use Rattle.zkasm.specs.Promised.{Replies};
 ghost use Rattle.zkasm.specs.Source.{PrintsInput};
 
@@ -9,27 +10,30 @@ use crate::stdin;
 use crate::stdin::Input;
 use std::io::Read;
 
-// The length of a text for standard output, or of a line for standard error.
+// The input could not be read to its end, so that nothing is printed.
 #[derive(Clone, Copy)]
-pub enum Reply {
-    Output(usize),
-    Error(usize),
+pub struct Unread;
+
+impl Unread {
+    // The line for standard error.
+    #[tactic(auto, unfolding(crate::specs::Stdin::incomplete_line, text_lexical::specs::Bytes::bytes))]
+    pub fn line(self) -> &'static [u8]
+        ensures { result.now ≡ incomplete_line }
+    {
+        b"zkasm: standard input could not be read to its end\n"
+    }
 }
 
-// Reads the input, and puts what is to be written into a buffer.
-pub fn answer_input<R: Read>(reader: &mut R, out: &mut [u8]) -> Reply
+// Reads the input, and puts the text that is to be printed into a buffer; its length.
+pub fn answer_input<R: Read>(reader: &mut R, out: &mut [u8]) -> Result<usize, Unread>
     requires { text_room ≤ length out.old }
     ensures reply { Replies out.old out.new result }
     ensures whole { PrintsInput (R.remaining reader.old) out.new result }
 {
     let mut input = stdin::blank();
     match stdin::read_input(reader, &mut input) {
-        Input::Whole(n) => Reply::Output(report(&input[..n], out)),
-        Input::TooLong => Reply::Output(report(&input, out)),
-        Input::Incomplete => Reply::Error(text_writer::writer::write_bytes(
-            out,
-            0,
-            b"zkasm: standard input could not be read to its end\n",
-        )),
+        Input::Whole(n) => Ok(report(&input[..n], out)),
+        Input::TooLong => Ok(report(&input, out)),
+        Input::Incomplete => Err(Unread),
     }
 }

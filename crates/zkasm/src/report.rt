@@ -1,14 +1,16 @@
 // What the program prints for an input.
 ghost use Rattle.std.specs.Prelude.{◌≡◌, ◌≤◌, length};
 ghost use Rattle.image.specs.Listing.{text_of, written, listing};
+ghost use Rattle.refusal.specs.Refusals.{number_of};
 ghost use Rattle.zkasm.specs.Zkasm.{most_input, image_room, text_room, refusal_text, program_output};
 ghost use Rattle.zkasm.specs.Promised.{AssemblesInput, Prints};
 
 use crate::stdin::{MOST_INPUT, ROOM};
 use image::limits::HEADER_SIZE;
-use image_assembler::assembler::Assembled;
+use image_assembler::assembler::{AssembleError, Assembled};
 use image_labels::label::Label;
-use image_listing::disassembler::Listing;
+use refusal::refusal::Refusal;
+use text_writer::sink::{Sink, Writer};
 
 // Room for the image of every input: it has a line more at most than bytes.
 const IMAGE_ROOM: usize = HEADER_SIZE + 4 * ROOM;
@@ -17,15 +19,17 @@ const IMAGE_ROOM: usize = HEADER_SIZE + 4 * ROOM;
 pub const TEXT_ROOM: usize = 22 * (3 + ROOM);
 
 // `refused N line L`
-fn write_refusal(out: &mut [u8], number: u8, line: usize) -> usize
+fn write_refusal(out: &mut [u8], refusal: Refusal, line: usize) -> usize
     requires { text_room ≤ length out.old }
-    ensures { Prints (refusal_text number line) out.old out.new result }
+    ensures { Prints (refusal_text (number_of refusal) line) out.old out.new result }
 {
-    let at = text_writer::writer::write_bytes(out, 0, b"refused ");
-    let at = text_writer::writer::write_decimal(out, at, number as u64);
-    let at = text_writer::writer::write_bytes(out, at, b" line ");
-    let at = text_writer::writer::write_decimal(out, at, line as u64);
-    text_writer::writer::write_bytes(out, at, b"\n")
+    let mut writer = Writer { out, at: 0 };
+    writer.put_bytes(b"refused ");
+    writer.put_decimal(u64::from(u8::from(refusal)));
+    writer.put_bytes(b" line ");
+    writer.put_decimal(line as u64);
+    writer.put(b'\n');
+    writer.at
 }
 
 // The text of an image that has one, and for which there is room.
@@ -34,11 +38,8 @@ fn write_listing(image: &[u8], out: &mut [u8]) -> usize
     requires text_room_in { length (text_of image.now) ≤ length out.old }
     ensures { Prints (text_of image.now) out.old out.new result }
 {
-    match image_listing::disassembler::list(image, out) {
-        Listing::Is(length) => length,
-        // no such image is refused
-        _ => 0,
-    }
+    // no such image is refused
+    image_listing::disassembler::list(image, out).unwrap_or(0)
 }
 
 fn blank_table() -> [Label; 1024] {
@@ -51,7 +52,7 @@ fn blank_table() -> [Label; 1024] {
 }
 
 // An input assembled, with a table of 1,024 labels.
-fn assemble(input: &[u8], image: &mut [u8]) -> Assembled
+fn assemble(input: &[u8], image: &mut [u8]) -> Result<Assembled, AssembleError>
     ensures { AssemblesInput input.now image.old image.new result }
 {
     let mut table = blank_table();
@@ -66,19 +67,10 @@ fn report_source(input: &[u8], image: &mut [u8], out: &mut [u8]) -> usize
     ensures { Prints (program_output input.now) out.old out.new result }
 {
     match assemble(input, image) {
-        Assembled::Refused {
-            number,
-            rust_line,
-            line,
-            labels,
-        } => write_refusal(out, number, line),
-        Assembled::Is {
-            words,
-            labels,
-            config,
-        } => write_listing(&image[..HEADER_SIZE + 4 * words], out),
+        Ok(assembled) => write_listing(&image[..HEADER_SIZE + 4 * assembled.words], out),
+        Err(AssembleError::Refused { refusal, line, .. }) => write_refusal(out, refusal, line),
         // the image buffer holds the image of every such input
-        Assembled::TooShort { labels, needed } => 0,
+        Err(AssembleError::TooShort { .. }) => 0,
     }
 }
 
@@ -89,7 +81,7 @@ pub fn report(input: &[u8], out: &mut [u8]) -> usize
     ensures { Prints (program_output input.now) out.old out.new result }
 {
     if MOST_INPUT < input.len() {
-        return write_refusal(out, 1, 0);
+        return write_refusal(out, Refusal::SourceTooLong, 0);
     }
     let mut image = [0u8; IMAGE_ROOM];
     report_source(input, &mut image, out)

@@ -1,10 +1,9 @@
 // The program's input, read until it ends or until it is too long.
 ghost use Rattle.std.specs.Prelude.{◌≡◌, ◌+◌, ◌≤◌, ◌<◌, length, take};
-ghost use Rattle.std.specs.IoError.{raw_os_error};
-ghost use Rattle.zkasm.specs.Stdin.{input_room, delivery_of, count_of, step_of};
+ghost use Rattle.zkasm.specs.Stdin.{input_room, failed, delivery_of, count_of, step_of};
 ghost use Rattle.zkasm.specs.declared.stdin.Step.TheVariants.{Done};
 ghost use Rattle.zkasm.specs.Promised.{Delivers, ReadsPiece, Received};
-ghost use Rattle.zkasm.specs.Source.{error_number, Brings, Takes};
+ghost use Rattle.zkasm.specs.Source.{Brings, Takes};
 
 use std::io;
 use std::io::Read;
@@ -21,7 +20,8 @@ const TRIES: usize = 100;
 // The number of the error of a call that was interrupted before a byte came.
 const INTERRUPTION: i32 = 4;
 
-// What a call of `read` delivered: a number of bytes, or the news that no more follow.
+// What a call of `read` delivered: a number of bytes, or the news that no more follow. Four outcomes, each of which reading goes on from in
+// its own way.
 #[derive(Clone, Copy)]
 enum Delivery {
     Piece(usize),
@@ -30,7 +30,7 @@ enum Delivery {
     Failed,
 }
 
-// What reading came to.
+// What reading came to: three outcomes, of which two are printed for.
 #[derive(Clone, Copy)]
 pub enum Input {
     Whole(usize),
@@ -38,25 +38,31 @@ pub enum Input {
     Incomplete,
 }
 
-// What follows a delivery: another read, with the number of bytes so far and of tries left, or the outcome.
+// What follows a delivery: another read, with the number of bytes so far and of tries left, or the outcome, which is no error.
 #[derive(Clone, Copy)]
 enum Step {
     Again { filled: usize, tries: usize },
     Done(Input),
 }
 
-// The meaning of an answer of `read`, and of the error number after it.
-fn delivery_of(got: isize, error: i32) -> Delivery
-    ensures { result ≡ delivery_of got error }
+// The meaning of an error, by the number that the operating system has for it, if it has one.
+fn failure_of(number: Option<i32>) -> Delivery
+    ensures { result ≡ failed number }
 {
-    if got > 0 {
-        Delivery::Piece(got as usize)
-    } else if got == 0 {
-        Delivery::End
-    } else if error == INTERRUPTION {
-        Delivery::Interrupted
-    } else {
-        Delivery::Failed
+    if number == Some(INTERRUPTION) {
+        return Delivery::Interrupted;
+    }
+    Delivery::Failed
+}
+
+// The meaning of an answer of `read`.
+fn delivery_of(answer: io::Result<usize>) -> Delivery
+    ensures { result ≡ delivery_of answer }
+{
+    match answer {
+        Ok(n) if n == 0 => Delivery::End,
+        Ok(n) => Delivery::Piece(n),
+        Err(error) => failure_of(error.raw_os_error()),
     }
 }
 
@@ -93,26 +99,13 @@ pub fn blank() -> [u8; ROOM]
     [0; ROOM]
 }
 
-// The number of an error, as the operating system has it; 0 for one that has none.
-fn error_number(error: io::Error) -> i32
-    ensures { result ≡ error_number (raw_os_error error) }
-{
-    match error.raw_os_error() {
-        Some(number) => number,
-        None => 0,
-    }
-}
-
 // Reads once. At least one byte is asked for, because an answer of 0 means the end only then.
 fn read_some<R: Read>(reader: &mut R, piece: &mut [u8]) -> Delivery
     requires { 0 < length piece.old }
     ensures delivery { Delivers (length piece.old) result }
     ensures bytes { Brings (R.remaining reader.old) (R.remaining reader.new) (take (count_of result) piece.new) result }
 {
-    match reader.read(piece) {
-        Ok(n) => delivery_of(n as isize, 0),
-        Err(e) => delivery_of(-1, error_number(e)),
-    }
+    delivery_of(reader.read(piece))
 }
 
 // Reads once, as much as there is room for, and puts the piece after the bytes that came before. The call is lent a buffer of its

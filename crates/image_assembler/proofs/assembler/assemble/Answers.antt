@@ -2,9 +2,15 @@
 use Rattle.std.proofs.Common.{◌∙◌, sym}
 use borrow.Author.Tests.{ltb-true}
 use Rattle.text_lexical.specs.Names.{present}
-use Rattle.image_assembler.proofs.Walks.{overlong-assembles}
+use Rattle.image_assembler.proofs.Walks.{overlong-assembles, walks-ready, walks-end}
 use Rattle.image_assembler.proofs.assembler.assemble.Goals as goal
 
 pub returns-then-too_long : goal.returns-then-too_long
 returns-then-too_long c =
-    rw c.overlong.ensures (overlong-assembles present c.args.source.now c.args.table.now c.args.image.now (ltb-true _ _ (sym c.too_long.ensures ∙ c.if-too_long.true)))
+    overlong-assembles present c.args.source.now c.args.table.now c.args.image.now (ltb-true _ _ (sym c.too_long.ensures ∙ c.if-too_long.true))
+
+pub finish-assembled-requires : goal.finish-assembled-requires
+finish-assembled-requires c = walks-ready c.walk-outcome.ensures
+
+pub returns : goal.returns
+returns c = walks-end c.walk-outcome.ensures c.unlink.ensures c.finish-assembled.ensures

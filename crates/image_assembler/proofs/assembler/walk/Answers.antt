@@ -5,7 +5,7 @@ use Rattle.image_assembler.proofs.Walks.{walking-begin, walking-reads, walking-e
 use Rattle.image_assembler.proofs.assembler.walk.Goals as goal
 
 pub loop-at-init : goal.loop-at-init
-loop-at-init c = walking-begin present c.args.table.now c.requires.starts.short c.begin-next.ensures c.requires.starts.bare
+loop-at-init c = walking-begin present c.args.table.now c.requires.short c.begin-next.ensures c.requires.bare
 
 pub enter-entered-requires-clause-tree : goal.enter-entered-requires-clause-tree
 enter-entered-requires-clause-tree c = (walking-reads present-naming c.loop-at.invariant c.in-AtLabel.ensures).tree

@@ -1,13 +1,21 @@
 -- `image_labels::label::unlink` meets its contract.
-use Rattle.std.proofs.Common.{refl, arith}
+use Rattle.std.proofs.Common.{ℕ, ◌≡◌, ◌∙◌, refl, sym, ap, arith, List, ◌++◌, take, drop, length-take}
+use Rattle.image_labels.specs.declared.label.Label.{Label}
 use Rattle.image_labels.specs.Tree.{unlinked}
-use Rattle.image_labels.proofs.Finding.{unlinked-more}
+use Rattle.image_labels.proofs.Finding.{unlinked-more, unlinked-front}
 use Rattle.image_labels.proofs.label.unlink.Goals as goal
 
-pub loop-i-init : goal.loop-i-init
+pub loop-entry-init : goal.loop-entry-init
 unfolding unlinked
-loop-i-init c = (omega arith, refl)
+loop-entry-init c = refl
 
-pub loop-i-preserved : goal.loop-i-preserved
-loop-i-preserved c =
-    (omega arith, rw (c.plain.ensures, c.loop-i.invariant.1) (unlinked-more c.loop-i.i c.args.table.now (omega arith)))
+pub loop-entry-preserved : goal.loop-entry-preserved
+loop-entry-preserved c =
+    rw (c.plain.ensures, c.loop-entry.invariant) (unlinked-more c.loop-entry.entry-index (take c.args.count c.args.table.now) (omega arith))
+
+pub returns : goal.returns
+returns c =
+    let t = c.args.table.now in
+    let all : c.loop-entry.entry-index ≡ c.args.count = omega (arith, length-take c.args.count t, c.requires) in
+    ap (λ (l : List Label). l ++ drop c.args.count t) (c.loop-entry.invariant ∙ ap (λ (n : ℕ). unlinked n (take c.args.count t)) all)
+    ∙ sym (unlinked-front c.args.count t c.requires)

@@ -1,10 +1,7 @@
--- The loop's invariant: the first `i` entries are labels.
-use Rattle.std.proofs.Common.{◌≤◌, ◌≡◌, ◌-◌}
+-- The loop's invariant: the first entries are labels.
+use Rattle.std.proofs.Common.{◌≡◌}
 use Rattle.image_labels.specs.Tree.{unlinked}
 use Rattle.image_labels.proofs.label.unlink.Given as goal
 
-abbrev pub invariant-loop-i : goal.invariant-loop-i
-invariant-loop-i l = (l.i ≤ l.count) × (l.table ≡ unlinked l.i l.fn.table)
-
-abbrev pub decreases-loop-i : goal.decreases-loop-i
-decreases-loop-i l = l.count - l.i
+abbrev pub invariant-loop-entry : goal.invariant-loop-entry
+invariant-loop-entry l = l.entry-items ≡ unlinked l.entry-index l.initial.entry-items

@@ -2,7 +2,7 @@ use Rattle.std.proofs.Common.{◌≡◌, suc, ◌-◌, length, [], sym, ◌∙�
 use Rattle.test_replay.specs.List.{byte_at, behind, line_bytes, line_end}
 use Rattle.test_replay.proofs.Lines.{left-more, line-stop, line-full, left-none}
 use Rattle.test_replay.proofs.list.line_at.Goals as goal
-use Rattle.test_replay.proofs.list.line_at.Goals.{After-wrapping_add_usize, then-loop-end-test+else-byte_at-ne10, else-loop-end-test}
+use Rattle.test_replay.proofs.list.line_at.Goals.{Left-loop-end, then-loop-end-test+else-byte_at-ne10, else-loop-end-test}
 
 pub loop-end-preserved : goal.loop-end-preserved
 loop-end-preserved c =
@@ -11,7 +11,7 @@ loop-end-preserved c =
     (omega arith, simp length-set (omega arith), simp length-set c.loop-end.invariant.2, rw c.unescaped_at-next.ensures l)
 
 -- Where the loop stops nothing of the line is left: at byte 10, or where there is no more room.
-stopped : (c : After-wrapping_add_usize) → (line_bytes (length c.loop-end.room - suc c.loop-end.end) c.args.list.now c.loop-end.at ≡ []) × (line_end (length c.loop-end.room - suc c.loop-end.end) c.args.list.now c.loop-end.at ≡ c.loop-end.at)
+stopped : (c : Left-loop-end) → (line_bytes (length c.loop-end.room - suc c.loop-end.end) c.args.list.now c.loop-end.at ≡ []) × (line_end (length c.loop-end.room - suc c.loop-end.end) c.args.list.now c.loop-end.at ≡ c.loop-end.at)
 stopped c =
     let s = c.args.list.now in
     let most = length c.loop-end.room - suc c.loop-end.end in
@@ -22,7 +22,7 @@ stopped c =
 
 pub returns-clause-value : goal.returns-clause-value
 unfolding behind
-returns-clause-value c = rw c.wrapping_add_usize.ensures.value (left-none c.loop-end.invariant.3 (stopped c)).0
+returns-clause-value c = (left-none c.loop-end.invariant.3 (stopped c)).0
 
 pub returns-clause-room_after : goal.returns-clause-room_after
 returns-clause-room_after c = (left-none c.loop-end.invariant.3 (stopped c)).1

@@ -6,13 +6,13 @@ use Rattle.test_replay.proofs.list.next_record.Goals.{else-last-eq10-via-then-la
 
 pub loop-at-init : goal.loop-at-init
 unfolding next_record
-loop-at-init c = (omega arith, omega (arith, c.requires), refl)
+loop-at-init c = refl
 
 pub returns-then-byte-eq10-clause-value : goal.returns-then-byte-eq10-clause-value
 returns-then-byte-eq10-clause-value c =
     let l = c.loop-at in
     let e = through-found l.last c.args.list.now l.at c.loop-at-test.true (rw (eq-eqb _ 10 c.if-last-eq10.true) (eq-eqb _ 10 c.if-byte-eq10.true)) in
-    omega (arith, l.invariant.2)
+    omega (arith, l.invariant)
 
 pub loop-at-preserved : goal.loop-at-preserved
 loop-at-preserved c =
@@ -24,9 +24,9 @@ loop-at-preserved c =
       | else-last-eq10-via-else-last-eq10 w ↦ rw (ne_eqb _ 10 w.if-last-eq10.false)
     ] in
     let e = through-more l.last s l.at c.loop-at-test.true n in
-    (omega arith, omega arith, rw (add-one l.at) (omega (arith, l.invariant.2)))
+    rw (add-one l.at) (omega (arith, l.invariant))
 
 pub returns-clause-value : goal.returns-clause-value
 returns-clause-value c =
     let e = through-end c.loop-at.last c.args.list.now c.loop-at.at c.loop-at-test.false in
-    omega (arith, c.loop-at.invariant.2)
+    omega (arith, c.loop-at.invariant)

@@ -23,7 +23,7 @@ returns-then-not-is_entry c =
     -- What is left agrees if the place does, and what is left behind it.
     let goes : same_tokens a.line.count a.from a.line.tokens a.list.now a.at
     ≡ (c.is_entry.result && same_tokens (a.line.count - (l.i + 1)) a.from (drop (l.i + 1) a.line.tokens) a.list.now c.if-i-line.entry.next) =
-    sym l.invariant.2 ∙ tokens-more a.line.count l.i a.from a.list.now l.next a.line.tokens past (omega (arith, l.invariant.1))
+    sym l.invariant ∙ tokens-more a.line.count l.i a.from a.list.now l.next a.line.tokens past (omega arith)
     ∙ rw (← wanted, ← c.is_entry.ensures) in
     sym (goes ∙ rw c.if-not-is_entry.true)
 
@@ -40,14 +40,14 @@ loop-i-preserved c =
     -- What is left agrees if the place does, and what is left behind it.
     let goes : same_tokens a.line.count a.from a.line.tokens a.list.now a.at
     ≡ (c.is_entry.result && same_tokens (a.line.count - (l.i + 1)) a.from (drop (l.i + 1) a.line.tokens) a.list.now c.if-i-line.entry.next) =
-    sym l.invariant.2 ∙ tokens-more a.line.count l.i a.from a.list.now l.next a.line.tokens past (omega (arith, l.invariant.1))
+    sym l.invariant ∙ tokens-more a.line.count l.i a.from a.list.now l.next a.line.tokens past (omega arith)
     ∙ rw (← wanted, ← c.is_entry.ensures) in
-    (omega (arith, c.loop-i-test.true), l.invariant.1, sym (goes ∙ rw c.if-not-is_entry.false))
+    sym (goes ∙ rw c.if-not-is_entry.false)
 
 pub returns : goal.returns
 returns c =
     let a = c.args in
     let l = c.loop-i in
     c.is_record_end.ensures
-    ∙ sym (tokens_none a.line.count l.i a.from a.list.now l.next (a.line.count - l.i) a.line.tokens (omega (arith, l.invariant.1, c.loop-i-test.false)))
-    ∙ l.invariant.2
+    ∙ sym (tokens_none a.line.count l.i a.from a.list.now l.next (a.line.count - l.i) a.line.tokens (omega arith))
+    ∙ l.invariant

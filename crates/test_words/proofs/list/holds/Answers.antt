@@ -1,10 +1,9 @@
-use Rattle.std.proofs.Common.{◌≡◌, ℕ, ◌+◌, ◌-◌, ◌<◌, ◌≤◌, true, false, ◌&&◌, eqb, leb, length, get_or, drop, sym, ◌∙◌, lt_of_not-le, arith, eq-eqb, ne_eqb, le-leb}
+use Rattle.std.proofs.Common.{◌≡◌, ℕ, ◌+◌, ◌-◌, ◌<◌, ◌≤◌, true, false, ◌&&◌, eqb, leb, List, length, get_or, drop, sym, ◌∙◌, lt_of_not-le, arith, eq-eqb, ne_eqb, le-leb}
 use native.Mathlib.Decide.{dec_le}
 use borrow.Author.Tests.{lt-leb}
-use Rattle.test_replay.specs.List.{behind}
 use Rattle.test_replay.specs.Every.{every_from}
 use Rattle.test_replay.proofs.Every.{every_more, every-none}
-use Rattle.test_words.specs.Records.{in_room, holds_text}
+use Rattle.test_words.specs.Records.{room_byte, in_room, holds_text}
 use Rattle.test_words.proofs.list.holds.Goals as goal
 use Rattle.test_words.proofs.list.holds.Goals.{then-room-ge8, else-room-ge8}
 
@@ -18,49 +17,47 @@ room_for n count h =
 no_room_for : (n count : ℕ) → n < 8 → false ≡ leb (8 + count) n
 no_room_for n count h = sym (lt-leb (8 + count) n (omega (arith, h)))
 
-pub returns-then-room-i : goal.returns-then-room-i
+module _ (count at i : ℕ) (s room : List ℕ) (v : every_from (in_room count s at) i (drop i room) ≡ every_from (in_room count s at) 0 room) where
+  -- What is left of the room agrees if its first byte does, and what is left after it.
+  goes : (b : ℕ) → b ≡ room_byte count s at i → i < length room
+      → every_from (in_room count s at) 0 room ≡ (eqb (get_or room i 0) b && every_from (in_room count s at) (i + 1) (drop (i + 1) room))
+  goes b e h = sym v ∙ every_more (in_room count s at) room i 0 h ∙ rw (← e)
+
+  -- After the last byte the room has just the text.
+  just : length room ≤ i → every_from (in_room count s at) 0 room ≡ true
+  just h = sym v ∙ every-none (in_room count s at) room i h
+
+pub returns-then-byte-wanted_at : goal.returns-then-byte-wanted_at
 unfolding holds_text
-returns-then-room-i c =
+returns-then-byte-wanted_at c =
     let a = c.args in
     let l = c.loop-i in
-    -- What is left of the room agrees if its first byte does, and what is left behind it.
-    let goes : every_from (in_room a.count a.list.now a.at) 0 a.room.now
-    ≡ (eqb (get_or a.room.now l.i 0) c.wanted_at.result && every_from (in_room a.count a.list.now a.at) (l.i + 1) (drop (l.i + 1) a.room.now)) =
-    sym l.invariant.1 ∙ every_more (in_room a.count a.list.now a.at) a.room.now l.i 0 c.loop-i-test.true ∙ rw (← c.wanted_at.ensures) in
-    rw (holds_text, goes, ne_eqb _ _ c.if-room-i.true)
+    rw (holds_text, goes a.count a.text.at l.i a.text.list.now a.room.now l.invariant _ c.wanted_at.ensures (omega (arith, c.loop-i-test.true)), ne_eqb _ _ c.if-byte-wanted_at.true)
 
 pub loop-i-preserved : goal.loop-i-preserved
 loop-i-preserved c =
     let a = c.args in
     let l = c.loop-i in
-    -- What is left of the room agrees if its first byte does, and what is left behind it.
-    let goes : every_from (in_room a.count a.list.now a.at) 0 a.room.now
-    ≡ (eqb (get_or a.room.now l.i 0) c.wanted_at.result && every_from (in_room a.count a.list.now a.at) (l.i + 1) (drop (l.i + 1) a.room.now)) =
-    sym l.invariant.1 ∙ every_more (in_room a.count a.list.now a.at) a.room.now l.i 0 c.loop-i-test.true ∙ rw (← c.wanted_at.ensures) in
-    (omega (arith, c.loop-i-test.true), sym (goes ∙ rw (eq-eqb _ _ c.if-room-i.false)))
+    sym (goes a.count a.text.at l.i a.text.list.now a.room.now l.invariant _ c.wanted_at.ensures (omega (arith, c.loop-i-test.true)) ∙ rw (eq-eqb _ _ c.if-byte-wanted_at.false))
 
 pub returns-then-count-room : goal.returns-then-count-room
-unfolding holds_text behind
+unfolding holds_text
 returns-then-count-room c =
     let a = c.args in
-    -- Behind the loop the room has just the text.
-    let left : every_from (in_room a.count a.list.now a.at) 0 a.room.now ≡ true =
-    sym c.loop-i.invariant.1 ∙ every-none (in_room a.count a.list.now a.at) a.room.now c.loop-i.i c.loop-i-test.false in
+    let left = just a.count a.text.at c.loop-i.i a.text.list.now a.room.now c.loop-i.invariant (omega (arith, c.loop-i-test.false)) in
     -- Whether it has room for the text.
     let fits : c.if-room-ge8.value ≡ leb (8 + a.count) (length a.room.now) =
     elim c.if-room-ge8.branch [
       | then-room-ge8 w ↦ w.value-is ∙ room_for (length a.room.now) a.count w.if-room-ge8.true
       | else-room-ge8 w ↦ w.value-is ∙ lt-leb 8 (length a.room.now) w.if-room-ge8.false ∙ no_room_for (length a.room.now) a.count w.if-room-ge8.false
     ] in
-    rw (holds_text, left, ← fits, c.if-count-room.true, ← c.wrapping_add_usize.ensures.value, ← c.byte_at.ensures)
+    rw (holds_text, left, ← fits, c.if-count-room.true) (rw (c.byte.ensures, c.after.ensures))
 
 pub returns-else-count-room : goal.returns-else-count-room
 unfolding holds_text
 returns-else-count-room c =
     let a = c.args in
-    -- Behind the loop the room has just the text.
-    let left : every_from (in_room a.count a.list.now a.at) 0 a.room.now ≡ true =
-    sym c.loop-i.invariant.1 ∙ every-none (in_room a.count a.list.now a.at) a.room.now c.loop-i.i c.loop-i-test.false in
+    let left = just a.count a.text.at c.loop-i.i a.text.list.now a.room.now c.loop-i.invariant (omega (arith, c.loop-i-test.false)) in
     -- Whether it has room for the text.
     let fits : c.if-room-ge8.value ≡ leb (8 + a.count) (length a.room.now) =
     elim c.if-room-ge8.branch [

@@ -1,4 +1,4 @@
-use Rattle.std.proofs.Common.{length, ◌-◌, ◌≡◌, ◌≤◌, drop}
+use Rattle.std.proofs.Common.{◌≡◌, drop}
 use Rattle.test_replay.specs.Every.{every_from}
 use Rattle.test_words.specs.Records.{in_room}
 use Rattle.test_words.proofs.list.holds.Given as goal
@@ -6,7 +6,5 @@ use Rattle.test_words.proofs.list.holds.Given as goal
 -- What is left of the room agrees as all does.
 abbrev pub invariant-loop-i : goal.invariant-loop-i
 invariant-loop-i l =
-    (l.i ≤ length l.room) × (every_from (in_room l.fn.count l.fn.list l.fn.at) l.i (drop l.i l.room) ≡ every_from (in_room l.fn.count l.fn.list l.fn.at) 0 l.fn.room)
-
-abbrev pub decreases-loop-i : goal.decreases-loop-i
-decreases-loop-i l = length l.room - l.i
+    every_from (in_room l.fn.count l.fn.text.list.now l.fn.text.at) l.i (drop l.i l.room)
+    ≡ every_from (in_room l.fn.count l.fn.text.list.now l.fn.text.at) 0 l.fn.room

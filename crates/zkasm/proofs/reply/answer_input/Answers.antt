@@ -1,10 +1,8 @@
-use Rattle.std.proofs.Common.{sym, ◌∙◌, arith}
+use Rattle.std.proofs.Common.{refl, sym, ◌∙◌}
 use lib.Seq.{length-take-le}
-use Rattle.text_lexical.specs.Bytes.{bytes}
-use Rattle.zkasm.specs.Stdin.{incomplete_line, writing_of}
+use Rattle.zkasm.specs.Stdin.{writing_of}
 use Rattle.zkasm.specs.declared.stdin.Input.TheVariants.{Whole, TooLong, Incomplete}
 use Rattle.zkasm.proofs.Transcripts.{whole-fits, whole-front, too-long-fills}
-use Rattle.zkasm.proofs.Printing.{prints-written}
 use Rattle.zkasm.proofs.Sources.{prints-front}
 use Rattle.zkasm.proofs.reply.answer_input.Goals as goal
 
@@ -41,7 +39,7 @@ returns-in-TooLong-clause-whole g c =
     prints-front _ _ c.read_input.new.input _ _ (c.read_input.auto.input ∙ sym c.blank-input.ensures) c.in-TooLong.ensures.source c.report-in-TooLong.ensures.printed
 
 pub returns-in-Incomplete-clause-reply : goal.returns-in-Incomplete-clause-reply
-unfolding writing_of incomplete_line bytes
+unfolding writing_of
 returns-in-Incomplete-clause-reply g c =
     let r = c.in-Incomplete.ensures.calls in
-    record { read = Incomplete; came = r.came; calls = r.calls; writes = prints-written (omega (arith, c.requires)) c.write_bytes.ensures }
+    record { read = Incomplete; came = r.came; calls = r.calls; writes = (refl, refl) }

@@ -5,66 +5,67 @@ use Rattle.image.specs.Assembling.{assembling}
 use Rattle.image.specs.Listing.{text_of}
 use Rattle.image.specs.Meaning.{image_of}
 use Rattle.image_assembler.specs.declared.assembler.Assembled.{Assembled}
-use Rattle.image_assembler.specs.declared.assembler.Assembled.TheVariants.{Is}
-use Rattle.image.specs.declared.config.Config.{Config}
+use Rattle.image_assembler.specs.declared.assembler.AssembleError.{AssembleError}
+use Rattle.image_assembler.specs.Promised.{answer_meant}
+use Rattle.std.specs.Prelude.{Ok, Err, Result as Answered}
 use Rattle.zkasm.specs.Zkasm.{most_input, table_room, image_room}
 use Rattle.zkasm.specs.Promised.{AssemblesInput}
 use Rattle.zkasm.proofs.Rooms.{words-few, text-short, never-32}
 use Rattle.zkasm.proofs.Printing.{Listable, listable, output-refused, no-need, image-front}
 use Rattle.zkasm.proofs.report.report_source.Goals as goal
 
-module _ {input old new : List ℕ} {words labels : ℕ} {config : Config} {r : Assembled} (short : length input ≤ most_input) (room : image_room ≤ length old)
-    (a : AssemblesInput input old new r) (is : r ≡ Is words labels config) where
+module _ {input old new : List ℕ} {x : Assembled} {r : Answered Assembled AssembleError} (short : length input ≤ most_input) (room : image_room ≤ length old)
+    (a : AssemblesInput input old new r) (is : r ≡ Ok x) where
   -- The input is accepted,
-  accepted : Listable input words (assembling present input table_room (length old))
+  accepted : Listable input x.words (assembling present input table_room (length old))
   accepted = listable input (length old) short room (rw is at a.answer)
 
   -- its words are few,
-  few : words ≤ 16385
+  few : x.words ≤ 16385
   few = omega (arith, words-few input short, accepted.count)
 
   -- and its image stands at the buffer's front.
-  front : take (32 + 4 * words) new ≡ image_of present input
-  front = ap (take (32 + 4 * words)) (a.image_holds ∙ accepted.holds old) ∙ image-front input old words accepted.count
+  front : take (32 + 4 * x.words) new ≡ image_of present input
+  front = ap (take (32 + 4 * x.words)) (a.image_holds ∙ accepted.holds old) ∙ image-front input old x.words accepted.count
 
-pub overflow_mul-words : goal.overflow_mul-words
-overflow_mul-words c = omega (arith, few c.requires.input_fits c.requires.image_room_in c.assemble.ensures c.in-Is.is)
+pub overflow_mul-assembled : goal.overflow_mul-assembled
+overflow_mul-assembled c = omega (arith, few c.requires.input_fits c.requires.image_room_in c.assemble.ensures c.in-Ok.is)
 
-pub overflow_add-words : goal.overflow_add-words
-overflow_add-words c = omega (arith, few c.requires.input_fits c.requires.image_room_in c.assemble.ensures c.in-Is.is)
+pub overflow_add-assembled : goal.overflow_add-assembled
+overflow_add-assembled c = omega (arith, few c.requires.input_fits c.requires.image_room_in c.assemble.ensures c.in-Ok.is)
 
 pub slice_bounds-write_listing-end : goal.slice_bounds-write_listing-end
 slice_bounds-write_listing-end c =
-    omega (arith, few c.requires.input_fits c.requires.image_room_in c.assemble.ensures c.in-Is.is, c.requires.image_room_in, c.assemble.auto.image)
+    omega (arith, few c.requires.input_fits c.requires.image_room_in c.assemble.ensures c.in-Ok.is, c.requires.image_room_in, c.assemble.auto.image)
 
-pub slice_bounds-write_listing-end-in-Is : goal.slice_bounds-write_listing-end-in-Is
-slice_bounds-write_listing-end-in-Is c =
+pub slice_bounds-write_listing-end-in-Ok : goal.slice_bounds-write_listing-end-in-Ok
+slice_bounds-write_listing-end-in-Ok c =
     sym (length-take-le _ _
-    (omega (arith, few c.requires.input_fits c.requires.image_room_in c.assemble.ensures c.in-Is.is, c.requires.image_room_in, c.assemble.auto.image)))
+    (omega (arith, few c.requires.input_fits c.requires.image_room_in c.assemble.ensures c.in-Ok.is, c.requires.image_room_in, c.assemble.auto.image)))
 
 pub write_listing-requires-clause-listed : goal.write_listing-requires-clause-listed
 write_listing-requires-clause-listed c =
     let q = c.requires in
-    rw (front q.input_fits q.image_room_in c.assemble.ensures c.in-Is.is) (never-32 c.args.input.now q.input_fits (length c.args.out.now) q.text_room_in)
+    rw (front q.input_fits q.image_room_in c.assemble.ensures c.in-Ok.is) (never-32 c.args.input.now q.input_fits (length c.args.out.now) q.text_room_in)
 
 pub write_listing-requires-clause-text_room_in : goal.write_listing-requires-clause-text_room_in
 write_listing-requires-clause-text_room_in c =
     let q = c.requires in
-    rw (front q.input_fits q.image_room_in c.assemble.ensures c.in-Is.is) (omega (arith, text-short c.args.input.now q.input_fits, q.text_room_in))
+    rw (front q.input_fits q.image_room_in c.assemble.ensures c.in-Ok.is) (omega (arith, text-short c.args.input.now q.input_fits, q.text_room_in))
 
-pub returns-in-Refused : goal.returns-in-Refused
-returns-in-Refused c =
+pub returns-in-Err-Refused : goal.returns-in-Err-Refused
+returns-in-Err-Refused c =
     let a = c.args in
     let q = c.requires in
-    rw (output-refused a.input.now (length a.image.now) q.input_fits q.image_room_in (rw c.in-Refused.is at c.assemble.ensures.answer)) c.write_refusal.ensures
+    rw (output-refused a.input.now (length a.image.now) q.input_fits q.image_room_in (sym (ap answer_meant (c.in-Err-Refused.is ∙ ap Err c.in-Err-Refused.field-0-is)) ∙ c.assemble.ensures.answer)) c.write_refusal.ensures
 
-pub returns-in-Is : goal.returns-in-Is
-returns-in-Is c =
+pub returns-in-Ok : goal.returns-in-Ok
+returns-in-Ok c =
     let q = c.requires in
-    rw ((accepted q.input_fits q.image_room_in c.assemble.ensures c.in-Is.is).output
-    ∙ ap text_of (sym (front q.input_fits q.image_room_in c.assemble.ensures c.in-Is.is))) c.write_listing.ensures
+    rw ((accepted q.input_fits q.image_room_in c.assemble.ensures c.in-Ok.is).output
+    ∙ ap text_of (sym (front q.input_fits q.image_room_in c.assemble.ensures c.in-Ok.is))) c.write_listing.ensures
 
-pub returns-in-TooShort : goal.returns-in-TooShort
-returns-in-TooShort c =
+pub returns-in-Err-TooShort : goal.returns-in-Err-TooShort
+returns-in-Err-TooShort c =
     let q = c.requires in
-    no-need c.args.input.now (length c.args.image.now) q.input_fits q.image_room_in (rw c.in-TooShort.is at c.assemble.ensures.answer)
+    no-need c.args.input.now (length c.args.image.now) q.input_fits q.image_room_in (sym (ap answer_meant (c.in-Err-TooShort.is ∙ ap Err c.in-Err-TooShort.field-0-is)) ∙ c.assemble.ensures.answer)

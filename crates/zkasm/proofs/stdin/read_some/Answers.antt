@@ -1,19 +1,25 @@
-use Rattle.std.proofs.Common.{◌≡◌, ◌∙◌, ap, ℕ, ◌<◌, ◌^◌, pos, arith, w64}
-use mir.Val.{to_z}
-use mir.ValLaws.{to_z-of_z}
-use Rattle.zkasm.specs.Stdin.{delivery_of}
+use Rattle.std.proofs.Common.{◌≡◌, ℕ, ◌<◌, arith, List, length, take, Option}
+use Rattle.std.specs.Prelude.{Ok, Err, Result, IfOk}
+use Rattle.std.specs.declared.io.Error.{Error}
+use Rattle.std.specs.Counts.{IsPrefixLen}
+use Rattle.std.specs.Io.KnownBytes.{ReadConsumes}
+use Rattle.zkasm.specs.Stdin.{Moved, delivery_of, count_of}
+use Rattle.zkasm.specs.Source.{Brings}
+use Rattle.zkasm.specs.declared.stdin.Delivery.{Delivery}
 use Rattle.zkasm.proofs.Sources.{brings-read, brings-none}
 use Rattle.zkasm.proofs.stdin.read_some.Goals as goal
 
--- A number of bytes is itself again, if it is read as a number with a sign.
-number_kept : (n : ℕ) → n < 2 ^ 63 → to_z w64 n ≡ pos n
-number_kept n h = to_z-of_z w64 (pos n) (record { sfits = omega arith })
+brings : (left rest : Option (List ℕ)) (buffer : List ℕ) {r : Delivery} (answer : Result ℕ Error) → r ≡ delivery_of answer → 0 < length buffer
+    → ReadConsumes left rest answer buffer → Brings left rest (take (count_of r) buffer) r
+brings left rest buffer (Ok n) e room h = brings-read left rest buffer n e room h.0 h.1
+brings left rest buffer (Err error) e room h = brings-none left rest buffer error e h
 
-pub returns-in-Ok-clause-bytes : goal.returns-in-Ok-clause-bytes
-returns-in-Ok-clause-bytes g c =
-    let n = c.in-Ok.n in
-    let e = c.delivery_of.ensures ∙ ap (λ z. delivery_of z (pos 0)) (number_kept n (omega (arith, c.in-Ok.ensures.bound.0))) in
-    brings-read _ _ c.read.new.buf n (pos 0) e (omega (arith, c.requires, c.read.auto.buf)) c.in-Ok.ensures.bytes.0 c.in-Ok.ensures.bytes.1
+pub returns-clause-bytes : goal.returns-clause-bytes
+returns-clause-bytes g c = brings _ _ c.read.new.buf c.read.result c.delivery_of.ensures (omega (arith, c.requires, c.read.auto.buf)) c.read.ensures.bytes
 
-pub returns-in-Err-clause-bytes : goal.returns-in-Err-clause-bytes
-returns-in-Err-clause-bytes g c = brings-none _ _ c.read.new.buf 0 _ c.delivery_of-in-Err.ensures c.in-Err.ensures.bytes
+moved : (lent : ℕ) (buffer : List ℕ) → length buffer ≡ lent → (answer : Result ℕ Error) → IfOk answer (λ n. IsPrefixLen n buffer) → Moved lent answer
+moved lent buffer same (Ok n) h = omega (arith, same, h.0)
+moved lent buffer same (Err error) h = tt
+
+pub returns-clause-delivery : goal.returns-clause-delivery
+returns-clause-delivery g c = record { answer = c.read.result; moved = moved _ c.read.new.buf c.read.auto.buf c.read.result c.read.ensures.bound; delivery = c.delivery_of.ensures }

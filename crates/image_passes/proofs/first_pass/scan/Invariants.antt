@@ -1,0 +1,11 @@
+use Rattle.std.proofs.Common.{length, ◌-◌}
+use Rattle.text_lexical.specs.Names.{present}
+use Rattle.image_passes.proofs.Scanning.{Scanning}
+use Rattle.image_passes.proofs.first_pass.scan.Given as goal
+
+-- Reading on from the cursor comes to what it comes to from the first one.
+abbrev pub invariant-loop-label : goal.invariant-loop-label
+invariant-loop-label l = Scanning present l.source l.fn.from l.cursor
+
+abbrev pub decreases-loop-label : goal.decreases-loop-label
+decreases-loop-label l = length l.source - l.cursor.at

@@ -1,0 +1,5 @@
+use Rattle.std.proofs.Common.{length, ◌≤◌}
+use Rattle.test_vectors.proofs.pieces.put_lines.Given as goal
+
+abbrev pub invariant-loop : goal.invariant-loop
+invariant-loop g l = l.filled ≤ length l.room
