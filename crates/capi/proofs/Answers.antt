@@ -1,6 +1,6 @@
 -- An answer that is handed on as numbers: what `assemble` promises of its answer holds of them.
 use Prim.Native.Nat.{ℕ}
-use mathlib.Core.Path.{◌≡◌, ap, ◌∙◌}
+use mathlib.Core.Path.{ap, ◌∙◌}
 use mathlib.Core.List.{List}
 use Rattle.std.specs.Prelude.{Result}
 use Rattle.text_lexical.specs.Names.{Name}

@@ -21,7 +21,8 @@ use Rattle.image.proofs.Listed.{listed-usual}
 use Rattle.image.proofs.Lengths.{listed-short}
 use Rattle.image.proofs.Walking.{MeansIf, reading-means, accepted-assembles}
 use Rattle.guarantees.specs.Calls.{reading_numbers, assembling_numbers, opening_numbers, textless_numbers, listing_numbers, is_one_of, OneOf}
-use Rattle.guarantees.proofs.Numbered.{by-test, by-fault, OfFault, OfAnswer, OfRefusal, OfListing, reading-numbered, assembling-numbered, opening_numbered, fault-numbered, listing_numbered}
+use Rattle.image.proofs.Refused.{by-test, by-fault, OfFault}
+use Rattle.guarantees.proofs.Numbered.{OfAnswer, OfRefusal, OfListing, reading-numbered, assembling-numbered, opening_numbered, fault-numbered, listing_numbered}
 use Rattle.capi.specs.Promised.{assemble_number, assemble_values, open_number, list_number, list_values}
 use Rattle.capi.specs.Promises.{Promises}
 

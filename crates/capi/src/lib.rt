@@ -1,4 +1,5 @@
-// The three operations for programs in C or Rust, which `capi_c` exports in a static library. Each returns the number of its refusal,
+// The three operations for programs in C or Rust, which `capi_c` exports in a static library; this library is for the tests, too, which no
+// crate can be to a static one. Each returns the number of its refusal,
 // 0 where there is none, and writes the other values of its answer over a lent array.
 #![tactic(auto)]
 
@@ -14,14 +15,14 @@ use image_labels::label::Label;
 use image_listing::disassembler::ListError;
 use refusal::refusal::Refusal;
 
-// A refusal as C has it: no such call returns an enum.
+// A refusal as C has it: no such call returns an enum. The tests have the line once more, since this one is under test.
 fn number(refusal: Refusal) -> u32
     ensures { result ≡ number_of refusal }
 {
     u32::from(u8::from(refusal))
 }
 
-// An answer of assembling, handed on.
+// An answer of assembling, handed on in the order that C has. The tests write the order out for themselves, since this one is under test.
 #[tactic(auto, unfolding(image::specs::Settings::settings))]
 fn write_assembled(assembled: Result<Assembled, AssembleError>, answer: &mut [u64; 8]) -> u32
     ensures { Handed (answer_meant assembled) answer.new result }

@@ -14,7 +14,8 @@ use Rattle.image.specs.Promised.{opened_meant}
 use Rattle.image_assembler.specs.Promised.{answer_meant}
 use Rattle.image_listing.specs.Promised.{listing_meant}
 use Rattle.guarantees.specs.Calls.{assembling_numbers, IsNumbered, IsOpening, IsListing, IsRefusal, IsUnlisted, label_count, Demand1}
-use Rattle.guarantees.proofs.Numbered.{by-fault, OfAnswer, OfListing, assembling-numbered, opening_numbered, listing_numbered}
+use Rattle.image.proofs.Refused.{by-fault}
+use Rattle.guarantees.proofs.Numbered.{OfAnswer, OfListing, assembling-numbered, opening_numbered, listing_numbered}
 
 -- An answer that is a refusal is that of a refused source, which leaves the image.
 image-left : (names : List Name) (source image image' : List ℕ) (a : Reading) (x : Answer) → x ≡ answer_of a → image' ≡ image_after names source a image → IsRefusal x → image' ≡ image

@@ -5,14 +5,14 @@ use native.Mathlib.Omega.{arith}
 use mathlib.Core.Bool.{Bool, true}
 use mathlib.Core.List.{List, [], ◌∷◌, ◌++◌, flat_map, append_assoc}
 use lib.ListN.{length, take, drop, length-append, length-drop, take-append-drop}
-use lib.Seq.{length-take-le, drop-drop, take_at, drop_at}
+use lib.Seq.{length-take-le, drop-drop, take_at}
 use lib.Dec.{ltb}
 use borrow.Author.Tests.{ltb-true}
 use Rattle.text_lexical.specs.Bytes.{every}
 use Rattle.text_lexical.specs.Numbers.{little, unlittle}
 use Rattle.text_lexical.proofs.Strings.{every-head, every-tail, every-split, every_take, every_drop}
 use Rattle.image.specs.Settings.{Settings, settings}
-use Rattle.image.specs.Program.{Header, header_bytes, header_size, header_for, image, image_length, number_at, header_of, code_of, data_of, magic, version, entry, stack_size}
+use Rattle.image.specs.Program.{Header, header_bytes, header_size, header_for, image, image_length, number_at, header_of, code_of, magic, version, entry, stack_size}
 use Rattle.image.specs.Listing.{words_of}
 
 -- ---- little-endian numbers of four bytes
@@ -140,20 +140,12 @@ module _ (s : Settings) (ws bs : List ℕ) where
           stack-fits = omega arith;
         })
 
-    -- Its parts are read back.
+    -- Its code is read back.
     pub image_code : code_of (image s ws bs) ≡ flat_map (little 4) ws
     unfolding code_of image header_for
     image_code =
         ap₂ (λ (h : Header) (b : List ℕ). take h.code_size b) image-header (behind-header (header_for s (4 * length ws) (length bs)) (flat_map (little 4) ws ++ bs))
         ∙ take_at (flat_map (little 4) ws) bs (4 * length ws) (code-length ws)
-
-    pub image-data : data_of (image s ws bs) ≡ bs
-    unfolding data_of image header_for
-    image-data =
-        ap (λ (h : Header). drop (header_size + h.code_size) (image s ws bs)) image-header
-        ∙ sym (drop-drop (4 * length ws) header_size (image s ws bs))
-        ∙ ap (drop (4 * length ws)) (behind-header (header_for s (4 * length ws) (length bs)) (flat_map (little 4) ws ++ bs))
-        ∙ drop_at (flat_map (little 4) ws) bs (4 * length ws) (code-length ws)
 
 -- ---- bytes as an image
 

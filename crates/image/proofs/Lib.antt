@@ -1,4 +1,5 @@
 pub mod Faults
+pub mod Refused
 pub mod Settings
 pub mod Images
 pub mod Listed

@@ -1,5 +1,5 @@
 -- What the values of settings, header and opening mean in terms of the definitions.
-use Rattle.std.specs.Prelude.{ℕ, ◌-◌, List, [], ◌∷◌, take, drop}
+use Rattle.std.specs.Prelude.{ℕ, ◌-◌, List, take, drop}
 use Rattle.text.specs.Lines.{Line as Record}
 use Rattle.text.specs.Promised.{firsts}
 use Rattle.text.specs.declared.parser.Line.{Line}
@@ -40,10 +40,6 @@ header_meant h =
       bss_size = h.bss_size;
       stack_size = h.stack_size;
     }
-
--- The bytes of settings in a header, and that of the flags, 0.
-abbrev pub setting_bytes : Settings → List ℕ
-setting_bytes s = s.limb_bits ∷ s.data_limbs ∷ s.addr_limbs ∷ 0 ∷ []
 
 -- The parts stand where the answer says: the code from 32 to its end, the data behind it.
 abbrev pub opened_meant : List ℕ → Opened → MeantOpened

@@ -4,11 +4,12 @@ ghost use Rattle.refusal.specs.Refusals.{answered, fault_of};
 ghost use Rattle.text_writer.specs.Promised.{Written};
 ghost use Rattle.image.specs.Program.{header_bytes, header_for, number_at, header_of};
 ghost use Rattle.image.specs.Opening.{header_fault, opening};
-ghost use Rattle.image.specs.Promised.{settings_meant, setting_bytes, header_meant, opened_meant};
+ghost use Rattle.image.specs.Promised.{settings_meant, header_meant, opened_meant};
 
 use crate::config::Config;
 use crate::limits::{HEADER_SIZE, MAGIC, VERSION};
 use refusal::refusal::Refusal;
+use text_writer::sink::{Sink, Writer};
 
 #[derive(Clone, Copy)]
 pub struct ProgramHeader {
@@ -23,21 +24,12 @@ pub struct ProgramHeader {
     pub stack_size: u32,
 }
 
-// An image's header, and where its code ends, which begins after the header; its data fill the rest.
+// An image's header, and where its code ends, which begins after the header; its data fill the rest. A number, as C has it, and not the code's
+// slice.
 #[derive(Clone, Copy)]
 pub struct Opened {
     pub header: ProgramHeader,
     pub code_end: usize,
-}
-
-// The three settings, a byte each, and no flags.
-#[tactic(auto, unfolding(crate::specs::Settings::settings))]
-fn write_config(out: &mut [u8], at: usize, config: Config) -> usize
-    requires { at + 4 ≤ length out.old }
-    ensures { Written out.old at (setting_bytes (settings_meant config)) result out.new }
-{
-    let bytes = [config.limb_bits, config.data_limbs, config.addr_limbs, 0];
-    text_writer::writer::write_bytes(out, at, &bytes)
 }
 
 // The header of a program with settings and a size of code. Entry and stack size are fixed byte strings, as document 01 names that form,
@@ -46,20 +38,20 @@ pub fn write_header(image: &mut [u8], config: Config, code_size: u32) -> usize
     requires { 32 ≤ length image.old }
     ensures { Written image.old 0 (header_bytes (header_for (settings_meant config) code_size 0)) result image.new }
 {
+    let mut writer = Writer { out: image, at: 0 };
     // magic, version
-    let at = text_writer::writer::write_bytes(image, 0, b"ZKIR\x04\x00\x03\x00");
-    let at = write_config(image, at, config);
+    writer.put_bytes(b"ZKIR\x04\x00\x03\x00");
+    // and no flags
+    writer.put_bytes(&[config.limb_bits, config.data_limbs, config.addr_limbs, 0]);
     // entry
-    let at = text_writer::writer::write_bytes(image, at, b"\x00\x10\x00\x00");
-    let at = text_writer::writer::write_u32(image, at, code_size);
+    writer.put_bytes(b"\x00\x10\x00\x00");
+    writer.put_bytes(&code_size.to_le_bytes());
     // data, bss, stack
-    text_writer::writer::write_bytes(
-        image,
-        at,
-        b"\x00\x00\x00\x00\x00\x00\x00\x00\x00\x00\x10\x00",
-    )
+    writer.put_bytes(b"\x00\x00\x00\x00\x00\x00\x00\x00\x00\x00\x10\x00");
+    writer.at
 }
 
+// A header's parts are read at their places, from an image that is asked to have them all: document 01's form of slice and place.
 pub fn read_u32(image: &[u8], at: usize) -> u32
     requires { at + 4 ≤ length image.now }
     ensures { result ≡ number_at at 4 image.now }

@@ -1,6 +1,7 @@
 -- Laws of the first walk over a label table: how it begins, goes on from a label to the next, and what it comes to.
-use Rattle.std.specs.Prelude.{Result, Ok, Err}
-use Prim.Native.Nat.{ℕ, suc, ◌+◌, ◌-◌, ◌≤◌, ◌<◌}
+use Rattle.std.specs.Prelude.{Result, Ok, Err, Some, None}
+use Rattle.std.specs.Prelude.{Option as Maybe}
+use Prim.Native.Nat.{ℕ, ◌+◌, ◌-◌, ◌≤◌, ◌<◌}
 use mathlib.Core.Path.{◌≡◌, refl, sym, ap, ap₂, subst, ◌∙◌}
 use native.Mathlib.Omega.{arith}
 use native.Mathlib.Numerals.{add-one}
@@ -19,12 +20,12 @@ use Rattle.image.specs.Assembling.{is_known, most_bytes}
 use Rattle.image.specs.Assembling.{Label as Meant}
 use Rattle.image.specs.Lent.{over}
 use Rattle.image_labels.specs.Promised.{entry_of, InText, spelled, any_named, entry_fault, count_after, Enters, Spelled}
-use Rattle.image_labels.specs.Tree.{unlinked, Bare, Tree, TreeAfter, Enterable}
+use Rattle.image_labels.specs.Tree.{place_before, unlinked, Tree, TreeAfter, Enterable, Linked, SameLent}
 use Rattle.image_labels.proofs.Named.{spelled-long}
-use Rattle.image_labels.proofs.Finding.{unlinked-long}
 use Rattle.image_labels.specs.declared.label.Label.{Label}
+use Rattle.image_labels.specs.declared.label.Labels.{Labels}
 use Rattle.image_passes.specs.Promised.{Entry, SoundPass, ScannableNext, After, ReadsOn, Begins, Follows, GoesOn}
-use Rattle.image_passes.proofs.Reaching.{LabelNext, Progress, Resumes, with_entry, label_at}
+use Rattle.image_passes.proofs.Reaching.{Progress, Resumes, with_entry, label_at}
 use Rattle.image_passes.proofs.Answers.{begins-stand}
 use Rattle.image_passes.proofs.Scanning.{reads-stand, goes-stand}
 use Rattle.image_passes.specs.declared.first_pass.Pass.{Pass}
@@ -34,7 +35,7 @@ use Rattle.image_passes.specs.declared.first_pass.Next.TheVariants.{From, Ended 
 use Rattle.image_passes.specs.declared.first_pass.LabelLine.{LabelLine}
 use Rattle.image_passes.specs.declared.first_pass.Outcome.{Outcome}
 use Rattle.image.proofs.Over.{take-over, length_over, over-more}
-use Rattle.image_assembler.specs.Promised.{overlong, Finishable, Finishes, Holds, Walks, Assembles}
+use Rattle.image_assembler.specs.Promised.{overlong, Finishable, Finishes, Starts, Holds, Walks, Assembles}
 use Rattle.image_assembler.specs.declared.assembler.Assembled.{Assembled}
 use Rattle.image_assembler.specs.declared.assembler.AssembleError.{AssembleError}
 use Rattle.image_assembler.proofs.Answers.{ends-ready, ends-answers, overlong-answers}
@@ -75,98 +76,82 @@ counted ls l (Err r) = refl
 
 -- ---- the walk
 
--- The labels that have been entered where the walk reads on, and where it has come to.
-abbrev pub labels_before : Next → ℕ
-labels_before (From c) = c.labels
-labels_before (NextEnded o) = o.labels
-
-abbrev pub labels_at : Pass → ℕ
-labels_at (AtLabel p) = p.labels
-labels_at (PassEnded o) = o.labels
-
--- Where it reads on: the labels so far, and their trees.
-pub record Walking (names : List Name) (s : List ℕ) (old table : List Label) (roots : List ℕ) (n : Next) : Type 0 where
+-- Where it reads on with some labels, since it began with others: those so far.
+pub record Walking (names : List Name) (old now : Labels) (n : Next) : Type 0 where
   pub labels : List Meant
-  pub stands : Resumes names s (length old) labels n
-  pub sound : ScannableNext s n
-  pub holds : Holds s old (unlinked (labels_before n) table) labels
-  pub tree : Tree s table roots (labels_before n)
+  pub stands : Resumes names old.source.now (length old.table.now) labels n
+  pub sound : ScannableNext old.source.now n
+  pub counted : now.count ≡ length labels
+  pub holds : Holds old.source.now old.table.now (unlinked now.count now.table.now) labels
+  pub linked : Linked now
+  pub lent : SameLent old now
 
 -- Where it has come to.
-pub record Stopping (names : List Name) (s : List ℕ) (old table : List Label) (roots : List ℕ) (p : Pass) : Type 0 where
+pub record Stopping (names : List Name) (old now : Labels) (p : Pass) : Type 0 where
   pub labels : List Meant
-  pub stands : Progress names s (length old) labels p
-  pub sound : SoundPass s p
-  pub holds : Holds s old (unlinked (labels_at p) table) labels
-  pub tree : Tree s table roots (labels_at p)
-
--- The labels are counted.
-counted-before : (names : List Name) (s : List ℕ) (room : ℕ) (ls : List Meant) (n : Next) → Resumes names s room ls n → labels_before n ≡ length ls
-counted-before names s room ls (From c) h = h.count
-counted-before names s room ls (NextEnded o) h = h.count
-
-counted-at : (names : List Name) (s : List ℕ) (room : ℕ) (ls : List Meant) (p : Pass) → Progress names s room ls p → labels_at p ≡ length ls
-counted-at names s room ls (AtLabel p) h = h.count
-counted-at names s room ls (PassEnded o) h = h.count
+  pub stands : Progress names old.source.now (length old.table.now) labels p
+  pub sound : SoundPass old.source.now p
+  pub counted : now.count ≡ length labels
+  pub holds : Holds old.source.now old.table.now (unlinked now.count now.table.now) labels
+  pub linked : Linked now
+  pub lent : SameLent old now
 
 -- How it begins.
-pub walking-begin : (names : List Name) {s : List ℕ} {n : Next} {roots : List ℕ} (old : List Label) → length s ≤ most_bytes → Begins s n → Bare roots → Walking names s old old roots n
+pub walking-begin : (names : List Name) {old : Labels} {n : Next} → Starts old → Begins old.source.now n → Walking names old old n
 unfolding unlinked over
-walking-begin names {s} {n} {roots} old short b bare =
-    let on : Resumes names s (length old) [] n = begins-stand short names b (length old) in
-    let none : labels_before n ≡ 0 = counted-before names s (length old) [] n on in
+walking-begin names {old} {n} x b =
+    let none : old.count ≡ 0 = x.none_entered in
     record {
       labels = [];
-      stands = on;
+      stands = begins-stand x.short names b (length old.table.now);
       sound = b.sound;
-      holds = subst (λ (k : ℕ). Holds s old (unlinked k old) []) (sym none) (record { table_is = refl; fits = omega arith; spelled = tt });
-      tree = record {
+      counted = none;
+      holds = subst (λ (k : ℕ). Holds old.source.now old.table.now (unlinked k old.table.now) []) (sym none) (record { table_is = refl; fits = omega arith; spelled = tt });
+      linked = record {
         in_table = rw none (omega arith);
         in_text = λ i h. absurd (omega arith);
         onward = λ i h. absurd (omega arith);
-        rootable = bare.rootable;
-        rooted = λ slot j e. let y : 0 ≡ suc j = sym (bare.none_there slot) ∙ e in absurd (omega arith);
+        rootable = x.bare.rootable;
+        rooted = λ slot j e. let y : ◌≡◌ {A = Maybe ℕ} None (Some j) = sym (ap place_before (x.bare.none_there slot)) ∙ e in cc;
         found = λ i h. absurd (omega arith);
         distinct = λ i j h. absurd (omega arith);
       };
+      lent = record { same_source = refl; same_table = refl; same_roots = refl };
+    }
+
+-- It reads on.
+pub walking-reads : {names : List Name} {old now : Labels} {n : Next} {p : Pass} → Naming names → Walking names old now n → ReadsOn names old.source.now n p → Stopping names old now p
+walking-reads {old = old} ok w r =
+    record {
+      labels = w.labels;
+      stands = reads-stand ok r w.sound (length old.table.now) w.labels w.stands;
+      sound = r.sound;
+      counted = w.counted;
+      holds = w.holds;
+      linked = w.linked;
+      lent = w.lent;
     }
 
 holds-long : {s : List ℕ} {old table : List Label} {ls : List Meant} → Holds s old table ls → length table ≡ length old
 holds-long {s} {old} {table} {ls} h = table-long s old table ls h.table_is h.fits
 
-pub walking-long : {names : List Name} {s : List ℕ} {old table : List Label} {roots : List ℕ} {n : Next} → Walking names s old table roots n → length table ≡ length old
-walking-long {table = table} {n = n} w = sym (unlinked-long (labels_before n) table) ∙ holds-long w.holds
-
--- It reads on.
-pub walking-reads : {names : List Name} {s : List ℕ} {old table : List Label} {roots : List ℕ} {n : Next} {p : Pass} → Naming names → Walking names s old table roots n → ReadsOn names s n p → Stopping names s old table roots p
-walking-reads {names} {s} {old} {table} {roots} {n} {p} ok w r =
-    let on : Progress names s (length old) w.labels p = reads-stand ok r w.sound (length old) w.labels w.stands in
-    let e : labels_before n ≡ labels_at p = counted-before names s (length old) w.labels n w.stands ∙ sym (counted-at names s (length old) w.labels p on) in
-    record {
-      labels = w.labels;
-      stands = on;
-      sound = r.sound;
-      holds = subst (λ (k : ℕ). Holds s old (unlinked k table) w.labels) e w.holds;
-      tree = subst (Tree s table roots) e w.tree;
-    }
-
 -- A label is entered, or refused.
-module _ {names : List Name} {s : List ℕ} {old table : List Label} {p : LabelLine} {ls : List Meant} (n : LabelNext names s (length old) ls p) (inside : InText s p.label) (h : Holds s old table ls) where
+module _ {s : List ℕ} {old table : List Label} (p : LabelLine) {ls : List Meant} {n : ℕ} (count : n ≡ length ls) (inside : InText s p.label) (h : Holds s old table ls) where
   abbrev name : List ℕ
   name = spelled s p.label
 
   entry-is : entry_of (label_at s p) ≡ p.label
   entry-is = λ i. record { start = p.label.start; length = spelled-long s p.label inside i; address = p.label.address }
 
-  known_is : any_named s (take p.labels table) name ≡ is_known ls name
-  known_is = rw n.count (table-known s old table ls h.table_is name h.spelled)
+  known_is : any_named s (take n table) name ≡ is_known ls name
+  known_is = rw count (table-known s old table ls h.table_is name h.spelled)
 
-  module _ {table' : List Label} {e : Entry} (x : Enters s table p.labels p.label table' e) where
+  module _ {table' : List Label} {e : Entry} (x : Enters s table n p.label table' e) where
     fault_is : fault_of e ≡ entry_fault (is_known ls name) (ltb (length ls) (length old))
-    fault_is = x.answer ∙ rw (known_is, n.count, holds-long h)
+    fault_is = x.answer ∙ rw (known_is, count, holds-long h)
 
     holds-is : table' ≡ elim (is_known ls name) [ true ↦ table | false ↦ set table (length ls) p.label ]
-    holds-is = x.holds ∙ ap₂ (λ (b : Bool) (m : ℕ). elim b [ true ↦ table | false ↦ set table m p.label ]) known_is n.count
+    holds-is = x.holds ∙ ap₂ (λ (b : Bool) (m : ℕ). elim b [ true ↦ table | false ↦ set table m p.label ]) known_is count
 
     kept_on : table' ≡ table → Holds s old table' ls
     kept_on k = record { table_is = k ∙ h.table_is; fits = h.fits; spelled = h.spelled }
@@ -196,35 +181,42 @@ module _ {names : List Name} {s : List ℕ} {old table : List Label} {p : LabelL
         go false false l (Ok u) q k = let y : ◌≡◌ {A = ℕ} 0 1 = cc in absurd (omega arith)
 
 -- It stands at a label.
-module _ {names : List Name} {s : List ℕ} {old table : List Label} {roots : List ℕ} {p : LabelLine} (w : Stopping names s old table roots (AtLabel p)) where
+module _ {names : List Name} {old now : Labels} {p : LabelLine} (w : Stopping names old now (AtLabel p)) where
   -- What entering the label asks for.
-  pub walking-enterable : Enterable s p.labels p.label
+  pub walking-enterable : Enterable now.source.now now.count p.label
   unfolding most_bytes
   walking-enterable =
       let k = w.sound in
-      record { in_text = k.in_text; short = k.short; few = omega (arith, k.short, k.line_fits, k.few_labels); near = k.near }
+      rw w.lent.same_source
+      (record { in_text = k.in_text; short = k.short; few = omega (arith, k.short, k.line_fits, k.few_labels, w.counted, w.stands.count); near = k.near })
 
   -- It goes on.
-  pub walking_on : {table' : List Label} {roots' : List ℕ} {e : Entry} {r : Next}
-      → Enters s (unlinked p.labels table) p.labels p.label (unlinked (count_after p.labels e) table') e
-      → TreeAfter s table roots p.labels p.label table' roots' e → GoesOn s p e r → Walking names s old table' roots' r
-  walking_on {table'} {roots'} {e} {r} x t g =
-      let on : Resumes names s (length old) (with_entry e w.labels (label_at s p)) r = goes-stand g (length old) w.labels w.stands (fault_is w.stands w.sound.in_text w.holds x) in
-      let n : labels_before r ≡ count_after p.labels e = counted-before names s (length old) _ r on ∙ counted w.labels (label_at s p) e ∙ ap (λ (m : ℕ). count_after m e) (sym w.stands.count) in
-      record {
-        labels = with_entry e w.labels (label_at s p);
-        stands = on;
-        sound = g.sound;
-        holds = subst (λ (m : ℕ). Holds s old (unlinked m table') (with_entry e w.labels (label_at s p))) (sym n) (holds_on w.stands w.sound.in_text w.holds x);
-        tree = subst (Tree s table' roots') (sym n) (after e t);
-      }
-    where
-      kept : (roots' ≡ roots) × (table' ≡ table) → Tree s table' roots' p.labels
-      kept t = subst (λ (r : List ℕ). Tree s table' r p.labels) (sym t.0) (subst (λ (z : List Label). Tree s z roots p.labels) (sym t.1) w.tree)
+  module _ {next : Labels} {e : Entry} {r : Next} (x : Enters now.source.now (unlinked now.count now.table.now) now.count p.label (unlinked next.count next.table.now) e)
+      (t : TreeAfter now.source.now now.table.now now.roots.now now.count p.label next.table.now next.roots.now e)
+      (more : next.count ≡ count_after now.count e) (lent : SameLent now next) (g : GoesOn old.source.now p e r) where
+    entered : Enters old.source.now (unlinked now.count now.table.now) now.count p.label (unlinked next.count next.table.now) e
+    entered = rw w.lent.same_source at x
 
-      after : (k : Entry) → TreeAfter s table roots p.labels p.label table' roots' k → Tree s table' roots' (count_after p.labels k)
-      after (Ok u) t = t.1
-      after (Err r) t = kept t
+    linked-after : (k : Entry) → TreeAfter now.source.now now.table.now now.roots.now now.count p.label next.table.now next.roots.now k
+        → Tree now.source.now next.table.now next.roots.now (count_after now.count k)
+    linked-after (Ok u) f = f.1
+    linked-after (Err r) f = rw (f.0, f.1) w.linked
+
+    pub walking_on : Walking names old next r
+    walking_on =
+        record {
+          labels = with_entry e w.labels (label_at old.source.now p);
+          stands = goes-stand g (length old.table.now) w.labels w.stands (fault_is p w.counted w.sound.in_text w.holds entered);
+          sound = g.sound;
+          counted = more ∙ ap (λ (m : ℕ). count_after m e) w.counted ∙ sym (counted w.labels (label_at old.source.now p) e);
+          holds = holds_on p w.counted w.sound.in_text w.holds entered;
+          linked = rw (lent.same_source, more) (linked-after e t);
+          lent = record {
+            same_source = lent.same_source ∙ w.lent.same_source;
+            same_table = lent.same_table ∙ w.lent.same_table;
+            same_roots = lent.same_roots ∙ w.lent.same_roots;
+          };
+        }
 
 -- What is left, counted in lines.
 abbrev pub left : List ℕ → Next → ℕ
@@ -240,27 +232,20 @@ nearer {names} {s} {n} {p} {e} {r} a g = go n a.after r g.follows
     go (NextEnded o) h r k = absurd h
 
 -- It has ended.
-pub walking-ends : {names : List Name} {s : List ℕ} {old table : List Label} {roots : List ℕ} {o : Outcome} → Stopping names s old table roots (PassEnded o) → Walks names s old table roots o
-walking-ends w = record { labels = w.labels; ends = w.stands; holds = w.holds; tree = w.tree }
+pub walking-ends : {names : List Name} {old now : Labels} {o : Outcome} → Stopping names old now (PassEnded o) → Walks names old now o
+walking-ends w = record { labels = w.labels; ends = w.stands; counted = w.counted ∙ sym w.stands.count; holds = w.holds; linked = w.linked; lent = w.lent }
 
-module _ {names : List Name} {s : List ℕ} {old table : List Label} {roots : List ℕ} {o : Outcome} (w : Walks names s old table roots o) where
-  pub walks-long : length table ≡ length old
-  walks-long = sym (unlinked-long o.labels table) ∙ holds-long w.holds
-
-  -- What `unlink` asks for.
-  pub walks-fits : o.labels ≤ length table
-  walks-fits = omega (arith, w.ends.count, w.holds.fits, walks-long)
-
+module _ {names : List Name} {old new : Labels} {o : Outcome} (w : Walks names old new o) where
   -- What `finish` asks for.
-  pub walks-ready : Finishable names s o.verdict
-  walks-ready = ends-ready names s (length old) w.labels o.verdict w.ends.judges
+  pub walks-ready : Finishable names old.source.now o.verdict
+  walks-ready = ends-ready names old.source.now (length old.table.now) w.labels o.verdict w.ends.judges
 
   -- The second walk has ended too, and the entries are unlinked.
-  pub walks-end : {table' : List Label} {image image' : List ℕ} {r : Result Assembled AssembleError} → table' ≡ unlinked o.labels table → Finishes names s o.labels image image' r o.verdict
-      → Assembles names s old image table' image' r
+  pub walks-end : {table' : List Label} {image image' : List ℕ} {r : Result Assembled AssembleError} → table' ≡ unlinked new.count new.table.now → Finishes names old.source.now o.labels image image' r o.verdict
+      → Assembles names old.source.now old.table.now image table' image' r
   walks-end e f =
       let a = ends-answers w.ends f in
-      record { answer = a.answer; table_holds = e ∙ w.holds.table_is ∙ ap (λ (ls : List Meant). over (map entry_of ls) old) a.labels_are; image_holds = a.image_holds }
+      record { answer = a.answer; table_holds = e ∙ w.holds.table_is ∙ ap (λ (ls : List Meant). over (map entry_of ls) old.table.now) a.labels_are; image_holds = a.image_holds }
 
 -- ---- a source that is too long
 

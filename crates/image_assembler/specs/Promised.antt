@@ -10,8 +10,9 @@ use Rattle.image.specs.Lent.{over, Answer, assembled, refusal as refusal_answer,
 use Rattle.image.specs.Promised.{settings_meant}
 use Rattle.image.specs.declared.config.Config.{Config}
 use Rattle.image_labels.specs.Promised.{entry_of, Spelled}
-use Rattle.image_labels.specs.Tree.{unlinked, Bare, Tree}
+use Rattle.image_labels.specs.Tree.{unlinked, Bare, Linked, SameLent}
 use Rattle.image_labels.specs.declared.label.Label.{Label}
+use Rattle.image_labels.specs.declared.label.Labels.{Labels}
 use Rattle.image_passes.specs.Promised.{WalkEnds, Ready, Fills}
 use Rattle.image_passes.specs.declared.first_pass.Outcome.{Outcome}
 use Rattle.image_passes.specs.declared.first_pass.Finished.{Finished}
@@ -55,10 +56,11 @@ Finishes names s labels old new r (Err e) = (r ≡ Err (Refused e.refusal e.rust
 
 -- ---- assembling
 
--- What the first walk starts from: a source that is not too long, and empty buckets.
-pub record Starts (s roots : List ℕ) : Type 0 where
-  pub short : length s ≤ most_bytes
-  pub bare : Bare roots
+-- What the first walk starts from: a source that is not too long, no labels, and empty buckets.
+pub record Starts (labels : Labels) : Type 0 where
+  pub short : length labels.source.now ≤ most_bytes
+  pub none_entered : labels.count ≡ 0
+  pub bare : Bare labels.roots.now
 
 -- The labels entered so far stand in the table, before its untouched entries.
 pub record Holds (s : List ℕ) (old table : List Label) (labels : List Meant) : Type 0 where
@@ -67,11 +69,13 @@ pub record Holds (s : List ℕ) (old table : List Label) (labels : List Meant) :
   pub spelled : Spelled s labels
 
 -- The first walk has ended. The labels stand in the table once their entries are unlinked; until then they can be found.
-pub record Walks (names : List Name) (s : List ℕ) (old table : List Label) (roots : List ℕ) (o : Outcome) : Type 0 where
+pub record Walks (names : List Name) (old new : Labels) (o : Outcome) : Type 0 where
   pub labels : List Meant
-  pub ends : WalkEnds names s (length old) labels o
-  pub holds : Holds s old (unlinked o.labels table) labels
-  pub tree : Tree s table roots o.labels
+  pub ends : WalkEnds names old.source.now (length old.table.now) labels o
+  pub counted : new.count ≡ o.labels
+  pub holds : Holds old.source.now old.table.now (unlinked new.count new.table.now) labels
+  pub linked : Linked new
+  pub lent : SameLent old new
 
 -- Assembling a source, with a label table and an image buffer before and after.
 pub record Assembles (names : List Name) (source : List ℕ) (table : List Label) (image : List ℕ) (table' : List Label) (image' : List ℕ) (r : Result Assembled AssembleError) : Type 0 where

@@ -5,7 +5,7 @@ ghost use Rattle.image_labels.specs.Tree.{Bare};
 ghost use Rattle.image_assembler.specs.Promised.{Finishable, Finishes, Starts, Walks, Assembles};
 
 use image::config::Config;
-use image_labels::label::Label;
+use image_labels::label::{Label, Labels};
 use image_passes::first_pass::{Outcome, Pass};
 use refusal::refusal::Refusal;
 
@@ -17,7 +17,8 @@ pub struct Assembled {
     pub config: Config,
 }
 
-// Why there is no image, and the labels that have been entered nevertheless.
+// Why there is no image, and the labels that have been entered nevertheless: the error of a `Result`, whose two cases say different things.
+// A refusal and its lines stand one by one, as C has them.
 #[derive(Clone, Copy)]
 pub enum AssembleError {
     Refused {
@@ -39,43 +40,39 @@ fn finish(source: &[u8], image: &mut [u8], outcome: Outcome) -> Result<Assembled
     ensures { Finishes present source.now outcome.labels image.old image.new result outcome.verdict }
 {
     let labels = outcome.labels;
-    let finished = match outcome.verdict {
-        Ok(finished) => finished,
-        Err(stopped) => {
-            return Err(AssembleError::Refused {
-                refusal: stopped.refusal,
-                rust_line: stopped.rust_line,
-                line: stopped.line,
-                labels,
-            });
-        }
-    };
+    let finished = outcome.verdict.map_err(|stopped| AssembleError::Refused {
+        refusal: stopped.refusal,
+        rust_line: stopped.rust_line,
+        line: stopped.line,
+        labels,
+    })?;
     let words = finished.words;
     let config = finished.config;
-    match image_passes::second_pass::write_image(source, image, words, config) {
-        Ok(()) => Ok(Assembled {
-            words,
-            labels,
-            config,
-        }),
-        Err(short) => Err(AssembleError::TooShort {
+    image_passes::second_pass::write_image(source, image, words, config).map_err(|short| {
+        AssembleError::TooShort {
             labels,
             needed: short.needed,
-        }),
-    }
+        }
+    })?;
+    Ok(Assembled {
+        words,
+        labels,
+        config,
+    })
 }
 
-// The first walk over a source. Its labels are entered into the table, whose entries stay linked.
-fn walk(source: &[u8], table: &mut [Label], roots: &mut [u32]) -> Outcome
-    requires { Starts source.now roots.old }
-    ensures { Walks present source.now table.old table.new roots.new result }
+// The first walk over a source. Its labels are entered, and stay linked.
+fn walk(labels: &mut Labels) -> Outcome
+    requires { Starts labels.old }
+    ensures { Walks present labels.old labels.new result }
 {
+    let source = labels.source;
     let mut next = image_passes::first_pass::begin(source);
     // each turn decides what is next, so there is nothing to walk over
     loop {
         match image_passes::first_pass::read_on(source, next) {
             Pass::AtLabel(at) => {
-                let entered = image_labels::label::enter(source, table, roots, at.labels, at.label);
+                let entered = labels.enter(at.label);
                 next = image_passes::first_pass::go_on(source, at, entered);
             }
             Pass::Ended(outcome) => return outcome,
@@ -91,7 +88,7 @@ fn empty_roots() -> [u32; 4096]
 }
 
 // The image of a source, and its labels. A source that is too long is refused before any bucket is cleared. The links by which labels
-// are found are taken out of the table at the end, whatever the answer.
+// are found are taken out of the table at the end, whatever the answer. What is lent is passed one by one, as a caller in C lends it.
 pub fn assemble(
     source: &[u8],
     table: &mut [Label],
@@ -100,6 +97,7 @@ pub fn assemble(
     ensures { Assembles present source.now table.old image.old table.new image.new result }
 {
     if image_passes::first_pass::too_long(source) {
+        // no line is at fault
         return Err(AssembleError::Refused {
             refusal: Refusal::SourceTooLong,
             rust_line: 0,
@@ -108,8 +106,14 @@ pub fn assemble(
         });
     }
     let mut roots = empty_roots();
-    let outcome = walk(source, table, &mut roots);
+    let mut labels = Labels {
+        source,
+        table,
+        roots: &mut roots,
+        count: 0,
+    };
+    let outcome = walk(&mut labels);
     let assembled = finish(source, image, outcome);
-    image_labels::label::unlink(table, outcome.labels);
+    labels.unlink();
     assembled
 }

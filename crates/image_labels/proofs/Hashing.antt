@@ -1,22 +1,23 @@
 -- The branches of an entry, a spelling's hash and its path, and what a search behind an entry is.
 use Prim.Native.Nat.{ℕ, zero, suc, ◌+◌, ◌-◌, ◌*◌, ◌/◌, ◌%◌, ◌≤◌, ◌<◌}
-use mathlib.Core.Path.{◌≡◌, refl}
+use mathlib.Core.Path.{◌≡◌, refl, sym, ap, ◌∙◌}
 use native.Mathlib.Omega.{arith}
-use native.Mathlib.Numerals.{add-one}
 use native.Mathlib.Nat.{mul-le-mul}
 use mathlib.Core.Bool.{Bool, true, false}
 use mathlib.Core.List.{List, [], ◌∷◌}
 use lib.Dec.{eqb}
-use lib.ListN.{length, take, drop, get_or}
-use lib.Seq.{drop-cons, drop-nil}
+use lib.ListN.{length, take, drop, get_or, length-drop}
+use lib.Seq.{drop-nil, drop-drop}
+use Rattle.std.specs.Prelude.{Option as Maybe}
+use Rattle.std.specs.Simd.{first_chunks}
 use borrow.Author.Tests.{lt-ltb, le-ltb, eqb-true, eqb-false, eq-eqb, ne_eqb}
 use Rattle.text_lexical.proofs.Tests.{by-test}
 use Rattle.image_labels.specs.declared.label.Label.{Label}
 use Rattle.image_labels.specs.declared.tree.Digest.{Digest}
-use Rattle.image_labels.specs.declared.tree.Stage.TheVariants.{Known, Missing}
+use Rattle.image_labels.specs.declared.tree.Stage.TheVariants.{Known}
 use Rattle.image_labels.specs.declared.tree.Search.{Search}
 use Rattle.image_labels.specs.Promised.{spelled}
-use Rattle.image_labels.specs.Tree.{plain, child_number, link, child_bits, linked, mixed, three_at, hash_from, no_hash, hash_of, slot_of, branch_of, hits, ended_at, passed, visited}
+use Rattle.image_labels.specs.Tree.{plain, child_number, link_number, link, child_bits, linked, mixed, three_bytes, hash_from, no_hash, hash_of, slot_of, branch_of, hits, ended_at, passed, visited}
 use Rattle.image_labels.proofs.Named.{part-is}
 
 -- ---- the branches
@@ -49,18 +50,18 @@ module _ (n b : ℕ) where
 
 module _ (e : Label) (b : ℕ) where
   module _ (low : b < 2) where
-    pub link-low : link e b ≡ child_number e.start b
-    unfolding link
-    link-low = rw (link, lt-ltb b 2 low)
+    pub link-low : link_number e b ≡ child_number e.start b
+    unfolding link_number
+    link-low = rw (link_number, lt-ltb b 2 low)
 
     pub linked-low : (to : ℕ) → linked e b to ≡ record { start = e.start + child_bits to b; length = e.length; address = e.address }
     unfolding linked
     linked-low to = rw (linked, lt-ltb b 2 low)
 
   module _ (high : 2 ≤ b) where
-    pub link-high : link e b ≡ child_number e.address b
-    unfolding link
-    link-high = rw (link, le-ltb b 2 high)
+    pub link-high : link_number e b ≡ child_number e.address b
+    unfolding link_number
+    link-high = rw (link_number, le-ltb b 2 high)
 
     pub linked-high : (to : ℕ) → linked e b to ≡ record { start = e.start; length = e.length; address = e.address + child_bits to b }
     unfolding linked
@@ -76,20 +77,41 @@ pub slot-inside : (h : Digest) (k : ℕ) → 0 < k → slot_of h k < k
 unfolding slot_of
 slot-inside h k some = omega (arith, scaled_fits h.first k)
 
-module _ (s : List ℕ) (h : Digest) where
-  -- Three bytes, as long as there are so many.
-  pub hash-three : (at end : ℕ) → 3 ≤ end - at → end ≤ length s
-      → hash_from h (take (end - at) (drop at s)) ≡ hash_from (mixed h (three_at s at)) (take (end - (at + 3)) (drop (at + 3) s))
-  unfolding hash_from three_at
-  hash-three at end f g =
-      let e : end - at ≡ suc (suc (suc (end - suc (suc (suc at))))) = omega arith in
-      let v : at + 2 ≡ suc (suc at) = omega arith in
-      let w : at + 3 ≡ suc (suc (suc at)) = omega arith in
-      rw (drop-cons s at 0 (omega arith), drop-cons s (suc at) 0 (omega arith), drop-cons s (suc (suc at)) 0 (omega arith), e, three_at, add-one at, v, w)
+-- The hash after some threes.
+abbrev pub hash_threes : Digest → List (List ℕ) → Digest
+hash_threes h [] = h
+hash_threes h (w ∷ ws) = hash_threes (mixed h (three_bytes w)) ws
 
-  pub hash-all : (l : Label) → mixed (hash_from no_hash (take (l.start + l.length - l.start) (drop l.start s))) 0 ≡ hash_of (spelled s l)
+-- Three bytes at the front.
+hash-three : (h : Digest) (u : List ℕ) → 3 ≤ length u → hash_from h u ≡ hash_from (mixed h (three_bytes (take 3 u))) (drop 3 u)
+unfolding hash_from three_bytes
+hash-three h [] f = absurd (omega arith)
+hash-three h (a ∷ []) f = absurd (omega arith)
+hash-three h (a ∷ b ∷ []) f = absurd (omega arith)
+hash-three h (a ∷ b ∷ c ∷ u) f = refl
+
+-- The threes of some bytes, and then those that are left.
+hash-chunks : (k : ℕ) (h : Digest) (u : List ℕ) → k * 3 ≤ length u → hash_from (hash_threes h (first_chunks 3 k u)) (drop (k * 3) u) ≡ hash_from h u
+hash-chunks zero h u f = refl
+hash-chunks (suc k) h u f =
+    let e : suc k * 3 ≡ 3 + k * 3 = omega arith in
+    rw (e, ← drop-drop (k * 3) 3 u) (hash-chunks k (mixed h (three_bytes (take 3 u))) (drop 3 u) (omega (arith, length-drop 3 u))) ∙ sym (hash-three h u (omega arith))
+
+-- No three is left.
+pub hash-threes-done : (h : Digest) (ws : List (List ℕ)) (i : ℕ) → length ws ≤ i → hash_threes h (drop i ws) ≡ h
+hash-threes-done h [] i f = rw drop-nil refl
+hash-threes-done h (w ∷ ws) zero f = absurd (omega arith)
+hash-threes-done h (w ∷ ws) (suc i) f = hash-threes-done h ws i (omega arith)
+
+module _ (s : List ℕ) (l : Label) where
+  abbrev cut : List ℕ
+  cut = take (l.start + l.length - l.start) (drop l.start s)
+
+  -- All of them.
+  pub hash-all : {threes : List (List ℕ)} {rest : List ℕ} → threes ≡ first_chunks 3 (length cut / 3) cut → rest ≡ drop (length cut / 3 * 3) cut
+      → mixed (hash_from (hash_threes no_hash threes) rest) 0 ≡ hash_of (spelled s l)
   unfolding hash_of
-  hash-all l = rw (part-is s l.start l.length)
+  hash-all e f = rw (e, f, hash-chunks (length cut / 3) no_hash cut (omega arith), part-is s l.start l.length)
 
 module _ (h : Digest) where
   -- The last bytes by themselves.
@@ -115,14 +137,10 @@ module _ (s : List ℕ) (q : Search) (at : ℕ) (e : Label) where
   abbrev is-hit : Bool
   is-hit = hits s e q.entry.length (spelled s (plain q.entry))
 
-  pub visited-hit : is-hit ≡ true → visited s q at e ≡ ended_at q (Known at) at e
+  pub visited-hit : is-hit ≡ true → visited s q at e ≡ ended_at q (Known at)
   unfolding visited
   visited-hit h = rw (visited, h)
 
-  pub visited-last : is-hit ≡ false → link e (branch_of q.path) ≡ 0 → visited s q at e ≡ ended_at q Missing at (linked e (branch_of q.path) (q.count + 1))
+  pub visited_on : is-hit ≡ false → (l : Maybe ℕ) → link e (branch_of q.path) ≡ l → visited s q at e ≡ passed s q at e l
   unfolding visited
-  visited-last h f = rw (visited, h, f)
-
-  pub visited-on : is-hit ≡ false → (i : ℕ) → link e (branch_of q.path) ≡ suc i → visited s q at e ≡ passed s q at e (suc i)
-  unfolding visited
-  visited-on h i f = rw (visited, h, f)
+  visited_on h l f = rw (visited, h) (ap (passed s q at e) f)

@@ -1,6 +1,6 @@
 -- Whether some labels have a spelling, and entering a label behind them.
 use Prim.Native.Nat.{ℕ, zero, suc, ◌+◌, ◌-◌, ◌<◌}
-use Rattle.std.specs.Prelude.{Ok, Err}
+use Rattle.std.specs.Prelude.{⊤, Result, Ok, Err}
 use mathlib.Core.Path.{◌≡◌, refl, sym, ap, subst, ◌∙◌}
 use mathlib.Core.Option.{Option, none, some}
 use native.Mathlib.Omega.{arith}
@@ -11,9 +11,10 @@ use lib.ListN.{length, take, drop, get_or, set, length-take, length-drop}
 use Rattle.text_lexical.specs.Bytes.{same, is_some}
 use Rattle.text_lexical.proofs.Tests.{by-test}
 use Rattle.text_lexical.proofs.Strings.{same-eq, eq-same}
+use Rattle.refusal.specs.declared.refusal.Refusal.{Refusal}
 use Rattle.refusal.specs.declared.refusal.Refusal.TheVariants.{DuplicateLabel, TableFull}
 use Rattle.image_labels.specs.declared.label.Label.{Label}
-use Rattle.image_labels.specs.Promised.{InText, spelled, no_label, any_named, index_of, entry_fault, Enters}
+use Rattle.image_labels.specs.Promised.{InText, spelled, no_label, any_named, index_of, entry_fault, room_for, Enters}
 
 -- A part with a computed end.
 pub part-is : (s : List ℕ) (a n : ℕ) → take (a + n - a) (drop a s) ≡ take n (drop a s)
@@ -98,3 +99,14 @@ module _ (s : List ℕ) (table : List Label) (count : ℕ) (l : Label) where
     pub enters-full : ltb count (length table) ≡ false → Enters s table count l table' (Err TableFull)
     unfolding entry_fault
     enters-full f = record { answer = rw (e, f); holds = rw e h }
+
+-- ---- room
+
+module _ (at : ℕ) (t : List Label) where
+  pub has-room : {u : ⊤} → room_for at t ≡ Ok u → ltb at (length t) ≡ true
+  has-room {u} e = by-test (ltb at (length t)) (λ y. y) (λ n. let x : ◌≡◌ {A = Result ⊤ Refusal} (Err TableFull) (Ok u) = rw (room_for, n) at e in cc)
+
+  pub no-room : {r : Refusal} → room_for at t ≡ Err r → (ltb at (length t) ≡ false) × (TableFull ≡ r)
+  no-room {r} e =
+      by-test (ltb at (length t)) (λ y. let x : ◌≡◌ {A = Result ⊤ Refusal} (Ok tt) (Err r) = rw (room_for, y) at e in cc)
+      (λ n. (n, let x : ◌≡◌ {A = Result ⊤ Refusal} (Err TableFull) (Err r) = rw (room_for, n) at e in cc))

@@ -4,6 +4,7 @@ use Rattle.std.proofs.Math.Option.{Option, none, some}
 use Rattle.text_lexical.specs.Bytes.{same}
 use Rattle.refusal.specs.Refusals.{fault_of}
 use Rattle.refusal.specs.declared.refusal.Refusal.{Refusal}
+use Rattle.refusal.specs.declared.refusal.Refusal.TheVariants.{TableFull}
 use Rattle.image.specs.Assembling.{Label as Meant}
 use Rattle.image_labels.specs.declared.label.Label.{Label}
 
@@ -11,11 +12,11 @@ use Rattle.image_labels.specs.declared.label.Label.{Label}
 abbrev pub entry_of : Meant → Label
 entry_of l = record { start = l.start; length = length l.spelling; address = l.address }
 
--- A label is a part of a source,
+-- A label is a part of a source, which is lent beside it, so that this cannot be an invariant of the label;
 abbrev pub InText : List ℕ → Label → Type 0
 InText s l = l.start + l.length ≤ length s
 
--- which is its spelling.
+-- that part is its spelling.
 abbrev pub spelled : List ℕ → Label → List ℕ
 spelled s l = take l.length (drop l.start s)
 
@@ -36,6 +37,10 @@ index_of s (l ∷ ls) u = elim (same (spelled s l) u) [ true ↦ some 0 | false 
 -- "4 duplicate label; 5 new label, table full"
 unfoldable pub entry_fault : Bool → Bool → Option ℕ
 entry_fault known room = elim known [ true ↦ some 4 | false ↦ elim room [ true ↦ none | false ↦ some 5 ] ]
+
+-- Whether a table has room for an entry at a place.
+abbrev pub room_for : ℕ → List Label → Result ⊤ Refusal
+room_for at t = elim (ltb at (length t)) [ true ↦ Ok tt | false ↦ Err TableFull ]
 
 -- How many labels there are after an attempt to enter one.
 abbrev pub count_after : ℕ → Result ⊤ Refusal → ℕ

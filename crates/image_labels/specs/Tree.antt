@@ -1,15 +1,18 @@
 -- While labels are entered, their entries are the nodes of 4-way tries, in which a spelling is looked for from the root of its hash bucket
 -- on. These definitions follow the code; document 01 knows nothing of them: which bucket and which branches a spelling takes and how it is
 -- hashed could be otherwise, and what is found does not depend on it.
-use Rattle.std.specs.Prelude.{ℕ, zero, suc, ◌+◌, ◌*◌, ◌/◌, ◌%◌, ◌≤◌, ◌<◌, ◌≡◌, Bool, true, false, List, [], ◌∷◌, length, take, get_or, set, leb, ltb, eqb, ⊤, Result, Ok, Err}
+use Rattle.std.specs.Prelude.{ℕ, zero, suc, ◌+◌, ◌*◌, ◌/◌, ◌%◌, ◌≤◌, ◌<◌, ◌≡◌, Bool, true, false, List, [], ◌∷◌, length, take, get_or, set, leb, ltb, eqb, ⊤, Result, Ok, Err, Some, None}
+use Rattle.std.specs.Prelude.{Option as Maybe}
 use Rattle.std.proofs.Math.Option.{Option, none, some}
 use Rattle.text_lexical.specs.Bytes.{same}
 use Rattle.refusal.specs.declared.refusal.Refusal.{Refusal}
 use Rattle.image_labels.specs.Promised.{InText, spelled, no_label, index_of}
 use Rattle.image_labels.specs.declared.label.Label.{Label}
 use Rattle.image_labels.specs.declared.label.Gap.{Gap}
+use Rattle.image_labels.specs.declared.label.Labels.{Labels}
 use Rattle.image_labels.specs.declared.tree.Digest.{Digest}
 use Rattle.image_labels.specs.declared.tree.PathBits.{PathBits}
+use Rattle.image_labels.specs.declared.tree.Parent.{Parent}
 use Rattle.image_labels.specs.declared.tree.Stage.{Stage}
 use Rattle.image_labels.specs.declared.tree.Stage.TheVariants.{At, Known, Missing}
 use Rattle.image_labels.specs.declared.tree.Search.{Search}
@@ -30,9 +33,18 @@ unlinked (suc n) (e ∷ t) = plain e ∷ unlinked n t
 unfoldable pub child_number : ℕ → ℕ → ℕ
 child_number part branch = elim (eqb (branch % 2) 1) [ true ↦ part / 4398046511104 | false ↦ part / 2097152 % 2097152 ]
 
--- The child of an entry at a branch, 0 to 3: none (0), or the entry before that number.
-unfoldable pub link : Label → ℕ → ℕ
-link e branch = elim (ltb branch 2) [ true ↦ child_number e.start branch | false ↦ child_number e.address branch ]
+-- The place before a number: numbers from 1 on are stored for places, and 0 for none.
+abbrev pub place_before : ℕ → Maybe ℕ
+place_before zero = None
+place_before (suc i) = Some i
+
+-- The number of an entry's child at a branch, 0 to 3,
+unfoldable pub link_number : Label → ℕ → ℕ
+link_number e branch = elim (ltb branch 2) [ true ↦ child_number e.start branch | false ↦ child_number e.address branch ]
+
+-- and the child.
+abbrev pub link : Label → ℕ → Maybe ℕ
+link e branch = place_before (link_number e branch)
 
 unfoldable pub child_bits : ℕ → ℕ → ℕ
 child_bits to branch = elim (eqb (branch % 2) 1) [ true ↦ 4398046511104 * to | false ↦ 2097152 * to ]
@@ -54,8 +66,9 @@ mixed h w =
       second = h.second % 4294967296 * (2246822519 + 113 * w) + (h.first / 4294967296 + w);
     }
 
-unfoldable pub three_at : List ℕ → ℕ → ℕ
-three_at s at = get_or s at 0 + 256 * get_or s (at + 1) 0 + 65536 * get_or s (at + 2) 0
+-- Three bytes as one number.
+unfoldable pub three_bytes : List ℕ → ℕ
+three_bytes w = get_or w 0 0 + 256 * get_or w 1 0 + 65536 * get_or w 2 0
 
 unfoldable pub hash_from : Digest → List ℕ → Digest
 hash_from h [] = h
@@ -73,17 +86,17 @@ hash_of u = mixed (hash_from no_hash u) 0
 -- The path bits of a spelling, two for each branch: those of its hash, then those of its bytes, the lowest first. A 1 stands after the last.
 unfoldable pub first_path : List ℕ → PathBits
 first_path u =
-    record { bits = 4611686018427387904 + (hash_of u).first % 4611686018427387904; rest = 4611686018427387904 + (hash_of u).second % 4611686018427387904; used = 0 }
+    record { bits = 4611686018427387904 + (hash_of u).first % 4611686018427387904; rest = Some (4611686018427387904 + (hash_of u).second % 4611686018427387904); used = 0 }
 
 unfoldable pub advanced : List ℕ → PathBits → PathBits
 advanced u t =
     elim (ltb 1 (t.bits / 4)) [
       | true ↦ record { bits = t.bits / 4; rest = t.rest; used = t.used }
-      | false ↦ elim (ltb 0 t.rest) [
-        | true ↦ record { bits = t.rest; rest = 0; used = t.used }
-        | false ↦ elim (leb (length u) t.used) [
-          | true ↦ record { bits = 256; rest = 0; used = t.used }
-          | false ↦ record { bits = 256 + get_or u t.used 0; rest = 0; used = t.used + 1 }
+      | false ↦ elim t.rest [
+        | Some bits ↦ record { bits = bits; rest = None; used = t.used }
+        | None ↦ elim (leb (length u) t.used) [
+          | true ↦ record { bits = 256; rest = None; used = t.used }
+          | false ↦ record { bits = 256 + get_or u t.used 0; rest = None; used = t.used + 1 }
         ]
       ]
     ]
@@ -107,13 +120,16 @@ pub record Rootable (roots : List ℕ) : Type 0 where
 unfoldable pub slot_of : Digest → ℕ → ℕ
 slot_of h k = h.first % 4294967296 * k / 4294967296
 
--- The root of a spelling: none (0), or the entry before that number.
-abbrev pub root_of : List ℕ → List ℕ → ℕ
-root_of roots u = get_or roots (slot_of (hash_of u) (length roots)) 0
+-- The root at a place of some roots, and that of a spelling.
+abbrev pub root_at : List ℕ → ℕ → Maybe ℕ
+root_at roots slot = place_before (get_or roots slot 0)
+
+abbrev pub root_of : List ℕ → List ℕ → Maybe ℕ
+root_of roots u = root_at roots (slot_of (hash_of u) (length roots))
 
 -- Roots once a label is entered after n others into a bucket: it is the root where there was none.
 unfoldable pub with_root_at : List ℕ → ℕ → ℕ → List ℕ
-with_root_at roots n slot = elim (eqb (get_or roots slot 0) 0) [ true ↦ set roots slot (n + 1) | false ↦ roots ]
+with_root_at roots n slot = elim (root_at roots slot) [ None ↦ set roots slot (n + 1) | Some i ↦ roots ]
 
 abbrev pub with_root : List ℕ → ℕ → List ℕ → List ℕ
 with_root roots n u = with_root_at roots n (slot_of (hash_of u) (length roots))
@@ -138,51 +154,54 @@ unfoldable pub hits : List ℕ → Label → ℕ → List ℕ → Bool
 hits s e key u = elim (eqb e.length key) [ true ↦ same (spelled s (plain e)) u | false ↦ false ]
 
 -- The search for a label after `count` others, from its root on,
-abbrev pub started_at : ℕ → Stage → PathBits → ℕ → Label → Search
-started_at bucket stage path count e = record { bucket = bucket; stage = stage; path = path; count = count; entry = e; last = count; parent = e }
-
-abbrev pub begun_at : ℕ → List ℕ → ℕ → Label → ℕ → Search
-begun_at slot s count l zero = started_at slot Missing (first_path (spelled s l)) count (entry_for (spelled s l) l)
-begun_at slot s count l (suc i) = started_at slot (At i) (first_path (spelled s l)) count (entry_for (spelled s l) l)
+abbrev pub first_stage : Maybe ℕ → Stage
+first_stage None = Missing None
+first_stage (Some i) = At i
 
 abbrev pub begun : List ℕ → List ℕ → ℕ → Label → Search
-begun s roots count l = begun_at (slot_of (hash_of (spelled s l)) (length roots)) s count l (root_of roots (spelled s l))
+begun s roots count l =
+    record {
+      bucket = slot_of (hash_of (spelled s l)) (length roots);
+      stage = first_stage (root_of roots (spelled s l));
+      path = first_path (spelled s l);
+      count = count;
+      entry = entry_for (spelled s l) l;
+    }
 
 -- and after the entry at a place: it has ended, or goes on.
-abbrev pub ended_at : Search → Stage → ℕ → Label → Search
-ended_at q stage last e = record { bucket = q.bucket; stage = stage; path = q.path; count = q.count; entry = q.entry; last = last; parent = e }
+abbrev pub ended_at : Search → Stage → Search
+ended_at q stage = record { bucket = q.bucket; stage = stage; path = q.path; count = q.count; entry = q.entry }
 
-abbrev pub passed : List ℕ → Search → ℕ → Label → ℕ → Search
-passed s q at e zero = ended_at q Missing at (linked e (branch_of q.path) (q.count + 1))
-passed s q at e (suc i) =
-    record { bucket = q.bucket; stage = At i; path = advanced (spelled s (plain q.entry)) q.path; count = q.count; entry = q.entry; last = at; parent = e }
+abbrev pub passed : List ℕ → Search → ℕ → Label → Maybe ℕ → Search
+passed s q at e None = ended_at q (Missing (Some (record { place = at; entry = linked e (branch_of q.path) (q.count + 1) })))
+passed s q at e (Some i) = record { bucket = q.bucket; stage = At i; path = advanced (spelled s (plain q.entry)) q.path; count = q.count; entry = q.entry }
 
 unfoldable pub visited : List ℕ → Search → ℕ → Label → Search
 visited s q at e =
-    elim (hits s e q.entry.length (spelled s (plain q.entry))) [ true ↦ ended_at q (Known at) at e | false ↦ passed s q at e (link e (branch_of q.path)) ]
+    elim (hits s e q.entry.length (spelled s (plain q.entry))) [ true ↦ ended_at q (Known at) | false ↦ passed s q at e (link e (branch_of q.path)) ]
 
 -- What a search that has ended comes to.
-abbrev pub gap_of : Search → Gap
-gap_of q = record { bucket = q.bucket; entry = q.entry; last = q.last; parent = q.parent }
+abbrev pub gap_of : Search → Maybe Parent → Gap
+gap_of q parent = record { bucket = q.bucket; entry = q.entry; parent = parent }
 
 unfoldable pub found_of : Search → Result ℕ Gap
-found_of q = elim q.stage [ Known i ↦ Ok i | At i ↦ Err (gap_of q) | Missing ↦ Err (gap_of q) ]
+found_of q = elim q.stage [ Known i ↦ Ok i | At i ↦ Err (gap_of q None) | Missing parent ↦ Err (gap_of q parent) ]
 
 -- ---- trees
 
--- A spelling is found among the first n entries of a table, from the entry before a number on, with the path bits left.
-pub data Finds (s : List ℕ) (t : List Label) (n : ℕ) (u : List ℕ) : ℕ → PathBits → Type 0 where
-  here : {i : ℕ} {z : PathBits} → i < n → hits s (get_or t i no_label) (key_of u) u ≡ true → Finds s t n u (suc i) z
-  there : {i l : ℕ} {z : PathBits} → i < n → link (get_or t i no_label) (branch_of z) ≡ l → Finds s t n u l (advanced u z) → Finds s t n u (suc i) z
+-- A spelling is found among the first n entries of a table, from an entry on, with the path bits left.
+pub data Finds (s : List ℕ) (t : List Label) (n : ℕ) (u : List ℕ) : Maybe ℕ → PathBits → Type 0 where
+  here : {i : ℕ} {z : PathBits} → i < n → hits s (get_or t i no_label) (key_of u) u ≡ true → Finds s t n u (Some i) z
+  there : {i : ℕ} {l : Maybe ℕ} {z : PathBits} → i < n → link (get_or t i no_label) (branch_of z) ≡ l → Finds s t n u l (advanced u z) → Finds s t n u (Some i) z
 
 -- The first n entries of a table are trees: each is a part of the source, leads to later ones only, and is found by its spelling, which no
 -- other has.
 pub record Tree (s : List ℕ) (t : List Label) (roots : List ℕ) (n : ℕ) : Type 0 where
   pub in_table : n ≤ length t
   pub in_text : (i : ℕ) → i < n → InText s (plain (get_or t i no_label))
-  pub onward : (i : ℕ) → i < n → (branch j : ℕ) → link (get_or t i no_label) branch ≡ suc j → (i < j) × (j < n)
+  pub onward : (i : ℕ) → i < n → (branch j : ℕ) → link (get_or t i no_label) branch ≡ Some j → (i < j) × (j < n)
   pub rootable : Rootable roots
-  pub rooted : (slot j : ℕ) → get_or roots slot 0 ≡ suc j → j < n
+  pub rooted : (slot j : ℕ) → root_at roots slot ≡ Some j → j < n
   pub found : (i : ℕ) → i < n
       → Finds s t n (spelled s (plain (get_or t i no_label))) (root_of roots (spelled s (plain (get_or t i no_label)))) (first_path (spelled s (plain (get_or t i no_label))))
   pub distinct : (i j : ℕ) → i < n → j < n → spelled s (plain (get_or t i no_label)) ≡ spelled s (plain (get_or t j no_label)) → i ≡ j
@@ -200,21 +219,31 @@ pub record Enterable (s : List ℕ) (n : ℕ) (l : Label) : Type 0 where
   pub few : n ≤ 1048576
   pub near : l.address < 2097152
 
--- A label's entry stored after n others, and its parent's.
-abbrev pub joined : List Label → ℕ → Gap → List Label
-joined t n g = set (set t n g.entry) g.last g.parent
+-- The entry of a gap's label, with an address.
+abbrev pub addressed : Gap → ℕ → Label
+addressed g a = record { start = g.entry.start; length = g.entry.length; address = a }
 
--- A gap with an address for the label's entry: it is its own parent where no entry leads to it.
-unfoldable pub addressed : Gap → ℕ → ℕ → Gap
-addressed g n a =
-    let e : Label = record { start = g.entry.start; length = g.entry.length; address = a } in
-    record { bucket = g.bucket; entry = e; last = g.last; parent = elim (eqb g.last n) [ true ↦ e | false ↦ g.parent ] }
+-- A table whose parent entry, if there is one, has got its child.
+abbrev pub with_parent : List Label → Maybe Parent → List Label
+with_parent t None = t
+with_parent t (Some p) = set t p.place p.entry
+
+-- A label's entry stored after n others, and its parent's.
+abbrev pub joined : List Label → ℕ → Label → Maybe Parent → List Label
+joined t n e p = with_parent (set t n e) p
+
+-- Roots once a label is entered after n others: it becomes one where it has no parent.
+abbrev pub rooted_in : List ℕ → ℕ → ℕ → Maybe Parent → List ℕ
+rooted_in roots n bucket None = set roots bucket (n + 1)
+rooted_in roots n bucket (Some p) = roots
 
 -- Where a label that is not among n others would be entered: what a table becomes then.
 pub record Gaps (s : List ℕ) (t : List Label) (roots : List ℕ) (n : ℕ) (l : Label) (g : Gap) : Type 0 where
   pub bucket_is : g.bucket ≡ slot_of (hash_of (spelled s l)) (length roots)
-  pub tree : n < length t → Tree s (joined t n g) (with_root roots n (spelled s l)) (suc n)
-  pub holds : n < length t → unlinked (suc n) (joined t n g) ≡ set (unlinked n t) n l
+  pub parent_inside : (p : Parent) → g.parent ≡ Some p → p.place < n
+  pub roots_are : rooted_in roots n g.bucket g.parent ≡ with_root roots n (spelled s l)
+  pub tree : n < length t → Tree s (joined t n (addressed g l.address) g.parent) (with_root roots n (spelled s l)) (suc n)
+  pub holds : n < length t → unlinked (suc n) (joined t n (addressed g l.address) g.parent) ≡ set (unlinked n t) n l
 
 abbrev pub index_meant : Result ℕ Gap → Option ℕ
 index_meant (Ok i) = some i
@@ -224,7 +253,7 @@ index_meant (Err g) = none
 -- address.
 pub record Finding (s : List ℕ) (t : List Label) (roots : List ℕ) (n start long : ℕ) (r : Result ℕ Gap) : Type 0 where
   pub index_is : index_meant r ≡ index_of s (take n (unlinked n t)) (spelled s (span start long))
-  pub gap : (g : Gap) → r ≡ Err g → (a : ℕ) → a < 2097152 → Gaps s t roots n (record { start = start; length = long; address = a }) (addressed g n a)
+  pub gap : (g : Gap) → r ≡ Err g → (a : ℕ) → a < 2097152 → Gaps s t roots n (record { start = start; length = long; address = a }) g
 
 -- What a search asks of an entry that it has come to.
 pub record Visitable (s : List ℕ) (q : Search) (e : Label) : Type 0 where
@@ -233,3 +262,15 @@ pub record Visitable (s : List ℕ) (q : Search) (e : Label) : Type 0 where
   pub low : e.start / 4398046511104 ≤ 1048576
   pub low_address : e.address / 4398046511104 ≤ 1048576
   pub few : q.count ≤ 1048576
+
+-- ---- labels with what is lent for them
+
+-- The entries of the labels are trees.
+abbrev pub Linked : Labels → Type 0
+Linked labels = Tree labels.source.now labels.table.now labels.roots.now labels.count
+
+-- Labels of the same source, in the same table and with the same roots.
+pub record SameLent (old new : Labels) : Type 0 where
+  pub same_source : new.source ≡ old.source
+  pub same_table : new.table.ghost_name ≡ old.table.ghost_name
+  pub same_roots : new.roots.ghost_name ≡ old.roots.ghost_name

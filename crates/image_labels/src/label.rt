@@ -1,32 +1,32 @@
 // Labels are entered from the front of a lent slice and found by their spelling.
-ghost use Rattle.std.specs.Prelude.{◌≡◌, ◌≤◌, length, set, ltb};
-ghost use Rattle.image_labels.specs.Promised.{count_after, Enters};
-ghost use Rattle.image_labels.specs.Tree.{unlinked, span, Tree, TreeAfter, Enterable, Finding};
+ghost use Rattle.std.specs.Prelude.{◌≡◌, ◌≤◌, length, set};
+ghost use Rattle.image_labels.specs.Promised.{room_for, count_after, Enters};
+ghost use Rattle.image_labels.specs.Tree.{unlinked, span, Tree, Linked, TreeAfter, Enterable, Finding, SameLent};
 
-use crate::tree::Stage;
+use crate::tree::{Parent, Stage};
 use refusal::refusal::Refusal;
 
-// Where a label's spelling stands in the source, and its address.
+// Where a label's spelling stands in the source, two numbers as document 01 names that form and as C has it, and its address.
 #[repr(C)]
-#[derive(Clone, Copy)]
+#[derive(Clone, Copy, PartialEq, Eq)]
 pub struct Label {
     pub start: usize,
     pub length: usize,
     pub address: u64,
 }
 
-// Where a label that is not there would be entered: its entry, without an address, the entry that would lead to it and where that one
-// stands, and its bucket.
+// Where a label that is not there would be entered: its bucket, its entry, without an address, and its parent, if it would not become a
+// root.
 #[derive(Clone, Copy)]
 pub struct Gap {
     pub(crate) bucket: usize,
     pub(crate) entry: Label,
-    pub(crate) last: usize,
-    pub(crate) parent: Label,
+    pub(crate) parent: Option<Parent>,
 }
 
-// The index of the label that is spelled as a part of the source, among the first `count` entries of a table; or where it would be entered.
-// Nothing is changed. The part is given by two numbers, since a label would be passed through memory.
+// The index of the label that is spelled as a part of the source, among the first `count` entries of a table, or where it would be entered.
+// Nothing is changed, so table and roots may be shared, which those of a `Labels` are not. The part is given by two numbers, since a label
+// would be passed through memory.
 pub fn find(
     source: &[u8],
     table: &[Label],
@@ -40,56 +40,85 @@ pub fn find(
     ensures { Finding source.now table.now roots.now count start «length» result }
 {
     let mut search = crate::tree::begin(source, roots, count, start, length);
+    // each entry leads to the next, so there is nothing to walk over
     while let Stage::At(at) = search.stage {
         search = crate::tree::visit(source, search, at, table[at]);
     }
     crate::tree::found(search)
 }
 
-// An entry stored at a place, where there is room; whether there was, which each caller has a refusal of its own for.
-fn append(table: &mut [Label], at: usize, entry: Label) -> bool
-    ensures value { result ≡ ltb at (length table.old) }
+// The labels of a source that have been entered: the first `count` entries of a lent table, which are linked into trees, and their roots. The
+// table is lent whole, so how much of it is used is a number.
+#[derive(Drop)]
+pub struct Labels<'a> {
+    pub source: &'a [u8],
+    pub table: &'a mut [Label],
+    pub roots: &'a mut [u32],
+    pub count: usize,
+}
+
+impl Labels<'_> {
+    // The index of the label that is spelled as a part of the source, or where it would be entered.
+    pub fn find(&self, start: usize, length: usize) -> Result<usize, Gap>
+        requires tree { Linked self.now }
+        requires enterable { Enterable self.now.source.now self.now.count (span start «length») }
+        ensures { Finding self.now.source.now self.now.table.now self.now.roots.now self.now.count start «length» result }
+    {
+        find(
+            self.source,
+            self.table,
+            self.roots,
+            self.count,
+            start,
+            length,
+        )
+    }
+
+    // Enters a label. It is refused as a duplicate or for want of room, and then leaves everything as it was.
+    pub fn enter(&mut self, label: Label) -> Result<(), Refusal>
+        requires tree { Linked self.old }
+        requires enterable { Enterable self.old.source.now self.old.count label }
+        ensures enters { Enters self.old.source.now (unlinked self.old.count self.old.table.now) self.old.count label (unlinked self.new.count self.new.table.now) result }
+        ensures tree_after { TreeAfter self.old.source.now self.old.table.now self.old.roots.now self.old.count label self.new.table.now self.new.roots.now result }
+        ensures counted { self.new.count ≡ count_after self.old.count result }
+        ensures lent { SameLent self.old self.new }
+    {
+        let Err(gap) = self.find(label.start, label.length) else {
+            return Err(Refusal::DuplicateLabel);
+        };
+        let entry = crate::tree::addressed(gap, label.address);
+        let place = self.count;
+        append(self.table, place, entry)?;
+        self.count += 1;
+        match gap.parent {
+            Some(parent) => self.table[parent.place] = parent.entry,
+            None => crate::tree::set_root(self.roots, gap.bucket, place),
+        }
+        Ok(())
+    }
+
+    // The entries are left as labels.
+    pub fn unlink(&mut self)
+        requires { self.old.count ≤ length self.old.table.now }
+        ensures table { self.new.table.now ≡ unlinked self.old.count self.old.table.now }
+        ensures roots { self.new.roots.now ≡ self.old.roots.now }
+        ensures counted { self.new.count ≡ self.old.count }
+        ensures lent { SameLent self.old self.new }
+    {
+        for entry in &mut self.table[..self.count] {
+            *entry = crate::tree::plain(*entry);
+        }
+    }
+}
+
+// An entry stored at a place, where there is room: the thin append that document 01 names.
+fn append(table: &mut [Label], at: usize, entry: Label) -> Result<(), Refusal>
+    ensures value { result ≡ room_for at table.old }
     ensures stored { table.new ≡ set table.old at entry }
 {
     if table.len() <= at {
-        return false;
+        return Err(Refusal::TableFull);
     }
     table[at] = entry;
-    true
-}
-
-// Enters a label after `count` others. It is refused as a duplicate or for want of room, and then leaves everything as it was.
-pub fn enter(
-    source: &[u8],
-    table: &mut [Label],
-    roots: &mut [u32],
-    count: usize,
-    label: Label,
-) -> Result<(), Refusal>
-    requires tree { Tree source.now table.old roots.old count }
-    requires enterable { Enterable source.now count label }
-    ensures enters { Enters source.now (unlinked count table.old) count label (unlinked (count_after count result) table.new) result }
-    ensures tree_after { TreeAfter source.now table.old roots.old count label table.new roots.new result }
-{
-    let Err(bare) = find(source, table, roots, count, label.start, label.length) else {
-        return Err(Refusal::DuplicateLabel);
-    };
-    let gap = crate::tree::addressed(bare, count, label.address);
-    if append(table, count, gap.entry) {
-        // its parent leads to it (a root is stored again)
-        append(table, gap.last, gap.parent);
-        crate::tree::set_root(roots, gap.bucket, count);
-        return Ok(());
-    }
-    Err(Refusal::TableFull)
-}
-
-// The first `count` entries of a table are left as labels.
-pub fn unlink(table: &mut [Label], count: usize)
-    requires { count ≤ length table.old }
-    ensures { table.new ≡ unlinked count table.old }
-{
-    for entry in &mut table[..count] {
-        *entry = crate::tree::plain(*entry);
-    }
+    Ok(())
 }

@@ -1,12 +1,15 @@
 // While labels are entered, their entries are the nodes of 4-way tries, one for each hash bucket. A label's start, length and address are
 // below 2^21. Above its start and above its address an entry holds two of its four children each, as numbers of 21 bits, and above its
-// length 43 bits of its spelling's hash.
-ghost use Rattle.std.specs.Prelude.{◌≡◌, ◌+◌, ◌/◌, ◌≤◌, ◌<◌, length};
+// length 43 bits of its spelling's hash. There is no heap, and the table is lent by the caller, so a child is the number of an entry and no `Box`.
+ghost use Rattle.std.specs.Prelude.{◌≡◌, ◌+◌, ◌/◌, ◌≤◌, ◌<◌, length, set};
 ghost use Rattle.text_lexical.specs.Bytes.{same};
 ghost use Rattle.image_labels.specs.Promised.{InText, spelled};
-ghost use Rattle.image_labels.specs.Tree.{plain as plain_of, child_number, link as link_of, child_bits, linked as linkedOf, mixed, three_at, hash_of, advanced, hits as hitsOf, Rootable, slot_of, with_root_at, started_at, begun, found_of, span, addressed as addressed_at, ended_at, visited, Enterable, Visitable};
+ghost use Rattle.image_labels.specs.Tree.{plain as plain_of, child_number, place_before as before, link as link_of, child_bits, linked as linkedOf, mixed, three_bytes as three_bytes_of, hash_of, advanced, hits as hitsOf, Rootable, slot_of, first_stage as first_stage_of, begun, found_of, span, addressed as addressed_at, visited, Enterable, Visitable};
 
 use crate::label::{Gap, Label};
+
+// A label's source is lent beside it, so that the label is a part of it (`InText`) and may be entered after so many others (`Enterable`) is no
+// invariant of a label, and each function asks for what it needs.
 
 // A label's start, length and address are below 2^21. What an entry holds above them counts in units of it.
 const FIELD: usize = 2097152;
@@ -23,25 +26,32 @@ pub(crate) struct Digest {
 // The 1 after the last path bit of a hash, of which 62 are used.
 const PATH_END: u64 = 4611686018427387904;
 
-// The path bits of a spelling, two for each child that it takes: `bits`, with a 1 after the last, then `rest` (none: 0), then those of
-// its bytes, of which `used` have been used up.
+// The path bits of a spelling, two for each child that it takes: `bits`, with a 1 after the last, then `rest`, then those of its bytes, of
+// which `used` have been used up.
 #[derive(Clone, Copy)]
 pub(crate) struct PathBits {
     pub(crate) bits: u64,
-    pub(crate) rest: u64,
+    pub(crate) rest: Option<u64>,
     pub(crate) used: usize,
 }
 
-// Where a search stands: before an entry that it is to visit, or at its end, which is an entry of the spelling, or behind all entries.
+// An entry with the child that a label is to be, and where it stands.
+#[derive(Clone, Copy)]
+pub(crate) struct Parent {
+    pub(crate) place: usize,
+    pub(crate) entry: Label,
+}
+
+// Where a search stands: before an entry that it is to visit, or at its end, which is an entry of the spelling, or behind all entries:
+// there the label gets a parent, or becomes a root. These are three states, so neither an `Option` nor a `Result` has them.
 #[derive(Clone, Copy)]
 pub(crate) enum Stage {
     At(usize),
     Known(usize),
-    Missing,
+    Missing(Option<Parent>),
 }
 
-// A spelling that is looked for, from the root of a hash bucket on. `entry` is that of its label, after `count` others; `parent` is the
-// entry that is to lead to it, and stands at `last`: for a label that becomes a root, to which no entry leads, its own.
+// A spelling that is looked for, from the root of a hash bucket on. `entry` is that of its label, after `count` others.
 #[derive(Clone, Copy)]
 pub(crate) struct Search {
     pub(crate) bucket: usize,
@@ -49,8 +59,6 @@ pub(crate) struct Search {
     pub(crate) path: PathBits,
     pub(crate) count: usize,
     pub(crate) entry: Label,
-    pub(crate) last: usize,
-    pub(crate) parent: Label,
 }
 
 // The label of an entry.
@@ -64,7 +72,8 @@ pub(crate) fn plain(entry: Label) -> Label
     }
 }
 
-// One of the two child numbers that are packed above a part of an entry: the upper one for an odd branch.
+// One of the two child numbers that are packed above a part of an entry: the upper one for an odd branch. A branch is two path bits, 0 to
+// 3, and no enum, since each of the bits is a choice of its own: of the part, and of the number in it.
 #[tactic(auto, unfolding(crate::specs::Tree::child_number))]
 fn child_number(part: usize, branch: u64) -> usize
     ensures { result ≡ child_number part branch }
@@ -75,21 +84,28 @@ fn child_number(part: usize, branch: u64) -> usize
     part / FIELD % FIELD
 }
 
-// The child of an entry at a branch: none (0), or the entry before that number. Both parts are looked at, so that the processor
-// need not guess which.
-#[tactic(auto, unfolding(crate::specs::Tree::link))]
-fn link(entry: Label, branch: u64) -> usize
+// The place before a number. Where there is no room for an `Option`, in the 21 bits of a child and the 32 of a root, the number after a
+// place is stored for it, and 0 for none.
+fn place_before(number: usize) -> Option<usize>
+    ensures { result ≡ before number }
+{
+    number.checked_sub(1)
+}
+
+// The child of an entry at a branch. Both parts are looked at, so that the processor need not guess which.
+#[tactic(auto, unfolding(crate::specs::Tree::link_number))]
+fn link(entry: Label, branch: u64) -> Option<usize>
     ensures { result ≡ link_of entry branch }
 {
     let by_start = child_number(entry.start, branch);
     let by_address = child_number(entry.address as usize, branch);
     if branch < 2 {
-        return by_start;
+        return place_before(by_start);
     }
-    by_address
+    place_before(by_address)
 }
 
-// A child number, which has 21 bits, moved up to where it is packed.
+// A child number, which has 21 bits (`place_before`), moved up to where it is packed.
 #[tactic(auto, unfolding(crate::specs::Tree::child_bits))]
 fn child_bits(to: usize, branch: u64) -> usize
     requires { to < 2097152 }
@@ -109,21 +125,16 @@ fn linked(entry: Label, branch: u64, to: usize) -> Label
     requires child_fits { to < 2097152 }
     ensures { result ≡ linkedOf entry branch to }
 {
-    let start = entry.start;
-    let length = entry.length;
-    let address = entry.address;
     let more = child_bits(to, branch);
     if branch < 2 {
         return Label {
-            start: start + more,
-            length,
-            address,
+            start: entry.start + more,
+            ..entry
         };
     }
     Label {
-        start,
-        length,
-        address: address + more as u64,
+        address: entry.address + more as u64,
+        ..entry
     }
 }
 
@@ -142,32 +153,30 @@ fn mix(hash: Digest, bytes: u64) -> Digest
     }
 }
 
-// The three bytes from `at` on as one number.
-#[tactic(auto, unfolding(crate::specs::Tree::three_at))]
-fn three_bytes(source: &[u8], at: usize) -> u64
-    requires { at + 3 ≤ length source.now }
-    ensures value { result ≡ three_at source.now at }
+// Three bytes as one number.
+#[tactic(auto, unfolding(crate::specs::Tree::three_bytes))]
+fn three_bytes(three: [u8; 3]) -> u64
+    ensures value { result ≡ three_bytes_of three }
     ensures bound { result < 16777216 }
 {
-    u64::from(source[at]) + 256 * u64::from(source[at + 1]) + 65536 * u64::from(source[at + 2])
+    u64::from(three[0]) + 256 * u64::from(three[1]) + 65536 * u64::from(three[2])
 }
 
 fn hash(source: &[u8], label: Label) -> Digest
     requires { InText source.now label }
     ensures { result ≡ hash_of (spelled source.now label) }
 {
-    let mut at = label.start;
-    let end = at + label.length;
+    let start = label.start;
+    let end = start + label.length;
+    let (threes, rest) = source[start..end].as_chunks::<3>();
     let mut hash = Digest {
         first: 11400714819323198485,
         second: 13787848793156543929,
     };
-    // in a `for` over its threes the part would be divided by three first
-    while 3 <= end - at {
-        hash = mix(hash, three_bytes(source, at));
-        at += 3;
+    for three in threes {
+        hash = mix(hash, three_bytes(*three));
     }
-    for byte in &source[at..end] {
+    for byte in rest {
         hash = mix(hash, u64::from(*byte));
     }
     // so that the last bytes reach the lowest bits, by which the first branches are chosen
@@ -186,17 +195,17 @@ fn advance(source: &[u8], label: Label, path: PathBits) -> PathBits
     if 1 < bits {
         return PathBits { bits, rest, used };
     }
-    if 0 < rest {
+    if let Some(bits) = rest {
         return PathBits {
-            bits: rest,
-            rest: 0,
+            bits,
+            rest: None,
             used,
         };
     }
     if label.length <= used {
         return PathBits {
             bits: 256,
-            rest: 0,
+            rest: None,
             used,
         };
     }
@@ -204,12 +213,12 @@ fn advance(source: &[u8], label: Label, path: PathBits) -> PathBits
     PathBits {
         // with a 1 after them
         bits: 256 + u64::from(source[at]),
-        rest: 0,
+        rest: None,
         used: used + 1,
     }
 }
 
-// Whether two labels are spelled alike.
+// Whether two labels are spelled alike. Equality of labels would compare where they stand.
 fn same_spelling(source: &[u8], a: Label, b: Label) -> bool
     requires a_in_text { InText source.now a }
     requires b_in_text { InText source.now b }
@@ -222,7 +231,8 @@ fn same_spelling(source: &[u8], a: Label, b: Label) -> bool
     text_lexical::bytes::same(&source[a_start..a_end], &source[b_start..b_end])
 }
 
-// Whether an entry is of a label's spelling, given what the label's own entry holds for its length.
+// Whether an entry is of a label's spelling, given what the label's own entry holds for its length. This is no equality: each entry has
+// children and an address of its own.
 #[tactic(auto, unfolding(crate::specs::Tree::hits))]
 fn hits(source: &[u8], at: Label, key: usize, label: Label) -> bool
     requires entry_in_text { InText source.now (plain_of at) }
@@ -233,21 +243,6 @@ fn hits(source: &[u8], at: Label, key: usize, label: Label) -> bool
         return false;
     }
     same_spelling(source, plain(at), label)
-}
-
-// A search that has come to no entry as yet.
-fn started(bucket: usize, stage: Stage, path: PathBits, count: usize, entry: Label) -> Search
-    ensures { result ≡ started_at bucket stage path count entry }
-{
-    Search {
-        bucket,
-        stage,
-        path,
-        count,
-        entry,
-        last: count,
-        parent: entry,
-    }
 }
 
 // The place of a hash among so many: 32 bits of it, in proportion.
@@ -261,7 +256,17 @@ fn slot(hash: Digest, places: usize) -> usize
     (hash.first % 4294967296) as usize * places / 4294967296
 }
 
-// The search for a label among `count` others, from the root of its bucket on.
+// Where a search begins: before the root of its bucket, if it has one.
+fn first_stage(root: Option<usize>) -> Stage
+    ensures { result ≡ first_stage_of root }
+{
+    match root {
+        Some(place) => Stage::At(place),
+        None => Stage::Missing(None),
+    }
+}
+
+// The search for a label among others, from the root of its bucket on.
 pub(crate) fn begin(
     source: &[u8],
     roots: &[u32],
@@ -287,39 +292,27 @@ pub(crate) fn begin(
     };
     let path = PathBits {
         bits: PATH_END + hash.first % PATH_END,
-        rest: PATH_END + second % PATH_END,
+        rest: Some(PATH_END + second % PATH_END),
         used: 0,
     };
-    let slot = slot(hash, roots.len());
-    let root = roots[slot] as usize;
-    if root == 0 {
-        return started(slot, Stage::Missing, path, count, entry);
+    let bucket = slot(hash, roots.len());
+    Search {
+        bucket,
+        stage: first_stage(place_before(roots[bucket] as usize)),
+        path,
+        count,
+        entry,
     }
-    started(slot, Stage::At(root - 1), path, count, entry)
 }
 
-// An empty bucket gets a root: the label that is entered after `count` others.
-#[tactic(auto, unfolding(crate::specs::Tree::with_root_at))]
+// A bucket gets a root: the label that is entered after `count` others. It is stored as the number after its place (`place_before`). The roots
+// are lent, as the table is.
 pub(crate) fn set_root(roots: &mut [u32], bucket: usize, count: usize)
     requires bucket_in_roots { bucket < length roots.old }
     requires count_fits { count ≤ 1048576 }
-    ensures { roots.new ≡ with_root_at roots.old count bucket }
+    ensures { roots.new ≡ set roots.old bucket (count + 1) }
 {
-    if roots[bucket] == 0 {
-        roots[bucket] = (count + 1) as u32;
-    }
-}
-
-// A search that has ended at an entry.
-fn ended(search: Search, stage: Stage, last: usize, parent: Label) -> Search
-    ensures { result ≡ ended_at search stage last parent }
-{
-    Search {
-        stage,
-        last,
-        parent,
-        ..search
-    }
+    roots[bucket] = (count + 1) as u32;
 }
 
 // The search after the entry at a place.
@@ -332,20 +325,28 @@ pub(crate) fn visit(source: &[u8], search: Search, at: usize, entry: Label) -> S
     let path = search.path;
     let label = plain(own);
     if hits(source, entry, own.length, label) {
-        return ended(search, Stage::Known(at), at, entry);
+        return Search {
+            stage: Stage::Known(at),
+            ..search
+        };
     }
     let branch = path.bits % 4;
-    let to = link(entry, branch);
-    if to == 0 {
-        let parent = linked(entry, branch, search.count + 1);
-        return ended(search, Stage::Missing, at, parent);
-    }
-    Search {
-        stage: Stage::At(to - 1),
-        path: advance(source, label, path),
-        last: at,
-        parent: entry,
-        ..search
+    match link(entry, branch) {
+        Some(child) => Search {
+            stage: Stage::At(child),
+            path: advance(source, label, path),
+            ..search
+        },
+        None => {
+            let parent = Parent {
+                place: at,
+                entry: linked(entry, branch, search.count + 1),
+            };
+            Search {
+                stage: Stage::Missing(Some(parent)),
+                ..search
+            }
+        }
     }
 }
 
@@ -354,43 +355,24 @@ pub(crate) fn visit(source: &[u8], search: Search, at: usize, entry: Label) -> S
 pub(crate) fn found(search: Search) -> Result<usize, Gap>
     ensures { result ≡ found_of search }
 {
-    if let Stage::Known(at) = search.stage {
-        return Ok(at);
-    }
+    let parent = match search.stage {
+        Stage::Known(at) => return Ok(at),
+        Stage::At(_) => None,
+        Stage::Missing(parent) => parent,
+    };
     Err(Gap {
         bucket: search.bucket,
         entry: search.entry,
-        last: search.last,
-        parent: search.parent,
+        parent,
     })
 }
 
-// The gap of a label with an address, after `count` others: a label that becomes a root is stored again as its own parent.
-#[tactic(auto, unfolding(crate::specs::Tree::addressed))]
-pub(crate) fn addressed(gap: Gap, count: usize, address: u64) -> Gap
-    ensures { result ≡ addressed_at gap count address }
+// The entry of a gap's label, with an address.
+pub(crate) fn addressed(gap: Gap, address: u64) -> Label
+    ensures { result ≡ addressed_at gap address }
 {
-    let bare = gap.entry;
-    let entry = Label {
-        start: bare.start,
-        length: bare.length,
+    Label {
         address,
-    };
-    let bucket = gap.bucket;
-    let last = gap.last;
-    if last == count {
-        return Gap {
-            bucket,
-            entry,
-            last,
-            parent: entry,
-        };
-    }
-    let parent = gap.parent;
-    Gap {
-        bucket,
-        entry,
-        last,
-        parent,
+        ..gap.entry
     }
 }

@@ -13,7 +13,7 @@ use Rattle.std.specs.Prelude.{Some, None, Ok}
 use Rattle.std.specs.Prelude.{Option as Maybe, is_some as is_there}
 use Rattle.text_lexical.specs.Bytes.{Result, value, bytes, between, name_start, name_part, lower, blank, same, run, find, is_some, each}
 use Rattle.text_lexical.specs.Names.{Name, name, named, numbered, conventional, present}
-use Rattle.text_lexical.specs.Promised.{key_of, name_number, name_meant}
+use Rattle.text_lexical.specs.Promised.{packed, key_of, name_number, name_meant}
 use Rattle.text_lexical.specs.Words.{word_end, part, WordIs}
 use Rattle.text_lexical.specs.declared.name.Word.{Word}
 use Rattle.text_lexical.specs.declared.name.RegisterName.{RegisterName}
@@ -40,13 +40,12 @@ use Rattle.instruction.proofs.Lookup.{row-by-key}
 use Rattle.instruction_operands.proofs.Line.{six-places}
 use Rattle.instruction.specs.Kinds.{plain, identifier_kind, kind_of}
 use Rattle.image.specs.Assembling.{Context, nothing, codes, coding, after_label, read_kind, read_on}
-use Rattle.image_line.specs.Promised.{Reads, TailIs, is_label, Labels, OptionalLabel, WordAfter, EffectSettled, read_meant, end_of, LineIs, ReadsAs}
+use Rattle.image_line.specs.Promised.{Reads, TailIs, is_label, Labels, OptionalLabel, WordAfter, EffectSettled, read_meant, label_length, end_of, LineIs, ReadsAs}
 use Rattle.image_line.specs.declared.line.Effect.TheVariants.{Nothing, Codes}
 use Rattle.image_line.specs.declared.line.Read.{Read}
-use Rattle.image_line.specs.declared.line.Span.{Span}
 use Rattle.image_line.proofs.Answers.{answered}
 use Rattle.image_line.proofs.Starts.{starts-here, content-reads}
-use Rattle.image_line.proofs.Places.{some-same, not-some, stepped-reads, word-goes, colon-reads, blanks-after}
+use Rattle.image_line.proofs.Places.{stepped-reads, word-goes, colon-reads, blanks-after}
 
 -- ---- a mnemonic is no register's name
 
@@ -92,11 +91,11 @@ module _ (s : List ℕ) (at end : ℕ) (l : at < length s) (start : name_start (
         stepped-reads names ok s at (record { kind = Identifier; start = at; length = end - at }) end (solid-step names s at _ l (start-solid _ start) (word_at names ok s at end Other l start (omega (arith, word-goes s at l start)) (sym n)))
 
     -- A mnemonic that is found by the key of the word.
-    mnemonic-reads : NoMnemonics names → (key : ℕ) (m : Mnemonic) → Below s → key ≡ key_of (map lower (part s at (end - at))) → some (row_of m) ≡ find (λ q. eqb (key_of q.mnemonic) key) table
+    mnemonic-reads : NoMnemonics names → (key : ℕ) (m : Mnemonic) → Below s → Some key ≡ key_of (map lower (part s at (end - at))) → some (row_of m) ≡ find (λ q. eqb (packed q.mnemonic) key) table
         → (row_named (map lower (part s at (end - at))) ≡ some (row_of m)) × Reads names s at (identifier (part s at (end - at))) end
     mnemonic-reads free key m below k found_it =
         let u = part s at (end - at) in
-        let n : row_named (map lower u) ≡ some (row_of m) = row-by-key (map lower u) (lowered-below u (below-part at (end - at) s below)) ∙ sym (rw k at found_it) in
+        let n : row_named (map lower u) ≡ some (row_of m) = row-by-key (map lower u) (lowered-below u (below-part at (end - at) s below)) key k ∙ sym found_it in
         (n, name-reads (unnamed names free u (named names u) refl (some-row _ _ n)))
 
     -- A colon after a name that is no register's.
@@ -153,30 +152,30 @@ pub label_bound : (s : List ℕ) (at : ℕ) (w : Word) → WordIs s at w → at 
 label_bound s at w h l b i = (is-label-reads present present-naming s at w.end l b h.ends i).0
 
 -- The first word of a line, its label aside, whose key is a mnemonic's.
-pub word_row : {names : List Name} {s : List ℕ} {start key end : ℕ} {p : Maybe Span} (w : WordAfter names s start p key end) → Naming names → NoMnemonics names → Below s → (m : Mnemonic)
-    → some (row_of m) ≡ find (λ q. eqb (key_of q.mnemonic) key) table
+pub word_row : {names : List Name} {s : List ℕ} {start key end : ℕ} {p : Maybe ℕ} (w : WordAfter names s start p key end) → Naming names → NoMnemonics names → Below s → (m : Mnemonic)
+    → some (row_of m) ≡ find (λ q. eqb (packed q.mnemonic) key) table
     → (row_named (map lower (part s w.at (end - w.at))) ≡ some (row_of m)) × Reads names s w.at (identifier (part s w.at (end - w.at))) end
 word_row {names} {s} {key = key} {end = end} w ok free below m found_it = mnemonic-reads s w.at end w.in_text w.begins w.word.ends names ok free key m below w.word.key_is found_it
 
-pub word-ends : {names : List Name} {s : List ℕ} {start key end : ℕ} {p : Maybe Span} → WordAfter names s start p key end → end ≤ length s
+pub word-ends : {names : List Name} {s : List ℕ} {start key end : ℕ} {p : Maybe ℕ} → WordAfter names s start p key end → end ≤ length s
 word-ends {s = s} {end = end} w = word_in s w.at end w.in_text w.begins w.word.ends
 
 -- ---- the turns of the loop
 
 -- Where nothing stands before the first word, a label there is the line's, and blanks after it are skipped.
 pub after-label : (names : List Name) (s : List ℕ) (start at end next : ℕ) → at ≡ start → at < end → Labels names s at end (end + 1)
-    → next ≡ end + 1 + run blank (drop (end + 1) s) → OptionalLabel names s start (Some (record { start = at; length = end - at })) next
+    → next ≡ end + 1 + run blank (drop (end + 1) s) → OptionalLabel names s start (Some (end - at)) next
 after-label names s start at end next a b is q =
     let e : start + (end - at) ≡ end = omega arith in
-    (a, rw e (record { name = rw a at is.name; mark = blanks-after names s end (end + 1) next colon is.mark q }))
+    rw e (record { name = rw a at is.name; mark = blanks-after names s end (end + 1) next colon is.mark q })
 
-pub unlabelled : (names : List Name) (s : List ℕ) (start at : ℕ) (p : Maybe Span) → is_there p ≡ false → OptionalLabel names s start p at → at ≡ start
+pub unlabelled : (names : List Name) (s : List ℕ) (start at : ℕ) (p : Maybe ℕ) → is_there p ≡ false → OptionalLabel names s start p at → at ≡ start
 unlabelled names s start at None h a = a
-unlabelled names s start at (Some p) h a = absurd (true≢false h)
+unlabelled names s start at (Some n) h a = absurd (true≢false h)
 
-pub label-in : (names : List Name) (s : List ℕ) (start at : ℕ) (p : Maybe Span) → start ≤ length s → OptionalLabel names s start p at → at ≤ length s
+pub label-in : (names : List Name) (s : List ℕ) (start at : ℕ) (p : Maybe ℕ) → start ≤ length s → OptionalLabel names s start p at → at ≤ length s
 label-in names s start at None l a = omega arith
-label-in names s start at (Some p) l (a, is) = is.mark.in_text
+label-in names s start at (Some n) l is = is.mark.in_text
 
 -- ---- the line
 
@@ -280,49 +279,49 @@ written m u ts o named-is n r k =
 
 -- The line whose content starts at a place.
 module _ (names : List Name) (s : List ℕ) (start : ℕ) (q : StartsAt s start) where
-  line-some : (c : Context) (r : Read) (x : Line) → read_line names (rest_at s start) ≡ some x → read_meant s r ≡ read_on c (some x) → ((p : Span) → r.label ≡ Some p → p.start ≡ start)
-      → r.end ≡ end_at s start → ((p : Span) → r.label ≡ Some p → p.start + p.length ≤ length s) → EffectSettled r.effect → LineIs names s start c r
+  line-some : (c : Context) (r : Read) (x : Line) → read_line names (rest_at s start) ≡ some x → read_meant s r ≡ read_on c (some x) → r.start ≡ start
+      → r.end ≡ end_at s start → r.start + label_length r.label ≤ length s → EffectSettled r.effect → LineIs names s start c r
   unfolding end_of
-  line-some c r x e reads b n t k = answered names s start c r (rw e reads) (λ p f. b p f ∙ starts-here q) (rw (end_of, e) n) t k
+  line-some c r x e reads b n t k = answered names s start c r (rw e reads) (b ∙ starts-here q) (rw (end_of, e) n) t k
 
   -- A label alone, or nothing.
-  pub bare-line : (p : Maybe Span) (at e : ℕ) → OptionalLabel names s start p at → tokens names (left_at s at) ≡ some [] → e ≡ end_at s at
-      → ReadsAs names s start (record { label = p; effect = Ok Nothing; end = e })
+  pub bare-line : (p : Maybe ℕ) (at e : ℕ) → OptionalLabel names s start p at → tokens names (left_at s at) ≡ some [] → e ≡ end_at s at
+      → ReadsAs names s start (record { start = start; label = p; effect = Ok Nothing; end = e })
   bare-line None at e a none_left ends c =
       let t : tokens names (left_at s start) ≡ some [] = rw a at none_left in
-      line-some c (record { label = None; effect = Ok Nothing; end = e }) _ (tokens-line names s start [] q t (omega arith)) (sym (read_none c))
-      (λ p f. not-some f) (ends ∙ ap (end_at s) a) (λ p f. not-some f) tt
-  bare-line (Some p) at e (a, is) none_left ends c =
-      let v = part s start p.length in
-      let k : start + p.length - start ≡ p.length = omega arith in
+      line-some c (record { start = start; label = None; effect = Ok Nothing; end = e }) _ (tokens-line names s start [] q t (omega arith)) (sym (read_none c)) refl
+      (ends ∙ ap (end_at s) a) (omega (arith, q.in_text)) tt
+  bare-line (Some n) at e is none_left ends c =
+      let v = part s start n in
+      let k : start + n - start ≡ n = omega arith in
       let t : tokens names (left_at s start) ≡ some (identifier v ∷ colon ∷ []) = label-tokens (rw k at is.name.means) is.mark.means none_left in
-      line-some c (record { label = Some p; effect = Ok Nothing; end = e }) _ (tokens-line names s start (identifier v ∷ colon ∷ []) q t (omega arith))
-      (rw a (sym (read-label c v))) (λ x f. rw (← some-same f) a) (ends ∙ is.mark.ends ∙ is.name.ends) (λ x f. rw (← some-same f, a) is.name.in_text) tt
+      line-some c (record { start = start; label = Some n; effect = Ok Nothing; end = e }) _ (tokens-line names s start (identifier v ∷ colon ∷ []) q t (omega arith))
+      (sym (read-label c v)) refl (ends ∙ is.mark.ends ∙ is.name.ends) is.name.in_text tt
 
   -- An instruction, after a label or not.
-  instruction-line : (p : Maybe Span) (at end : ℕ) (m : Mnemonic) (u : List ℕ) (o : Kept) (e : ℕ) → OptionalLabel names s start p at → row_named (map lower u) ≡ some (row_of m)
+  instruction-line : (p : Maybe ℕ) (at end : ℕ) (m : Mnemonic) (u : List ℕ) (o : Kept) (e : ℕ) → OptionalLabel names s start p at → row_named (map lower u) ≡ some (row_of m)
       → Reads names s at (identifier u) end → TailIs names s end (row_of m).form o e
-      → ReadsAs names s start (record { label = p; effect = Ok (Codes m o); end = e })
+      → ReadsAs names s start (record { start = start; label = p; effect = Ok (Codes m o); end = e })
   instruction-line None at end m u o e a named-is rd tail c =
       let ts = tail.operands in
       let w = written m u ts o named-is tail.count tail.read tail.settled in
       let t : tokens names (left_at s start) ≡ some (identifier u ∷ ts) = rw a at (one_more_lem rd.means tail.means) in
-      line-some c (record { label = None; effect = Ok (Codes m o); end = e }) _ (tokens-line names s start (identifier u ∷ ts) q t (omega (arith, w.few)))
-      (sym (read-instruction c m o u ts w)) (λ p f. not-some f) (tail.ends ∙ rd.ends ∙ ap (end_at s) a) (λ p f. not-some f) w.settled
-  instruction-line (Some p) at end m u o e (a, is) named-is rd tail c =
+      line-some c (record { start = start; label = None; effect = Ok (Codes m o); end = e }) _ (tokens-line names s start (identifier u ∷ ts) q t (omega (arith, w.few)))
+      (sym (read-instruction c m o u ts w)) refl (tail.ends ∙ rd.ends ∙ ap (end_at s) a) (omega (arith, q.in_text)) w.settled
+  instruction-line (Some n) at end m u o e is named-is rd tail c =
       let ts = tail.operands in
-      let v = part s start p.length in
+      let v = part s start n in
       let w = written m u ts o named-is tail.count tail.read tail.settled in
-      let k : start + p.length - start ≡ p.length = omega arith in
+      let k : start + n - start ≡ n = omega arith in
       let t : tokens names (left_at s start) ≡ some (identifier v ∷ colon ∷ identifier u ∷ ts) = label-tokens (rw k at is.name.means) is.mark.means (one_more_lem rd.means tail.means) in
-      line-some c (record { label = Some p; effect = Ok (Codes m o); end = e }) _
+      line-some c (record { start = start; label = Some n; effect = Ok (Codes m o); end = e }) _
       (tokens-line names s start (identifier v ∷ colon ∷ identifier u ∷ ts) q t (omega (arith, w.few)))
-      (rw a (sym (read-labelled c m o u ts w v))) (λ x f. rw (← some-same f) a) (tail.ends ∙ rd.ends ∙ is.mark.ends ∙ is.name.ends) (λ x f. rw (← some-same f, a) is.name.in_text) w.settled
+      (sym (read-labelled c m o u ts w v)) refl (tail.ends ∙ rd.ends ∙ is.mark.ends ∙ is.name.ends) is.name.in_text w.settled
 
   -- The same by the line's first word and the mnemonic that its key is found at.
-  pub word_line : {p : Maybe Span} {key end : ℕ} → WordAfter names s start p key end → Naming names → NoMnemonics names → Below s → (m : Mnemonic)
-      → some (row_of m) ≡ find (λ q. eqb (key_of q.mnemonic) key) table → (o : Kept) (e : ℕ) → TailIs names s end (row_of m).form o e
-      → ReadsAs names s start (record { label = p; effect = Ok (Codes m o); end = e })
+  pub word_line : {p : Maybe ℕ} {key end : ℕ} → WordAfter names s start p key end → Naming names → NoMnemonics names → Below s → (m : Mnemonic)
+      → some (row_of m) ≡ find (λ q. eqb (packed q.mnemonic) key) table → (o : Kept) (e : ℕ) → TailIs names s end (row_of m).form o e
+      → ReadsAs names s start (record { start = start; label = p; effect = Ok (Codes m o); end = e })
   word_line {p} {key} {end} w ok free below m found_it o e tail =
       let (named-is, rd) = word_row w ok free below m found_it in
       instruction-line p w.at end m _ o e w.label named-is rd tail

@@ -5,39 +5,38 @@ use native.Mathlib.Omega.{arith}
 use native.Mathlib.Numerals.{add-one}
 use mathlib.Core.Bool.{true}
 use mathlib.Core.Option.{Option, none, some}
-use mathlib.Core.List.{List, ◌∷◌}
+use mathlib.Core.List.{List, [], ◌∷◌}
 use lib.ListN.{length, take, drop, get_or, length-drop}
 use Rattle.std.specs.Prelude.{Some, None, Ok}
 use Rattle.std.specs.Prelude.{Option as Maybe}
 use Rattle.text_lexical.specs.Bytes.{between, letter, digit, mark, name_start, name_part, blank, inside, every, before, run, is_some}
 use Rattle.text_lexical.specs.Names.{Name}
-use Rattle.text_lexical.specs.Promised.{name_number}
+use Rattle.text_lexical.specs.Promised.{index_of, name_number}
 use Rattle.text_lexical.specs.Words.{RegisterWordIs}
 use Rattle.text_lexical.specs.declared.name.RegisterName.TheVariants.{Is as Named}
 use Rattle.text_lexical.specs.declared.name.RegisterWord.{RegisterWord}
 use Rattle.text_lexical.specs.declared.number.Whole.{Whole}
 use Rattle.text_lexical.proofs.Tests.{both, or_left}
 use Rattle.text_lexical.proofs.Strings.{every-mono, every-run, take-run, run-yes, run-le}
-use Rattle.text.specs.Tokens.{Token, is_identifier, is_register, comma, colon, opening, closing, mark_token, infront, tokens}
+use Rattle.text.specs.Tokens.{Token, register, is_identifier, is_register, comma, colon, opening, closing, mark_token, infront, tokens}
 use Rattle.text.specs.NameSets.{Naming}
 use Rattle.text.specs.Places.{left_at, end_at}
-use Rattle.text.specs.Promised.{meant, spelling, extracted, scan_at, token_at, number_start, NoWord}
+use Rattle.text.specs.Promised.{meant, spelling, extracted, ending_at, scan_at, token_at, number_start, NoWord}
 use Rattle.text.specs.declared.lexer.Token.{Token as KeptToken}
 use Rattle.text.specs.declared.lexer.Kind.TheVariants.{Register as RegisterKind, Comma, Colon, LParen, RParen}
 use Rattle.text.specs.declared.lexer.Scan.TheVariants.{Found}
 use Rattle.text.proofs.Scanning.{register-identifier}
-use Rattle.text.proofs.Left.{start-solid, blank-inside, blanks_at, end_on}
+use Rattle.text.proofs.Left.{start-solid, blank-inside, blanks_at, none_read, end_on}
+use Rattle.text.proofs.Endings.{ending-is}
 use Rattle.text.proofs.Fronts.{part-cons, word_at}
 use Rattle.text.proofs.Meanings.{extracted-for}
 use Rattle.instruction.proofs.Results.{extracted-is}
 use Rattle.text.proofs.Stepping.{solid-step, mark-step, number_step, blank_step, stepped}
 use Rattle.instruction.specs.Table.{Separator, a-comma, an-opening, a-closing}
 use Rattle.instruction.specs.Operands.{mark_byte, separator_byte}
-use Rattle.instruction.specs.Forms.{mark_of}
 use Rattle.instruction.specs.declared.form.Mark.{Mark}
-use Rattle.instruction.specs.declared.form.Operand.{Operand}
-use Rattle.instruction.specs.declared.form.Operand.TheVariants.{RegisterComma, NumberOpening, RegisterClosing, Register, Number}
-use Rattle.image_line.specs.Promised.{Reads, RegisterIs, NumberRead, MarkRead}
+use Rattle.instruction_operands.specs.Sources.{Separates, NumberIn}
+use Rattle.image_line.specs.Promised.{Reads}
 
 -- A value that is there is no other, and one that is missing is none.
 pub some-same : {A : Type 0} {a b : A} → Some a ≡ Some b → a ≡ b
@@ -68,6 +67,10 @@ blanks-after names s at end next t r q =
       ends = ap (end_at s) q ∙ end_on s end (run blank (drop end s)) (omega (arith, r.in_text)) i ∙ r.ends;
     }
 
+-- Nothing is left of the line, which ends there.
+pub ended : (names : List Name) (s : List ℕ) (at end : ℕ) → Some end ≡ ending_at s at → (tokens names (left_at s at) ≡ some []) × (end ≡ end_at s at)
+ended names s at end e = let (none_left, ends) = ending-is s at (Some end) e in (none_read names s at none_left, ends)
+
 -- ---- registers
 
 some-named : (o : Option Name) (n : ℕ) → name_number o ≡ some (some n) → is_some o ≡ true
@@ -85,11 +88,10 @@ unfolding name_part
 word-goes s at l h = rw (add-one at) (run-yes name_part s at l (or_left (name_start (get_or s at 0)) (digit (get_or s at 0)) h))
 
 -- A word past blanks that names a register.
-pub register-reads : (names : List Name) (ok : Naming names) (s : List ℕ) (from at : ℕ) (r : Maybe RegisterWord) → from ≤ length s → at ≡ from + run blank (drop from s) → RegisterWordIs names s at r
-    → RegisterIs names s from r
+pub register-reads : (names : List Name) (ok : Naming names) (s : List ℕ) (from at : ℕ) (r : RegisterWord) → from ≤ length s → at ≡ from + run blank (drop from s) → RegisterWordIs names s at (Some r)
+    → Reads names s from (register (some (index_of r.register))) r.end
 unfolding is_register
-register-reads names ok s from at None fl q h = tt
-register-reads names ok s from at (Some r) fl q (room, g, m, n) =
+register-reads names ok s from at r fl q (room, g, m, n) =
     let e = r.end in
     let l : at < length s = omega (arith, run-le name_part (drop at s), length-drop at s) in
     let i = register-identifier names ok.identifiers (take (e - at) (drop at s)) (some-named _ _ n) in
@@ -100,16 +102,10 @@ register-reads names ok s from at (Some r) fl q (room, g, m, n) =
 -- ---- numbers
 
 pub number-reads : (names : List Name) (ok : Naming names) (s : List ℕ) (from at : ℕ) → from ≤ length s → at ≡ from + run blank (drop from s) → at < length s
-    → number_start (get_or s at 0) ≡ true → (t : KeptToken) (next : ℕ) → Found t next ≡ token_at names s at → (w : Whole) → Ok w ≡ extracted t.kind → NumberRead names s from w next
+    → number_start (get_or s at 0) ≡ true → (t : KeptToken) (next : ℕ) → Found t next ≡ token_at names s at → (w : Whole) → Ok w ≡ extracted t.kind → (k : Token) × NumberIn w k × Reads names s from k next
 number-reads names ok s from at fl q l b t next f w e =
     let (z, (v, k)) = extracted-is _ (e ∙ extracted-for t.kind (spelling s t)) in
-    record {
-      token = _;
-      number = z;
-      number_is = v;
-      settled = k;
-      reads = stepped-reads names ok s from t next (blank_step names s from at _ fl q l (number_step names s at _ l b f));
-    }
+    (_, record { number = z; means = v; settled = k }, stepped-reads names ok s from t next (blank_step names s from at _ fl q l (number_step names s at _ l b f)))
 
 -- ---- marks
 
@@ -130,18 +126,14 @@ colon-reads names ok s at l b = stepped-reads names ok s at _ (at + 1) (mark-ste
 
 -- The mark that follows an operand is one of three.
 module _ (names : List Name) (ok : Naming names) (s : List ℕ) (from at : ℕ) (fl : from ≤ length s) (q : at ≡ from + run blank (drop from s)) (l : at < length s) where
-  place-reads : (m : Separator) → get_or s at 0 ≡ separator_byte m → MarkRead names s from (separator_byte m) (at + 1)
+  place-reads : (m : Separator) → get_or s at 0 ≡ separator_byte m → (k : Token) × (mark_byte k ≡ separator_byte m) × Reads names s from k (at + 1)
   unfolding mark mark_token mark_byte
   place-reads a-comma b =
-      record { token = comma; mark_is = refl; reads = stepped-reads names ok s from _ (at + 1) (blank_step names s from at _ fl q l (mark-step names ok s at Comma comma l (rw b (mark-plain a-comma)) (rw b) (rw b) (λ u. refl) (λ u. refl))) }
+      (comma, refl, stepped-reads names ok s from _ (at + 1) (blank_step names s from at _ fl q l (mark-step names ok s at Comma comma l (rw b (mark-plain a-comma)) (rw b) (rw b) (λ u. refl) (λ u. refl))))
   place-reads an-opening b =
-      record { token = opening; mark_is = refl; reads = stepped-reads names ok s from _ (at + 1) (blank_step names s from at _ fl q l (mark-step names ok s at LParen opening l (rw b (mark-plain an-opening)) (rw b) (rw b) (λ u. refl) (λ u. refl))) }
+      (opening, refl, stepped-reads names ok s from _ (at + 1) (blank_step names s from at _ fl q l (mark-step names ok s at LParen opening l (rw b (mark-plain an-opening)) (rw b) (rw b) (λ u. refl) (λ u. refl))))
   place-reads a-closing b =
-      record { token = closing; mark_is = refl; reads = stepped-reads names ok s from _ (at + 1) (blank_step names s from at _ fl q l (mark-step names ok s at RParen closing l (rw b (mark-plain a-closing)) (rw b) (rw b) (λ u. refl) (λ u. refl))) }
+      (closing, refl, stepped-reads names ok s from _ (at + 1) (blank_step names s from at _ fl q l (mark-step names ok s at RParen closing l (rw b (mark-plain a-closing)) (rw b) (rw b) (λ u. refl) (λ u. refl))))
 
-  pub mark-reads : (o : Operand) (m : Mark) → mark_of o ≡ Some m → get_or s at 0 ≡ m.byte → MarkRead names s from m.byte (at + 1)
-  mark-reads RegisterComma m e b = rw (← some-same e) (place-reads a-comma (rw (← some-same e) at b))
-  mark-reads NumberOpening m e b = rw (← some-same e) (place-reads an-opening (rw (← some-same e) at b))
-  mark-reads RegisterClosing m e b = rw (← some-same e) (place-reads a-closing (rw (← some-same e) at b))
-  mark-reads Register m e b = not-some e
-  mark-reads Number m e b = not-some e
+  pub mark-reads : (m : Mark) → Separates m → get_or s at 0 ≡ m.byte → (k : Token) × (mark_byte k ≡ m.byte) × Reads names s from k (at + 1)
+  mark-reads m (k, e) b = rw e (place-reads k (rw e at b))

@@ -50,7 +50,7 @@ module _ (s : List ℕ) (from start : ℕ) (l : from ≤ length s) (q : start �
         record {
           is = rw (same_line_lem, starts, same_end) at h.is;
           reads = rw same_line_lem at h.reads;
-          starts = λ p e. h.starts p e ∙ starts;
+          starts = h.starts ∙ starts;
           ends = h.ends ∙ same_end;
           in_text = h.in_text;
         }

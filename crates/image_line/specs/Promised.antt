@@ -1,34 +1,30 @@
 -- What the line at a place of a source reads as, and what the functions that read it promise. `LineIs` is the promise of the one public
 -- function; the other sections are about the two private ways to it, from the line's bytes at once and by the record of its tokens. Where
 -- the first finds something else at a place, nothing is promised of that answer: the record decides. Quotations are document 01's.
-use Rattle.std.specs.Prelude.{ℕ, ◌+◌, ◌-◌, ◌≤◌, ◌<◌, ◌≡◌, Bool, true, not, ◌&&◌, eqb, List, [], length, get_or, ℤ, Some, None, Ok, Err}
+use Rattle.std.specs.Prelude.{ℕ, ◌+◌, ◌-◌, ◌≤◌, ◌<◌, ◌≡◌, Bool, true, not, ◌&&◌, eqb, List, [], ◌∷◌, length, get_or, Some, None, Ok, Err}
 use Rattle.std.specs.Prelude.{Option as Maybe, Result as Answer}
 use Rattle.std.proofs.Math.Option.{Option, none, some}
 use Rattle.text_lexical.specs.Bytes.{value, name_start, is_some}
 use Rattle.text_lexical.specs.Names.{Name, named}
-use Rattle.text_lexical.specs.Promised.{index_of, name_number, whole_for}
+use Rattle.text_lexical.specs.Promised.{name_number}
 use Rattle.text_lexical.specs.Words.{part, WordIs}
-use Rattle.text_lexical.specs.declared.name.RegisterWord.{RegisterWord}
-use Rattle.text_lexical.specs.declared.number.Whole.{Whole}
-use Rattle.text.specs.Tokens.{Token, identifier, register, colon, infront, tokens}
+use Rattle.text.specs.Tokens.{Token, identifier, colon, infront, tokens}
 use Rattle.text.specs.Lines.{indent, kept as most-kept, read_line}
 use Rattle.text.specs.Places.{rest_at, left_at, end_at}
-use Rattle.text.specs.Values.{read_number}
-use Rattle.text.specs.Promised.{firsts, filler, spelling}
+use Rattle.text.specs.Promised.{filler, spelling}
 use Rattle.text.specs.declared.parser.Line.{Line as Record}
 use Rattle.instruction.specs.Table.{places, Form}
-use Rattle.instruction.specs.Operands.{mark_byte, read_operands}
+use Rattle.instruction.specs.Operands.{read_operands}
 use Rattle.instruction.specs.Promised.{mnemonic_for, operands_meant, operands_for, SettledFor, parts_meant, Settled}
 use Rattle.instruction.specs.declared.instruction.Operands.{Operands}
-use Rattle.instruction.specs.declared.form.Mark.{Mark}
 use Rattle.instruction_operands.specs.Promised.{Kept}
-use Rattle.instruction.specs.Kinds.{Kind, empty, labelled, config, ignored, plain, kind_of}
+use Rattle.instruction.specs.Kinds.{Kind, empty, labelled, config, ignored, plain}
 use Rattle.refusal.specs.Refusals.{number_of, refusal_at}
 use Rattle.refusal.specs.declared.refusal.Refusal.{Refusal}
 use Rattle.image.specs.Assembling.{Context, Effect as MeantEffect, nothing, sets, codes, faulty, Read as MeantRead, read_on}
-use Rattle.image.specs.Promised.{settings_meant, config_for, record_meant}
+use Rattle.image.specs.Promised.{settings_meant, config_for}
 use Rattle.image.specs.declared.config.Config.{Config}
-use Rattle.image_line.specs.declared.operand.NumberAt.{NumberAt}
+use Rattle.image_line.specs.declared.bytes.Bytes.{Bytes}
 use Rattle.image_line.specs.declared.fast.Tail.{Tail}
 use Rattle.image_line.specs.declared.fast.FirstWord.{FirstWord}
 use Rattle.image_line.specs.declared.record.LineKind.{LineKind}
@@ -36,7 +32,6 @@ use Rattle.image_line.specs.declared.record.LineKind.TheVariants.{Empty as Empty
 use Rattle.image_line.specs.declared.line.Effect.{Effect}
 use Rattle.image_line.specs.declared.line.Effect.TheVariants.{Nothing, Sets, Codes}
 use Rattle.image_line.specs.declared.line.Read.{Read}
-use Rattle.image_line.specs.declared.line.Span.{Span}
 
 -- ---- a token at a place
 
@@ -47,41 +42,23 @@ pub record Reads (names : List Name) (s : List ℕ) (at : ℕ) (t : Token) (next
   pub in_text : next ≤ length s
   pub ends : end_at s next ≡ end_at s at
 
-abbrev pub RegisterIs : List Name → List ℕ → ℕ → Maybe RegisterWord → Type 0
-RegisterIs names s at (Some w) = Reads names s at (register (some (index_of w.register))) w.end
-RegisterIs names s at None = Unit {0}
+-- ---- the bytes of a line as a source of operands
 
--- A number at a place: no part of its answer is free.
-pub record NumberRead (names : List Name) (s : List ℕ) (at : ℕ) (w : Whole) (next : ℕ) : Type 0 where
-  pub token : Token
-  pub number : ℤ
-  pub number_is : read_number token ≡ value number
-  pub settled : w ≡ whole_for number
-  pub reads : Reads names s at token next
+-- Tokens, before those to come.
+unfoldable pub along : List Token → Option (List Token) → Option (List Token)
+along [] o = o
+along (t ∷ ts) o = infront t (along ts o)
 
-abbrev pub NumberIs : List Name → List ℕ → ℕ → Maybe NumberAt → Type 0
-NumberIs names s at (Some n) = NumberRead names s at n.number n.next
-NumberIs names s at None = Unit {0}
+-- The tokens of a line from one place up to another.
+pub record Passed (names : List Name) (s : List ℕ) (from : ℕ) (pre : List Token) (at : ℕ) : Type 0 where
+  pub means : tokens names (left_at s from) ≡ along pre (tokens names (left_at s at))
+  pub place : at ≤ length s
+  pub ends : end_at s at ≡ end_at s from
 
--- A mark of a byte at a place.
-pub record MarkRead (names : List Name) (s : List ℕ) (at byte next : ℕ) : Type 0 where
-  pub token : Token
-  pub mark_is : mark_byte token ≡ byte
-  pub reads : Reads names s at token next
-
--- The mark that follows an operand, up to a place.
-abbrev pub MarkUpTo : List Name → List ℕ → ℕ → Maybe Mark → ℕ → Type 0
-MarkUpTo names s at None next = next ≡ at
-MarkUpTo names s at (Some m) next = MarkRead names s at m.byte next
-
-abbrev pub AfterMarkIs : List Name → List ℕ → ℕ → Maybe Mark → Maybe ℕ → Type 0
-AfterMarkIs names s at m (Some next) = MarkUpTo names s at m next
-AfterMarkIs names s at m None = Unit {0}
-
--- Nothing is left of the line, which ends there.
-abbrev pub EndIs : List Name → List ℕ → ℕ → Maybe ℕ → Type 0
-EndIs names s at (Some e) = (tokens names (left_at s at) ≡ some []) × (e ≡ end_at s at)
-EndIs names s at None = Unit {0}
+-- They were taken, and the bytes are the same.
+pub record BytesTook (names : List Name) (s : Bytes) (pre : List Token) (t : Bytes) : Type 0 where
+  pub same_text : t.text.now ≡ s.text.now
+  pub passed : Passed names s.text.now s.at pre t.at
 
 -- ---- the operands of a form
 
@@ -110,25 +87,25 @@ pub record Labels (names : List Name) (s : List ℕ) (at end next : ℕ) : Type 
   pub mark : Reads names s end colon next
 
 -- What stands between the start of a line's content and a place: nothing, or a label.
-abbrev pub OptionalLabel : List Name → List ℕ → ℕ → Maybe Span → ℕ → Type 0
+abbrev pub OptionalLabel : List Name → List ℕ → ℕ → Maybe ℕ → ℕ → Type 0
 OptionalLabel names s start None at = at ≡ start
-OptionalLabel names s start (Some p) at = (p.start ≡ start) × Labels names s start (start + p.length) at
+OptionalLabel names s start (Some n) at = Labels names s start (start + n) at
 
 -- The first word of a line, its label aside;
-pub record WordAfter (names : List Name) (s : List ℕ) (start : ℕ) (l : Maybe Span) (key end : ℕ) : Type 0 where
+pub record WordAfter (names : List Name) (s : List ℕ) (start : ℕ) (l : Maybe ℕ) (key end : ℕ) : Type 0 where
   pub at : ℕ
   pub label : OptionalLabel names s start l at
   pub in_text : at < length s
   pub begins : name_start (get_or s at 0) ≡ true
-  pub word : WordIs s at (record { key = key; end = end })
+  pub word : WordIs s at (record { key = Some key; end = end })
 
--- or the place where none begins.
-pub record NoWordAfter (names : List Name) (s : List ℕ) (start : ℕ) (l : Maybe Span) (at : ℕ) : Type 0 where
+-- or the place where none with a key begins.
+pub record NoWordAfter (names : List Name) (s : List ℕ) (start : ℕ) (l : Maybe ℕ) (at : ℕ) : Type 0 where
   pub label : OptionalLabel names s start l at
   pub in_text : at ≤ length s
 
--- By the key of a word, if one begins there.
-abbrev pub WordIf : List Name → List ℕ → ℕ → Maybe Span → Maybe ℕ → ℕ → Type 0
+-- By the key of a word, if one with a key begins there.
+abbrev pub WordIf : List Name → List ℕ → ℕ → Maybe ℕ → Maybe ℕ → ℕ → Type 0
 WordIf names s start l (Some key) end = WordAfter names s start l key end
 WordIf names s start l None at = NoWordAfter names s start l at
 
@@ -158,14 +135,19 @@ pub record EffectIs (e : Answer Effect Refusal) (m : MeantEffect) : Type 0 where
   pub means : effect_meant e ≡ m
   pub settled : EffectSettled e
 
--- The bytes of a label, if there is one.
-abbrev pub label_meant : List ℕ → Maybe Span → Option (List ℕ)
-label_meant s None = none
-label_meant s (Some p) = some (part s p.start p.length)
+-- The bytes of a label at a place, if there is one.
+abbrev pub label_meant : List ℕ → ℕ → Maybe ℕ → Option (List ℕ)
+label_meant s start None = none
+label_meant s start (Some n) = some (part s start n)
+
+-- How many bytes it takes.
+abbrev pub label_length : Maybe ℕ → ℕ
+label_length None = 0
+label_length (Some n) = n
 
 -- What a line that was read means.
 abbrev pub read_meant : List ℕ → Read → MeantRead
-read_meant s r = record { label = label_meant s r.label; effect = effect_meant r.effect }
+read_meant s r = record { label = label_meant s r.start r.label; effect = effect_meant r.effect }
 
 -- Where the line at a place ends; a bad token leaves that open, and the start of its content is answered.
 unfoldable pub end_of : List Name → List ℕ → ℕ → ℕ
@@ -180,25 +162,24 @@ effect_for (sets s) = Ok (Sets (config_for s))
 effect_for (codes i) = Ok (Codes (mnemonic_for i.row.mnemonic) (operands_for (record { registers = i.registers; number = i.number })))
 effect_for (faulty n) = Err (refusal_at n)
 
--- A label stands where the line's content starts.
-abbrev pub label_for : ℕ → Option (List ℕ) → Maybe Span
-label_for start none = None
-label_for start (some u) = Some (record { start = start; length = length u })
+abbrev pub label_for : Option (List ℕ) → Maybe ℕ
+label_for none = None
+label_for (some u) = Some (length u)
 
 abbrev pub answer_for : MeantRead → ℕ → ℕ → Read
-answer_for m start end = record { label = label_for start m.label; effect = effect_for m.effect; end = end }
+answer_for m start end = record { start = start; label = label_for m.label; effect = effect_for m.effect; end = end }
 
 -- The answer for the line at a place, with what those above it leave.
 abbrev pub line_read : List Name → List ℕ → ℕ → Context → Read
 line_read names s from c = answer_for (read_on c (read_line names (rest_at s from))) (from + indent (rest_at s from)) (end_of names s from)
 
--- It is answered, and means what the line reads as; its label is a part of the text.
+-- It is answered, and means what the line reads as; its label, which stands where its content starts, is a part of the text.
 pub record LineIs (names : List Name) (s : List ℕ) (from : ℕ) (c : Context) (r : Read) : Type 0 where
   pub is : r ≡ line_read names s from c
   pub reads : read_meant s r ≡ read_on c (read_line names (rest_at s from))
-  pub starts : (p : Span) → r.label ≡ Some p → p.start ≡ from + indent (rest_at s from)
+  pub starts : r.start ≡ from + indent (rest_at s from)
   pub ends : r.end ≡ end_of names s from
-  pub in_text : (p : Span) → r.label ≡ Some p → p.start + p.length ≤ length s
+  pub in_text : r.start + label_length r.label ≤ length s
 
 -- ---- the fast path
 
@@ -223,16 +204,3 @@ kind_meant s l LabelKind = labelled (spelling s (get_or l.tokens 0 filler))
 kind_meant s l ConfigKind = config
 kind_meant s l Ignored = ignored
 kind_meant s l Plain = plain
-
--- A record whose line begins with a label.
-pub record Labelled (s : List ℕ) (l : Record) : Type 0 where
-  pub recorded : Recorded s l
-  pub reads_label : labelled (spelling s (get_or l.tokens 0 filler)) ≡ kind_of (firsts s l.tokens l.count)
-
--- A line by its record, where its content starts at a place.
-pub record RecordIs (s : List ℕ) (l : Record) (start : ℕ) (c : Context) (r : Read) : Type 0 where
-  pub reads : read_meant s r ≡ read_on c (some (record_meant s l))
-  pub starts : (p : Span) → r.label ≡ Some p → p.start ≡ start
-  pub ends : r.end ≡ l.end
-  pub in_text : (p : Span) → r.label ≡ Some p → p.start + p.length ≤ length s
-  pub settled : EffectSettled r.effect

@@ -1,7 +1,7 @@
 // The reading of one line: from its bytes at once where it is an instruction or a label or empty, and by the record of its tokens else.
 #![tactic(auto)]
 
+mod bytes;
 mod fast;
 pub mod line;
-mod operand;
 mod record;

@@ -9,34 +9,31 @@ use instruction::opcode::Mnemonic;
 use refusal::refusal::Refusal;
 use text_lexical::bytes::Margin;
 
-// A part of the source.
-#[derive(Clone, Copy)]
-pub struct Span {
-    pub start: usize,
-    pub length: usize,
-}
-
-// What a line does, its label aside: nothing, or one of two things.
+// What a line does, its label aside: nothing, or one of two things. With an `Option` of those two it would be matched twice.
 #[derive(Clone, Copy)]
 pub enum Effect {
     Nothing,
     Sets(Config),
+    // Named, as an instruction's parts are; the first walk takes neither.
     Codes {
         mnemonic: Mnemonic,
         operands: Operands,
     },
 }
 
-// What a line reads as: its label, which stands where the line's content starts; what the line does then, or why it is refused; and where it
-// ends. Of a line with a bad token nobody asks for the end, and the content's start stands there.
+// What a line reads as: where its content starts; the length of its label, which stands there, if it has one; what the line does then, or why
+// it is refused; and where it ends. Of a line with a bad token nobody asks for the end, and the content's start stands there: an
+// `Option` would be tested at every line, for the sake of one that is refused.
 #[derive(Clone, Copy)]
 pub struct Read {
-    pub label: Option<Span>,
+    pub start: usize,
+    pub label: Option<usize>,
     pub effect: Result<Effect, Refusal>,
     pub end: usize,
 }
 
-// The line that begins at `at`, where the settings are these. Both ways of reading it begin after its margin.
+// The line that begins at `at`, where the settings are these. Both ways of reading it begin after its margin. Source, place and settings come
+// from the walks, which change two of them at each line.
 pub fn read_line(source: &[u8], at: usize, config: Config) -> Read
     requires { at ≤ length source.now }
     ensures { LineIs present source.now at (context_for config) result }

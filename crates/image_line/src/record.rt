@@ -1,16 +1,18 @@
-// A line by the record of its tokens: what it is, and what it reads as.
-ghost use Rattle.std.specs.Prelude.{◌≡◌, ◌≤◌, length, get_or};
+// A line by the record of its tokens: what it is, and what it reads as. `Recorded` is about a record and the source that is lent beside it, so
+// it is no invariant of either, and each function asks for it. A struct of both would be taken apart again for `parse_instruction` and
+// `parse_config`, which are lent the two apart.
+ghost use Rattle.std.specs.Prelude.{◌≡◌, ◌≤◌, length};
 ghost use Rattle.text_lexical.specs.Names.{present};
-ghost use Rattle.text.specs.Promised.{firsts, filler};
+ghost use Rattle.text.specs.Promised.{firsts};
 ghost use Rattle.instruction.specs.Operands.{read_instruction, behind};
 ghost use Rattle.image.specs.Settings.{configured};
 ghost use Rattle.instruction.specs.Kinds.{kind_of};
-ghost use Rattle.image.specs.Assembling.{Context, setting, coding, after_label};
+ghost use Rattle.image.specs.Assembling.{setting, coding, after_label};
 ghost use Rattle.image.specs.Promised.{record_meant, settings_meant};
 ghost use Rattle.text.specs.Places.{StartsAt};
-ghost use Rattle.image_line.specs.Promised.{Recorded, Labelled, kind_meant, context_for, EffectIs, RecordIs, LineIs};
+ghost use Rattle.image_line.specs.Promised.{Recorded, kind_meant, context_for, EffectIs, LineIs};
 
-use crate::line::{Effect, Read, Span};
+use crate::line::{Effect, Read};
 use image::config::Config;
 use refusal::refusal::Refusal;
 use text::lexer::Kind;
@@ -25,6 +27,7 @@ enum LineKind {
     Plain,
 }
 
+#[tactic(auto, using(crate::proofs::Records::kind_none, crate::proofs::Records::kind_alone, crate::proofs::Records::kind_label, crate::proofs::Records::kind_second, crate::proofs::Records::kind_plain))]
 fn line_kind(source: &[u8], line: &Line) -> LineKind
     requires { Recorded source.now line.now }
     ensures { kind_meant source.now line.now result ≡ kind_of (firsts source.now line.now.tokens line.now.count) }
@@ -56,7 +59,9 @@ fn line_kind(source: &[u8], line: &Line) -> LineKind
     }
 }
 
-// The instruction that begins at a token of a line's record, or why there is none.
+// The instruction that begins at a token of a line's record, or why there is none: at the first, or at the third after a label. A type for
+// the two would say no more than the bound.
+#[tactic(auto, unfolding(image::specs::Assembling::coding))]
 fn read_instruction(source: &[u8], line: &Line, at: usize) -> Result<Effect, Refusal>
     requires recorded { Recorded source.now line.now }
     requires place_in_range { at ≤ 2 }
@@ -70,6 +75,7 @@ fn read_instruction(source: &[u8], line: &Line, at: usize) -> Result<Effect, Ref
 }
 
 // A `.config` line.
+#[tactic(auto, unfolding(image::specs::Assembling::setting))]
 fn read_config(source: &[u8], line: &Line, config: Config) -> Result<Effect, Refusal>
     requires { Recorded source.now line.now }
     ensures { EffectIs result (setting (configured (settings_meant config) (record_meant source.now line.now))) }
@@ -79,6 +85,7 @@ fn read_config(source: &[u8], line: &Line, config: Config) -> Result<Effect, Ref
 }
 
 // What follows a label: nothing, or an instruction.
+#[tactic(auto, using(crate::proofs::Records::after_none, crate::proofs::Records::after_some))]
 fn after_label(source: &[u8], line: &Line) -> Result<Effect, Refusal>
     requires recorded { Recorded source.now line.now }
     requires two_tokens { 2 ≤ line.now.count }
@@ -90,42 +97,34 @@ fn after_label(source: &[u8], line: &Line) -> Result<Effect, Refusal>
     read_instruction(source, line, 2)
 }
 
-// A line that begins with a label; an instruction may follow it.
-fn read_label(source: &[u8], line: &Line) -> Read
-    requires { Labelled source.now line.now }
-    ensures { (c : Context) → RecordIs source.now line.now (get_or line.now.tokens 0 filler).start c result }
-{
-    let label = line.tokens[0];
-    Read {
-        label: Some(Span {
-            start: label.start,
-            length: label.length,
-        }),
-        effect: after_label(source, line),
-        end: line.end,
-    }
-}
-
 // The line whose content starts at `start`, by the record of its tokens.
+#[tactic(auto, using(crate::proofs::Records::recorded, crate::proofs::Records::two_tokens))]
 pub(crate) fn read_record(source: &[u8], start: usize, config: Config) -> Read
     requires { StartsAt source.now start }
     ensures { LineIs present source.now start (context_for config) result }
 {
     match text::parser::tokenize(source, start) {
         Err(refusal) => Read {
+            start,
             label: None,
             effect: Err(refusal),
             end: start,
         },
         Ok(line) => {
+            let mut label = None;
             let effect = match line_kind(source, &line) {
                 LineKind::Empty | LineKind::Ignored => Ok(Effect::Nothing),
                 LineKind::Config => read_config(source, &line, config),
-                LineKind::Label => return read_label(source, &line),
+                LineKind::Label => {
+                    // the first token stands where the content starts
+                    label = Some(line.tokens[0].length);
+                    after_label(source, &line)
+                }
                 LineKind::Plain => read_instruction(source, &line, 0),
             };
             Read {
-                label: None,
+                start,
+                label,
                 effect,
                 end: line.end,
             }

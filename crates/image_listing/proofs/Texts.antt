@@ -15,7 +15,7 @@ use Rattle.std.specs.Simd.{first_chunks}
 use Rattle.text_lexical.specs.Bytes.{Result, value, refused, bytes}
 use Rattle.text_lexical.specs.Numbers.{unlittle, decimal}
 use Rattle.text_writer.specs.Sinks.{SinkLaws}
-use Rattle.text_writer.proofs.Sinks.{Left, left-next}
+use Rattle.text_writer.proofs.Sinks.{Left, left-next, Two, Three}
 use Rattle.instruction.specs.Operands.{Instruction}
 use Rattle.instruction.specs.Words.{instruction_of}
 use Rattle.instruction.specs.Text.{instruction_text}
@@ -33,9 +33,9 @@ use Rattle.image.proofs.Images.{words-length}
 use Rattle.image.proofs.Settings.{good}
 use Rattle.image.proofs.Listed.{Sound, sound, customary, code-sized}
 use Rattle.image.proofs.Lengths.{line-length, word_line, settings-short}
-use Rattle.image_listing.specs.Promised.{error_meant, listing_meant, PutsWords, Lists}
+use Rattle.image_listing.specs.Promised.{error_meant, PutsWords, Lists}
 use Rattle.image_listing.specs.declared.disassembler.ListError.{ListError}
-use Rattle.image_listing.specs.declared.disassembler.ListError.TheVariants.{Refused as RefusedListing, Faulty, TooShort as TextTooShort}
+use Rattle.image_listing.specs.declared.disassembler.ListError.TheVariants.{TooShort as TextTooShort}
 
 -- ---- words
 
@@ -130,9 +130,17 @@ data-line s = line_text (bytes ".config data_limbs " ++ decimal s.data_limbs)
 abbrev pub addr-line : Settings → List ℕ
 addr-line s = line_text (bytes ".config addr_limbs " ++ decimal s.addr_limbs)
 
-pub settings-lines : (s : Settings) → settings_text s ≡ limb-line s ++ (data-line s ++ addr-line s)
+pub settings-lines : (s : Settings) → Three (settings_text s) (limb-line s) (data-line s) (addr-line s)
 unfolding settings_text setting_text limb_bits_key data_limbs_key addr_limbs_key bytes
-settings-lines s = refl
+settings-lines s = record { are = refl }
+
+-- A line of a setting, whose value is printed as a number that equals it, and the whole text.
+pub setting-line : (front : List ℕ) (n k : ℕ) → k ≡ n → Three (line_text (front ++ decimal n)) front (decimal k) (10 ∷ [])
+unfolding line_text
+setting-line front n k e = record { are = rw e (append_assoc front (decimal n) (10 ∷ [])) }
+
+pub all-lines : (s : Settings) (ws : List ℕ) → Two (settings_text s ++ flat_map word_text ws) (settings_text s) (flat_map word_text ws)
+all-lines s ws = record { are = refl }
 
 -- ---- how long the text is
 
@@ -156,15 +164,10 @@ words-bound (w ∷ ws) = omega (arith, length-append (word_text w) (flat_map wor
 
 -- A refusal leaves the buffer.
 pub lists-not : (b old : List ℕ) (e : ListError) → listing_fault b ≡ some (error_meant e) → Lists b old old (Err e)
-unfolding listing list_answer_of text_after refusal
+unfolding listing list_answer_of text_after
 lists-not b old e h =
     let q : listing b (length old) ≡ rejected (error_meant e) = rw (listing, h) in
-    record { answer = meant e ∙ ap list_answer_of (sym q); text = ap (λ (x : Answered). text_after x old) (sym q) }
-  where
-    meant : (e : ListError) → listing_meant (Err e) ≡ list_answer_of (rejected (error_meant e))
-    meant (RefusedListing r) = refl
-    meant (Faulty r i) = refl
-    meant (TextTooShort n) = refl
+    record { answer = ap list_answer_of (sym q); text = ap (λ (x : Answered). text_after x old) (sym q) }
 
 module _ (b old : List ℕ) (good : listing_fault b ≡ none) (n : ℕ) (size : n ≡ length (text_of b)) where
   -- A buffer that is too short is left too.

@@ -2,22 +2,20 @@
 use Rattle.std.specs.Prelude.{ℕ, ◌≡◌, List, length, Result, Ok, Err}
 use Rattle.std.proofs.Math.Option.{none, some}
 use Rattle.refusal.specs.Refusals.{number_of}
-use Rattle.image.specs.Listing.{Refusal, refusal, words_fault, listing}
+use Rattle.image.specs.Listing.{Refusal, words_fault, listing}
 use Rattle.image.specs.Lent.{ListAnswer, listed, unlisted, list_answer_of, text_after}
 use Rattle.image_listing.specs.declared.disassembler.ListError.{ListError}
 use Rattle.image_listing.specs.declared.disassembler.ListError.TheVariants.{Refused, Faulty, TooShort}
 
 -- The refusal of an image without a text.
 abbrev pub error_meant : ListError → Refusal
-error_meant (Refused r) = refusal (number_of r) none none
-error_meant (Faulty r i) = refusal (number_of r) (some i) none
-error_meant (TooShort n) = refusal 32 none (some n)
+error_meant (Refused r) = record { number = number_of r; index = none; needed = none }
+error_meant (Faulty r i) = record { number = number_of r; index = some i; needed = none }
+error_meant (TooShort n) = record { number = 32; index = none; needed = some n }
 
 abbrev pub listing_meant : Result ℕ ListError → ListAnswer
 listing_meant (Ok n) = listed n
-listing_meant (Err (Refused r)) = unlisted (number_of r) none none
-listing_meant (Err (Faulty r i)) = unlisted (number_of r) (some i) none
-listing_meant (Err (TooShort n)) = unlisted 32 none (some n)
+listing_meant (Err e) = unlisted (error_meant e).number (error_meant e).index (error_meant e).needed
 
 -- The lines of words were put, or the first faulty word is told.
 abbrev pub PutsWords : List ℕ → Result (Unit {0}) ListError → Type 0 → Type 0

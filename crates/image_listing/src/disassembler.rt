@@ -42,7 +42,7 @@ fn put_setting<S: Sink>(sink: &mut S, front: &[u8], value: u8)
     ensures { S.Took sink.old (line_text (front.now ++ decimal value)) sink.new }
 {
     sink.put_bytes(front);
-    sink.put_decimal(value as u64);
+    sink.put_decimal(u64::from(value));
     sink.put(b'\n');
 }
 
@@ -63,6 +63,7 @@ fn put_words<S: Sink>(sink: &mut S, code: &[u8]) -> Result<(), ListError>
     let (words, _) = code.as_chunks::<4>();
     for (index, word) in words.iter().enumerate() {
         match instruction_codec::encoder::decode(u32::from_le_bytes(*word)) {
+            // a closure for `map_err` would hold `index` only to hand it on, and is no shorter than this arm
             Err(refusal) => return Err(ListError::Faulty { refusal, index }),
             Ok(instruction) => {
                 instruction_display::display::put_instruction(sink, instruction);
@@ -73,7 +74,7 @@ fn put_words<S: Sink>(sink: &mut S, code: &[u8]) -> Result<(), ListError>
     Ok(())
 }
 
-// The text of settings and a code part: it is measured first, and then written.
+// The text of settings and a code part.
 fn put_text<S: Sink>(sink: &mut S, config: Config, code: &[u8]) -> Result<(), ListError>
     requires { S.Fits sink.old (settings_text (settings_meant config) ++ flat_map word_text (words_of code.now)) }
     ensures { PutsWords (words_of code.now) result
@@ -87,10 +88,7 @@ fn put_text<S: Sink>(sink: &mut S, config: Config, code: &[u8]) -> Result<(), Li
 pub fn list(image: &[u8], text: &mut [u8]) -> Result<usize, ListError>
     ensures { Lists image.now text.old text.new result }
 {
-    let opened = match image::program::open(image) {
-        Ok(opened) => opened,
-        Err(refusal) => return Err(ListError::Refused(refusal)),
-    };
+    let opened = image::program::open(image).map_err(ListError::Refused)?;
     if !is_usual(opened.header) {
         return Err(ListError::Refused(Refusal::UnusualHeader));
     }

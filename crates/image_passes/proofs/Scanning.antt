@@ -30,7 +30,6 @@ use Rattle.image.specs.declared.config.Config.{Config}
 use Rattle.image_labels.specs.Promised.{spelled, entry_fault}
 use Rattle.image_line.specs.Promised.{context_for, effect_meant, label_meant, LineIs}
 use Rattle.image_line.specs.declared.line.Read.{Read}
-use Rattle.image_line.specs.declared.line.Span.{Span}
 use Rattle.image_passes.specs.Promised.{read_at, effect_at, Rest, rest_for, Entry, WalkEnds, line_refused, finished_with, label_pass, scanned, scanned_from, resumed, line_after, followed, RestFits, Sound, ScannableNext, Scannable, ReadsOn, Follows, GoesOn}
 use Rattle.image_passes.specs.declared.first_pass.Next.{Next}
 use Rattle.image_passes.specs.declared.first_pass.Next.TheVariants.{From, Ended as NextEnded}
@@ -416,8 +415,8 @@ pub record Scanning (names : List Name) (s : List ℕ) (from c : Cursor) : Type 
 
 module _ {names : List Name} {s : List ℕ} {from c : Cursor} (w : Scanning names s from c) {r : Read} (h : LineIs names s c.at (context_for c.config) r) where
   -- its label
-  label_is : {o : Maybe Span} → r.label ≡ o → (read_at names s c.at (settings_meant c.config)).label ≡ label_meant s o
-  label_is b = ap (λ (x : MeantRead). x.label) (sym h.reads) ∙ ap (label_meant s) b
+  label_is : {o : Maybe ℕ} → r.label ≡ o → (read_at names s c.at (settings_meant c.config)).label ≡ label_meant s r.start o
+  label_is b = ap (λ (x : MeantRead). x.label) (sym h.reads) ∙ ap (label_meant s r.start) b
 
   -- what the line comes to, its label aside
   abbrev pub comes-here : Rest
@@ -436,18 +435,19 @@ module _ {names : List Name} {s : List ℕ} {from c : Cursor} (w : Scanning name
     stands = z ∙ came
 
     -- A label.
-    pub scans_label : {p : Span} {q : Pass} → r.label ≡ Some p → q ≡ label_pass p.start p.length c.words c.line c.labels x → ReadsOn names s (From from) q
-    scans_label {p} b e =
-        let long : length (take p.length (drop p.start s)) ≡ p.length = length-take p.length (drop p.start s) ∙ omega (arith, length-drop p.start s, h.in_text p b) in
+    pub scans_label : {n : ℕ} {q : Pass} → r.label ≡ Some n → q ≡ label_pass r.start n c.words c.line c.labels x → ReadsOn names s (From from) q
+    scans_label {n} b e =
+        let inside_text : r.start + n ≤ length s = rw b at h.in_text in
+        let long : length (take n (drop r.start s)) ≡ n = length-take n (drop r.start s) ∙ omega (arith, length-drop r.start s, inside_text) in
         rw e (record {
           answer =
-              ap₂ (λ (n : ℕ) (y : Rest). label_pass n p.length c.words c.line c.labels y) (h.starts p b) stands
-              ∙ ap (λ (n : ℕ). label_pass (c.at + indent (rest_at s c.at)) n c.words c.line c.labels (comes_to names s c.at c.words c.config)) (sym long)
-              ∙ sym (from-label names s c w.safe.in_text (take p.length (drop p.start s)) (label_is b)) ∙ w.same;
+              ap₂ (λ (m : ℕ) (y : Rest). label_pass m n c.words c.line c.labels y) h.starts stands
+              ∙ ap (λ (m : ℕ). label_pass (c.at + indent (rest_at s c.at)) m c.words c.line c.labels (comes_to names s c.at c.words c.config)) (sym long)
+              ∙ sym (from-label names s c w.safe.in_text (take n (drop r.start s)) (label_is b)) ∙ w.same;
           sound =
               record {
                 short = w.safe.short;
-                in_text = h.in_text p b;
+                in_text = inside_text;
                 near = omega (arith, w.safe.few_words);
                 line_fits = omega (arith, w.safe.few_lines, w.safe.in_text);
                 few_labels = w.safe.few_labels;

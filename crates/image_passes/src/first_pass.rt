@@ -12,10 +12,11 @@ ghost use Rattle.image_passes.specs.declared.first_pass.Next.TheVariants.{From};
 use image::config::Config;
 use image::limits::{ENTRY, MOST_BYTES, MOST_WORDS};
 use image_labels::label::Label;
-use image_line::line::{Effect, Span};
+use image_line::line::Effect;
 use refusal::refusal::Refusal;
 
-// What the first walk does next: it reads on from a line, or it has ended. The end is no error, so this is no `Result`.
+// What the first walk does next: it reads on from a line, or it has ended. The end is no error, so this is no `Result`, and a
+// `ControlFlow` would call the two Continue and Break, which no `?` hands on.
 #[derive(Clone, Copy)]
 pub enum Next {
     From(Cursor),
@@ -32,7 +33,8 @@ pub struct Cursor {
     pub config: Config,
 }
 
-// Where the first walk comes to as it reads on: to a label that is to be entered, or to its end.
+// Where the first walk comes to as it reads on: to a label that is to be entered, or to its end. Neither is an error, so this is no `Result`,
+// nor does one of them break off what the other continues.
 #[derive(Clone, Copy)]
 pub enum Pass {
     AtLabel(LabelLine),
@@ -56,7 +58,7 @@ pub struct Done {
     pub end: usize,
 }
 
-// How the first walk has ended, and how many labels have been entered.
+// How the first walk has ended, and how many labels have been entered: there are as many in either case, so they stand beside the verdict.
 #[derive(Clone, Copy)]
 pub struct Outcome {
     pub labels: usize,
@@ -87,7 +89,7 @@ fn line_number(source: &[u8], place: usize) -> usize
     1 + source[..place].iter().filter(|b| **b == b'\n').count()
 }
 
-// The Rust's line of a refusal at a line.
+// The Rust's line of a refusal at a line: 0 where it gives none, as document 01 has it.
 #[tactic(auto, unfolding(image::specs::Assembling::rust_line_of))]
 fn rust_line(refusal: Refusal, line: usize) -> usize
     ensures { result ≡ rust_line_of (number_of refusal) line }
@@ -151,22 +153,19 @@ fn rest_of(effect: Result<Effect, Refusal>, done: Done) -> Result<Done, Refusal>
     match effect? {
         Effect::Nothing => Ok(done),
         Effect::Sets(config) => Ok(Done { config, ..done }),
-        Effect::Codes {
-            mnemonic: _,
-            operands: _,
-        } => counted(done),
+        Effect::Codes { .. } => counted(done),
     }
 }
 
-// The label of a cursor's line is to be entered.
-fn at_label(span: Span, cursor: Cursor, rest: Result<Done, Refusal>) -> Pass
+// The label of a cursor's line is to be entered, which begins at `start`.
+fn at_label(start: usize, length: usize, cursor: Cursor, rest: Result<Done, Refusal>) -> Pass
     requires { cursor.words ≤ 32768 }
-    ensures { result ≡ label_pass span.start span.length cursor.words cursor.line cursor.labels rest }
+    ensures { result ≡ label_pass start length cursor.words cursor.line cursor.labels rest }
 {
     let label = Label {
-        start: span.start,
-        length: span.length,
-        address: ENTRY as u64 + 4 * (cursor.words as u64),
+        start,
+        length,
+        address: u64::from(ENTRY) + 4 * (cursor.words as u64),
     };
     Pass::AtLabel(LabelLine {
         label,
@@ -216,8 +215,8 @@ fn scan(source: &[u8], from: Cursor) -> Pass
             end: read.end,
         };
         let rest = rest_of(read.effect, quiet);
-        if let Some(label) = read.label {
-            return at_label(label, cursor, rest);
+        if let Some(length) = read.label {
+            return at_label(read.start, length, cursor, rest);
         }
         match after_line(source.len(), cursor.line, cursor.labels, rest) {
             Next::Ended(outcome) => return Pass::Ended(outcome),

@@ -14,6 +14,7 @@ use image::limits::HEADER_SIZE;
 use image_line::line::Effect;
 use instruction::instruction::{Instruction, Operands};
 use instruction::opcode::Mnemonic;
+use text_writer::sink::{Sink, Writer};
 
 // The length that an image buffer must have, where it is shorter.
 #[derive(Clone, Copy)]
@@ -62,15 +63,13 @@ fn code_line(source: &[u8], at: usize, config: Config) -> CodedLine
     }
 }
 
-// A line's word, if it has one, written at a place.
-#[tactic(auto, unfolding(text_lexical::specs::Numbers::little), using(crate::proofs::Passes::word_bytes, crate::proofs::Passes::no_bytes, text_writer::proofs::Writing::written_none))]
-fn write_coded(image: &mut [u8], place: usize, coded: Option<u32>) -> usize
-    requires { place + length (flat_map (little 4) (coded_meant coded)) ≤ length image.old }
-    ensures { Written image.old place (flat_map (little 4) (coded_meant coded)) result image.new }
+// A line's word, if it has one.
+fn put_coded<S: Sink>(sink: &mut S, coded: Option<u32>)
+    requires { S.Fits sink.old (flat_map (little 4) (coded_meant coded)) }
+    ensures { S.Took sink.old (flat_map (little 4) (coded_meant coded)) sink.new }
 {
-    match coded {
-        None => place,
-        Some(word) => text_writer::writer::write_u32(image, place, word),
+    if let Some(word) = coded {
+        sink.put_bytes(&word.to_le_bytes());
     }
 }
 
@@ -81,17 +80,20 @@ fn second_pass(source: &[u8], image: &mut [u8]) -> usize
     requires room { 32 + length (code_bytes present source.now) ≤ length image.old }
     ensures { Written image.old 32 (code_bytes present source.now) result image.new }
 {
-    let mut place = HEADER_SIZE;
+    let mut writer = Writer {
+        out: image,
+        at: HEADER_SIZE,
+    };
     let mut at: usize = 0;
     let mut config = Config::begin();
-    // as in the first walk
+    // where a line ends is found by reading it, so there is no list of lines to walk
     loop {
         let line = code_line(source, at, config);
         config = line.config;
-        place = write_coded(image, place, line.coded);
+        put_coded(&mut writer, line.coded);
         let end = line.end;
         if source.len() <= end {
-            return place;
+            return writer.at;
         }
         at = end + 1;
     }

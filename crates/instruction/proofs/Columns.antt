@@ -9,6 +9,7 @@ use lib.ListN.{length, get_or, get_or-eq_default}
 use lib.Dec.{leb, ltb}
 use borrow.Author.Tests.{leb-true, ltb-true}
 use borrow.Author.Rules.{rules}
+use Rattle.std.specs.Prelude.{Some}
 use Rattle.text_lexical.specs.Bytes.{bytes, every, each, same, find}
 use Rattle.text_lexical.specs.Promised.{packed, key_of}
 use Rattle.text_lexical.proofs.Tests.{split, both}
@@ -81,5 +82,5 @@ mnemonic-below m i =
     (λ l. let e : get_or s i 0 ≡ 0 = get_or-eq_default s 0 {n = i} l in omega arith)
 
 -- and their keys have their bytes.
-pub mnemonic-packed : (m : Mnemonic) → key_of (row_of m).mnemonic ≡ packed (row_of m).mnemonic
+pub mnemonic-packed : (m : Mnemonic) → key_of (row_of m).mnemonic ≡ Some (packed (row_of m).mnemonic)
 mnemonic-packed m = key-short (row_of m).mnemonic (mnemonic-short m).few

@@ -193,11 +193,11 @@ unfolding read_place
 number_read t number_place e x = rw (read_place, e)
 
 -- the same of one that is refused
-register-refuses : {p : Place} (t : Token) {k : ℕ} → OperandPlace false p → read_register t ≡ refused k → (x : Result Operands) → read_place p t x ≡ refused k
+pub register-refuses : {p : Place} (t : Token) {k : ℕ} → OperandPlace false p → read_register t ≡ refused k → (x : Result Operands) → read_place p t x ≡ refused k
 unfolding read_place
 register-refuses t register_place e x = rw (read_place, e)
 
-number-refuses : {p : Place} (t : Token) {k : ℕ} → OperandPlace true p → read_number t ≡ refused k → (x : Result Operands) → read_place p t x ≡ refused k
+pub number-refuses : {p : Place} (t : Token) {k : ℕ} → OperandPlace true p → read_number t ≡ refused k → (x : Result Operands) → read_place p t x ≡ refused k
 unfolding read_place
 number-refuses t number_place e x = rw (read_place, e)
 
@@ -211,6 +211,9 @@ unfolding read_place refusals
 mark-asked (a_mark a-comma) t x = refl
 mark-asked (a_mark an-opening) t x = refl
 mark-asked (a_mark a-closing) t x = refl
+
+pub mark-refuses : {p : Place} {byte : ℕ} {k : Refusal} → MarkPlace p byte k → (t : Token) → (mark_byte t ≡ byte → ⊥) → (x : Result Operands) → read_place p t x ≡ refused (number_of k)
+mark-refuses {byte = byte} m t h x = mark-asked m t x ∙ rw (ne_eqb (mark_byte t) byte h)
 
 mark-regs : {p : Place} {byte : ℕ} {k : Refusal} (ps : List Place) → MarkPlace p byte k → regs_in (p ∷ ps) ≡ regs_in ps
 unfolding regs_in
@@ -293,11 +296,10 @@ module _ {all : List Place} {pre : List Token} {ps : List Place} {count : ℕ} {
         reads = read-on t q q.got q.number (λ x. rw (mark-asked m t x, eq-eqb (mark_byte t) byte e));
       }
 
-  -- A token that is refused at its place.
-  partly-refused : {p : Place} {k : ℕ} (t : Token) (ts : List Token) → Partly all pre (p ∷ ps) count rs w → read_place p t (read_operands ps ts) ≡ refused k
-      → read_operands all (pre ++ (t ∷ ts)) ≡ refused k
-  unfolding read_operands joined
-  partly-refused t ts q e = q.reads (t ∷ ts) ∙ rw e
+  -- What is refused at the places that are left is refused at all of them.
+  partly-refuses : Partly all pre ps count rs w → (ts : List Token) (k : ℕ) → read_operands ps ts ≡ refused k → read_operands all (pre ++ ts) ≡ refused k
+  unfolding joined
+  partly-refuses q ts k e = q.reads ts ∙ rw e
 
 -- ---- by the operands
 
@@ -411,28 +413,16 @@ module _ {all : List Place} {pre : List Token} {count : ℕ} {rs : List Register
       → Reading all (pre ++ (t ∷ [])) count rs w os
   marking-mark q e t b = let (p, (m, y)) = mark-ahead q e in record { ps = q.rest; ahead = q.ahead; partly = partly-mark t m y b }
 
-  -- What a token is refused for.
-  pub register-refused : {k : ℕ} → Reading all pre count rs w (o ∷ os) → is_number o ≡ false → (t : Token) (ts : List Token)
-      → read_register t ≡ refused k → read_operands all (pre ++ (t ∷ ts)) ≡ refused k
-  register-refused q letter t ts e = let (o, p) = ahead-at q letter in partly-refused t ts p (register-refuses t o e _)
+  -- The place where the next token may be refused: what is refused there is refused at all places.
+  pub reading-refuses : {b : Bool} → Reading all pre count rs w (o ∷ os) → is_number o ≡ b
+      → (p : Place) × (ps : List Place) × OperandPlace b p × ((ts : List Token) (k : ℕ) → read_operands (p ∷ ps) ts ≡ refused k → read_operands all (pre ++ ts) ≡ refused k)
+  reading-refuses q e = let (o, p) = ahead-at q e in (_, _, o, partly-refuses p)
 
-  pub number-refused : {k : ℕ} → Reading all pre count rs w (o ∷ os) → is_number o ≡ true → (t : Token) (ts : List Token)
-      → read_number t ≡ refused k → read_operands all (pre ++ (t ∷ ts)) ≡ refused k
-  number-refused q digit t ts e = let (o, p) = ahead-at q digit in partly-refused t ts p (number-refuses t o e _)
+  pub marking-refuses : {m : Mark} → Marking all pre count rs w o os → mark_of o ≡ Some m
+      → (p : Place) × (ps : List Place) × MarkPlace p m.byte m.refusal × ((ts : List Token) (k : ℕ) → read_operands (p ∷ ps) ts ≡ refused k → read_operands all (pre ++ ts) ≡ refused k)
+  marking-refuses q e = let (p, (m, y)) = mark-ahead q e in (p, _, m, partly-refuses y)
 
-  pub mark-refused : {m : Mark} → Marking all pre count rs w o os → mark_of o ≡ Some m → (t : Token) (ts : List Token)
-      → (mark_byte t ≡ m.byte → ⊥) → read_operands all (pre ++ (t ∷ ts)) ≡ refused (number_of m.refusal)
-  mark-refused {m} q e t ts b =
-      let (p, (k, y)) = mark-ahead q e in
-      partly-refused t ts y (mark-asked k t _ ∙ rw (ne_eqb (mark_byte t) m.byte b))
-
-  -- There is a token for an operand, and for a mark; and room for a register.
-  pub operand-within : Reading all pre count rs w (o ∷ os) → length pre < length all
-  operand-within q = let n = next_of q.ahead in omega (arith, q.partly.sum, ap length n.splits)
-
-  pub mark-within : {m : Mark} → Marking all pre count rs w o os → mark_of o ≡ Some m → length pre < length all
-  mark-within q e = let (p, (m, y)) = mark-ahead q e in omega (arith, y.sum)
-
+  -- There is room for a register.
   pub register-room : Reading all pre count rs w (o ∷ os) → is_number o ≡ false → count < 3
   register-room q letter =
       let n = next_of q.ahead in

@@ -12,12 +12,12 @@ use Rattle.std.specs.Prelude.{Option, Some, None}
 use Rattle.text_lexical.specs.Bytes.{bytes, same, find, each}
 use Rattle.text_lexical.specs.Promised.{packed, key_of}
 use Rattle.text_lexical.proofs.Tests.{both}
-use Rattle.text_lexical.proofs.Keys.{Below, by_key, found-by-key}
+use Rattle.text_lexical.proofs.Keys.{Below, by_key, found-by-key, none-without-key}
 use Rattle.instruction.specs.Table.{Row, row, table, row_named, row_coded}
 use Rattle.instruction.specs.Promised.{row_for, row_of, found_meant}
 use Rattle.instruction.specs.declared.opcode.Mnemonic.{Mnemonic}
 use Rattle.instruction.specs.declared.opcode.TheConstants.{SLOTS, CODED}
-use Rattle.instruction.proofs.Columns.{row-in-table, opcode-row, mnemonic-below, table-keyed}
+use Rattle.instruction.proofs.Columns.{row-in-table, opcode-row, mnemonic-below, mnemonic-packed, table-keyed}
 
 -- Nothing is found where no entry passes.
 find-none : {A : Type 0} (p q : A → Bool) → ((a : A) → q a ≡ true → p a ≡ false) → (l : List A) → each q l ≡ true → find p l ≡ none
@@ -28,13 +28,18 @@ find-none p q f (a ∷ l) h = let (t, k) = both (q a) (each q l) h in rw (find, 
 -- ---- by a key
 
 -- A spelling names the row whose mnemonic has its key.
-pub row-by-key : (s : List ℕ) → Below s → row_named s ≡ find (λ q. eqb (key_of q.mnemonic) (key_of s)) table
+pub row-by-key : (s : List ℕ) → Below s → (k : ℕ) → Some k ≡ key_of s → row_named s ≡ find (λ q. eqb (packed q.mnemonic) k) table
 unfolding row_named by_key
-row-by-key s h = found-by-key (λ r. r.mnemonic) table table-keyed s h
+row-by-key s h k e = found-by-key (λ r. r.mnemonic) table table-keyed s h k e
+
+-- One without a key names none.
+pub row-without-key : (s : List ℕ) → None ≡ key_of s → row_named s ≡ none
+unfolding row_named
+row-without-key s e = none-without-key (λ r. r.mnemonic) table table-keyed s e
 
 -- The key of a mnemonic is its row's.
-pub key-row : (m : Mnemonic) → find (λ q. eqb (key_of q.mnemonic) (key_of (row_of m).mnemonic)) table ≡ some (row_of m)
-key-row m = sym (row-by-key (row_of m).mnemonic (mnemonic-below m)) ∙ row-in-table m
+pub key-row : (m : Mnemonic) → find (λ q. eqb (packed q.mnemonic) (packed (row_of m).mnemonic)) table ≡ some (row_of m)
+key-row m = sym (row-by-key (row_of m).mnemonic (mnemonic-below m) (packed (row_of m).mnemonic) (sym (mnemonic-packed m))) ∙ row-in-table m
 
 -- What stands where an entry is looked for has a number.
 holds : (Mnemonic → ℕ) → Option Mnemonic → ℕ → Bool
@@ -43,29 +48,29 @@ holds f (Some m) n = eqb (f m) n
 
 -- At the slot of each row's key there is a mnemonic with that key.
 abbrev key : Mnemonic → ℕ
-key m = key_of (row_of m).mnemonic
+key m = packed (row_of m).mnemonic
 
 slotted : Row → Bool
-slotted r = holds key (get_or SLOTS (key_of r.mnemonic % 293) None) (key_of r.mnemonic)
+slotted r = holds key (get_or SLOTS (packed r.mnemonic % 293) None) (packed r.mnemonic)
 
 slots-hold : each slotted table ≡ true
-unfolding each slotted holds row_for row_named find same table row bytes key_of packed
+unfolding each slotted holds row_for row_named find same table row bytes packed
 slots-hold = refl
 
 -- So where a key's slot has none with the key, no row has it:
-key-none : (k : ℕ) → holds key (get_or SLOTS (k % 293) None) k ≡ false → find (λ q. eqb (key_of q.mnemonic) k) table ≡ none
+key-none : (k : ℕ) → holds key (get_or SLOTS (k % 293) None) k ≡ false → find (λ q. eqb (packed q.mnemonic) k) table ≡ none
 unfolding slotted
 key-none k h =
-    find-none (λ q. eqb (key_of q.mnemonic) k) slotted
-    (λ r t. ne_eqb (key_of r.mnemonic) k (λ e. true≢false (sym (rw e at t) ∙ h))) table slots-hold
+    find-none (λ q. eqb (packed q.mnemonic) k) slotted
+    (λ r t. ne_eqb (packed r.mnemonic) k (λ e. true≢false (sym (rw e at t) ∙ h))) table slots-hold
 
 -- the slot is empty,
-pub slot-empty : (k : ℕ) → get_or SLOTS (k % 293) None ≡ None → none ≡ find (λ q. eqb (key_of q.mnemonic) k) table
+pub slot-empty : (k : ℕ) → get_or SLOTS (k % 293) None ≡ None → none ≡ find (λ q. eqb (packed q.mnemonic) k) table
 unfolding holds
 slot-empty k e = sym (key-none k (rw e))
 
 -- or another mnemonic's.
-pub slot-other : (k : ℕ) (m : Mnemonic) → get_or SLOTS (k % 293) None ≡ Some m → (key m ≡ k → ⊥) → none ≡ find (λ q. eqb (key_of q.mnemonic) k) table
+pub slot-other : (k : ℕ) (m : Mnemonic) → get_or SLOTS (k % 293) None ≡ Some m → (key m ≡ k → ⊥) → none ≡ find (λ q. eqb (packed q.mnemonic) k) table
 unfolding holds
 slot-other k m e n = sym (key-none k (rw e (ne_eqb (key m) k n)))
 

@@ -96,7 +96,9 @@ impl Operands {
 }
 
 impl Instruction {
-    // The instruction of a mnemonic with operands: a line for each case.
+    // The instruction of a mnemonic with operands: a line for each case, the match that document 01 names. It is compiled in line: an
+    // instruction that is handed on through memory waits for its own bytes.
+    #[inline(always)]
     #[rattlefmt::skip]
     #[tactic(auto, unfolding(
         crate::specs::Promised::row_for, crate::specs::Promised::registers_for, crate::specs::Promised::number_for,

@@ -1,7 +1,7 @@
 // The table of the fifty mnemonics: key, opcode and form, by ascending opcode; and the tables by which a mnemonic is found.
 ghost use Rattle.std.specs.Prelude.{◌≡◌, ◌<◌, eqb};
 ghost use Rattle.text_lexical.specs.Bytes.{find};
-ghost use Rattle.text_lexical.specs.Promised.{key_of};
+ghost use Rattle.text_lexical.specs.Promised.{packed};
 ghost use Rattle.instruction.specs.Table.{table, row_coded};
 ghost use Rattle.instruction.specs.Promised.{row_of, form_meant, found_meant};
 
@@ -128,7 +128,7 @@ static ROWS: [Row; 50] = [
 // Where a mnemonic may stand is told by its key's residue modulo so many, by which all fifty differ.
 const PLACES: u64 = 293;
 
-// The mnemonic at each place.
+// The mnemonic at each place: there is no heap for a map.
 #[rattlefmt::skip]
 static SLOTS: [Option<Mnemonic>; 293] = [
     None, None, None, None, Some(Mnemonic::Lw), None, None, Some(Mnemonic::Lhu), None, Some(Mnemonic::Andi), None, Some(Mnemonic::Sw),
@@ -175,12 +175,12 @@ static CODED: [Option<Mnemonic>; 128] = [
 #[tactic(auto, unfolding(
     crate::specs::Promised::row_for, crate::specs::Table::row_named, crate::specs::Table::table, crate::specs::Table::row,
     text_lexical::specs::Bytes::find, text_lexical::specs::Bytes::same, text_lexical::specs::Bytes::bytes,
-    text_lexical::specs::Promised::key_of, text_lexical::specs::Promised::packed
+    text_lexical::specs::Promised::packed
 ))]
 impl Mnemonic {
     // The key of its spelling.
     pub fn key(self) -> u64
-        ensures { result ≡ key_of (row_of self).mnemonic }
+        ensures { result ≡ packed (row_of self).mnemonic }
     {
         ROWS[self as usize].key
     }
@@ -201,7 +201,7 @@ impl Mnemonic {
 
 // The mnemonic with a key.
 pub fn find_mnemonic(key: u64) -> Option<Mnemonic>
-    ensures { found_meant result ≡ find (λ q. eqb (key_of q.mnemonic) key) table }
+    ensures { found_meant result ≡ find (λ q. eqb (packed q.mnemonic) key) table }
 {
     let mnemonic = SLOTS[(key % PLACES) as usize]?;
     if mnemonic.key() == key {

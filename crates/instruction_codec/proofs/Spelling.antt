@@ -8,12 +8,12 @@ use lib.ListN.{length, take}
 use lib.Pow.{pow_mono, pow-add}
 use Rattle.std.specs.Int.{to_le_bytes, w64}
 use Rattle.text_lexical.specs.Numbers.{little}
-use Rattle.text_lexical.specs.Promised.{packed, key_of}
+use Rattle.text_lexical.specs.Promised.{packed}
 use Rattle.text_lexical.proofs.Keys.{Below}
 use Rattle.text_lexical.proofs.Tests.{split}
 use Rattle.instruction.specs.Promised.{row_of}
 use Rattle.instruction.specs.declared.opcode.Mnemonic.{Mnemonic}
-use Rattle.instruction.proofs.Columns.{mnemonic-short, mnemonic-below, mnemonic-packed}
+use Rattle.instruction.proofs.Columns.{mnemonic-short, mnemonic-below}
 
 -- ---- the highest bit
 
@@ -56,17 +56,16 @@ little-packed (suc k) (b ∷ s) h l =
 
 -- ---- a mnemonic's letters
 
-module _ (m : Mnemonic) (k : ℕ) (e : k ≡ key_of (row_of m).mnemonic) where
+module _ (m : Mnemonic) (k : ℕ) (e : k ≡ packed (row_of m).mnemonic) where
   pub key-some : 0 < k
   key-some =
       let s = (row_of m).mnemonic in
-      omega (arith, e, mnemonic-packed m, (bits s (mnemonic-below m)).least, pow_mono {i = 0} {j = 8 * length s} (omega arith))
+      omega (arith, e, (bits s (mnemonic-below m)).least, pow_mono {i = 0} {j = 8 * length s} (omega arith))
 
   pub letters : (r : ℕ) (bytes : List ℕ) → 2 ^ r ≤ k → k < 2 * 2 ^ r → bytes ≡ to_le_bytes w64 k → take (r / 8) bytes ≡ (row_of m).mnemonic
   letters r bytes a b c =
       let s = (row_of m).mnemonic in
       let h = bits s (mnemonic-below m) in
-      let p : k ≡ packed s = e ∙ mnemonic-packed m in
-      let q : r ≡ 8 * length s = highest (packed s) (8 * length s) r h.least h.below (rw p at a) (rw p at b) in
+      let q : r ≡ 8 * length s = highest (packed s) (8 * length s) r h.least h.below (rw e at a) (rw e at b) in
       let n : r / 8 ≡ length s = omega arith in
-      rw (c, eight-bytes k, p, n) (little-packed 8 s (mnemonic-below m) (omega (arith, (mnemonic-short m).few)))
+      rw (c, eight-bytes k, e, n) (little-packed 8 s (mnemonic-below m) (omega (arith, (mnemonic-short m).few)))

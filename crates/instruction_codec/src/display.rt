@@ -30,7 +30,7 @@ fn put_register<S: Sink>(sink: &mut S, register: Register)
     ensures { S.Took sink.old (register_text (index_of register)) sink.new }
 {
     sink.put(b'r');
-    sink.put_decimal(u8::from(register) as u64);
+    sink.put_decimal(u64::from(u8::from(register)));
 }
 
 // A register, with a comma and a space after it.
@@ -71,6 +71,8 @@ fn put_start<S: Sink>(sink: &mut S, mnemonic: Mnemonic, first: Register)
     sink.put(b' ');
     put_next(sink, first);
 }
+
+// Each form's text is two or three pieces, and differs in which: one function for all would choose among them again.
 
 // A mnemonic and `rd, rs1, rs2`.
 pub fn put_r_type<S: Sink>(

@@ -43,6 +43,9 @@ fn spread(low: Register, high: Register, top: u32) -> u32
     number_of(low) * LOW + number_of(high) * HIGH + top * TOP
 }
 
+// The registers are parameters of their own, here and in the texts: each of the fifty cases has them by name, and would only pack a struct.
+// Each form has a function of its own, of one line over `spread` and `reduced`: a parameter for the field or the order would be no shorter.
+
 // The word of `rd, rs1, rs2`, by its mnemonic.
 #[tactic(auto, using(crate::proofs::Forms::word_registers))]
 pub fn encode_r_type(mnemonic: Mnemonic, rd: Register, rs1: Register, rs2: Register) -> u32
@@ -51,7 +54,6 @@ pub fn encode_r_type(mnemonic: Mnemonic, rd: Register, rs1: Register, rs2: Regis
     u32::from(mnemonic.opcode()) + spread(rd, rs1, number_of(rs2))
 }
 
-// Each form has a function of its own, of one line over `spread` and `reduced`: a parameter for the field or the order would be no shorter.
 // The word of `rd, rs1, n`. A load's `rd, n(rs1)` and a branch's `rs1, rs2, n` have the same.
 #[tactic(auto, using(crate::proofs::Forms::word_number, crate::proofs::Forms::power_17))]
 pub fn encode_i_type(mnemonic: Mnemonic, rd: Register, rs1: Register, imm: Whole) -> u32
@@ -174,7 +176,8 @@ fn operands_of(form: Form, word: u32) -> Operands
     }
 }
 
-// The instruction of a word, or 30, or 31.
+// The instruction of a word, or 30, or 31. It is compiled in line: an instruction that is handed on through memory waits for its own bytes.
+#[inline(always)]
 #[tactic(auto, using(crate::proofs::Coding::word_unknown, crate::proofs::Coding::word_unused))]
 pub fn decode(word: u32) -> Result<Instruction, Refusal>
     ensures { DecodesTo word result }

@@ -7,7 +7,7 @@ use instruction::opcode::Mnemonic;
 use instruction_codec::display::{put_i_type, put_j_type, put_memory, put_mnemonic, put_r_type};
 use text_writer::sink::Sink;
 
-// Each case is put by its form, with its mnemonic.
+// Each case is put by its form, with its mnemonic: a line for each, the match that document 01 names.
 #[rattlefmt::skip]
 #[tactic(auto, unfolding(instruction_codec::specs::Promised::form_text, instruction::specs::Text::instruction_text,
     instruction::specs::Text::operands_text, instruction::specs::Text::places_text, instruction::specs::Text::number_text,

@@ -9,7 +9,7 @@ use instruction_codec::encoder::{
     encode_i_type, encode_j_type, encode_r_type, encode_s_type, encode_shift, encode_system,
 };
 
-// Each case is encoded by its form, with the opcode of its mnemonic.
+// Each case is encoded by its form, with the opcode of its mnemonic: a line for each, the match that document 01 names.
 #[rattlefmt::skip]
 #[tactic(auto, unfolding(instruction_codec::specs::Promised::form_word, instruction::specs::Words::word_of,
     instruction::specs::Words::fields, instruction::specs::Promised::row_for, instruction::specs::Promised::registers_for,

@@ -1,2 +1,3 @@
 pub mod Line
-pub mod Operands
+pub mod Sources
+pub mod Tokens

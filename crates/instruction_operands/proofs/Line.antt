@@ -3,42 +3,42 @@ use Prim.Native.Nat.{ℕ, zero, suc, ◌+◌, ◌-◌, ◌≤◌, ◌<◌}
 use mathlib.Core.Path.{◌≡◌, refl, sym, ap, ◌∙◌, subst}
 use native.Mathlib.Omega.{arith}
 use native.Mathlib.Numerals.{add-one}
-use mathlib.Core.Bool.{Bool, true, false, true≢false}
-use Rattle.std.specs.Option.{is_some}
+use mathlib.Core.Bool.{true, false, true≢false}
+use Rattle.std.specs.Option.{is_some, MatchOption}
 use mathlib.Core.Option.{none, some}
 use mathlib.Core.List.{List, [], ◌∷◌, map}
 use lib.ListN.{length, take, drop, get_or, length-take, length-map, drop_of_length-le, get_or-map}
 use lib.Seq.{take-nil, drop-cons, get_or-take, get_or-drop}
 use lib.Dec.{eqb}
-use borrow.Author.Tests.{eqb-true, eqb-false, eq-eqb, ne_eqb}
+use borrow.Author.Tests.{eq-eqb, ne_eqb}
 use Rattle.std.specs.Prelude.{Ok, Err, Some, None}
 use Rattle.std.specs.Prelude.{Option as StdOption}
 use Rattle.std.specs.Prelude.{Result as Answer}
 use Rattle.text_lexical.specs.Bytes.{value, refused, lower, find}
-use Rattle.text_lexical.specs.Promised.{key_of}
+use Rattle.text_lexical.specs.Promised.{packed, key_of}
 use Rattle.text_lexical.proofs.Keys.{Below, lowered-below}
 use Rattle.refusal.specs.declared.refusal.Refusal.{Refusal}
 use Rattle.refusal.specs.declared.refusal.Refusal.TheVariants.{MnemonicExpected, UnknownMnemonic, OperandCount}
 use Rattle.text.specs.Tokens.{Token}
-use Rattle.text.specs.Lines.{kept}
 use Rattle.text.specs.Lines.{Line as MeantLine}
-use Rattle.text.specs.Promised.{kind_meant, mark_of_byte, firsts, meant, spelling, filler}
+use Rattle.text.specs.Promised.{kind_meant, firsts, meant, spelling, filler}
 use Rattle.text.specs.declared.lexer.Kind.{Kind}
 use Rattle.text.specs.declared.lexer.Kind.TheVariants.{Identifier, Register, NoRegister, Number, Negative, Hex, Binary, Directive, Comma, Colon, LParen, RParen}
 use Rattle.text.specs.declared.lexer.Token.{Token as KeptToken}
 use Rattle.text.specs.declared.parser.Line.{Line}
 use Rattle.instruction.specs.Table.{Place, Form, R, I, Shift, Load, Store, Branch, Jump, System, Row, places, table, row_named}
-use Rattle.instruction.specs.Operands.{read_identifier, mark_byte, read_operands, made, read_row, read_mnemonic, read_instruction, behind}
+use Rattle.instruction.specs.Operands.{read_identifier, read_operands, made, read_row, read_mnemonic, read_instruction, behind}
 use Rattle.instruction.specs.Promised.{row_of, form_meant, found_meant, operands_meant, SettledFor}
 use Rattle.instruction.specs.declared.form.Form.{Form as CodeForm}
-use Rattle.instruction.specs.Forms.{operand_list, mark_of}
+use Rattle.instruction.specs.Forms.{mark_of}
 use Rattle.instruction.specs.declared.form.Mark.{Mark}
 use Rattle.instruction.specs.declared.form.Operand.{Operand}
 use Rattle.instruction.specs.declared.instruction.Operands.{Operands}
 use Rattle.instruction.specs.declared.opcode.Mnemonic.{Mnemonic}
-use Rattle.instruction.proofs.Lookup.{row-by-key}
+use Rattle.instruction.proofs.Forms.{Counting, counting-none, counting-mark, counting-most, counting-end}
+use Rattle.instruction.proofs.Lookup.{row-by-key, row-without-key}
 use Rattle.instruction_operands.specs.declared.assembler.Parsed.{Parsed}
-use Rattle.instruction_operands.specs.Promised.{Within, MarkIs, Reads, RowIs, ParsedIs, Kept}
+use Rattle.instruction_operands.specs.Promised.{Reads, RowIs, ParsedIs, Kept}
 
 -- ---- forms
 
@@ -62,96 +62,37 @@ get_d_any l i d e h = let p = drop-cons l i d h in let q = drop-cons l i e h in 
 
 -- ---- how many tokens there are
 
--- Those of an operand, and of more of them.
-tokens_with : StdOption Mark → ℕ
-tokens_with None = 1
-tokens_with (Some m) = 2
+module _ (f : Form) (ops : List Operand) (i : ℕ) {n : ℕ} (q : Counting (places f) n (drop i ops)) where
+  module _ (o : Operand) (h : i < length ops) where
+    counts-here : Counting (places f) n (get_or ops i o ∷ drop (i + 1) ops)
+    counts-here = let e : drop i ops ≡ get_or ops i o ∷ drop (i + 1) ops = drop-cons ops i o h ∙ rw (add-one i) in rw e at q
 
-tokens_in : List Operand → ℕ
-tokens_in [] = 0
-tokens_in (o ∷ os) = tokens_with (mark_of o) + tokens_in os
+    pub counts-operand : is_some (mark_of (get_or ops i o)) ≡ false → Counting (places f) (n + 1) (drop (i + 1) ops)
+    counts-operand = go (mark_of (get_or ops i o)) refl
+      where
+        go : (m : StdOption Mark) → mark_of (get_or ops i o) ≡ m → is_some m ≡ false → Counting (places f) (n + 1) (drop (i + 1) ops)
+        go None k e = counting-none counts-here k
+        go (Some m) k e = absurd (true≢false e)
 
-form-tokens : (f : Form) → tokens_in (operand_list f) ≡ length (places f)
-unfolding tokens_in tokens_with places
-form-tokens R = refl
-form-tokens I = refl
-form-tokens Shift = refl
-form-tokens Load = refl
-form-tokens Store = refl
-form-tokens Branch = refl
-form-tokens Jump = refl
-form-tokens System = refl
-
--- So many are counted before the i-th operand.
-pub record Counts (f : Form) (os : List Operand) (i n : ℕ) : Type 0 where
-  sum : n + tokens_in (drop i os) ≡ length (places f)
-
-pub counts-begin : {f : Form} {os : List Operand} → os ≡ operand_list f → Counts f os 0 0
-counts-begin {f} e = record { sum = let q = form-tokens f in rw e (omega arith) }
-
-module _ {f : Form} {os : List Operand} {i n : ℕ} (c : Counts f os i n) where
-  counts-on : (o : Operand) → i < length os → n + (tokens_with (mark_of (get_or os i o)) + tokens_in (drop (i + 1) os)) ≡ length (places f)
-  unfolding tokens_in
-  counts-on o h = rw (add-one i) (rw (drop-cons os i o h) at c.sum)
-
-  pub counts-operand : (o : Operand) → i < length os → is_some (mark_of (get_or os i o)) ≡ false → Counts f os (i + 1) (n + 1)
-  unfolding tokens_with
-  counts-operand o h e = go (mark_of (get_or os i o)) (counts-on o h) e
-    where
-      go : (m : StdOption Mark) → n + (tokens_with m + tokens_in (drop (i + 1) os)) ≡ length (places f) → is_some m ≡ false → Counts f os (i + 1) (n + 1)
-      go None s e = record { sum = omega arith }
-      go (Some m) s e = absurd (true≢false e)
-
-  pub counts-mark : (o : Operand) → i < length os → is_some (mark_of (get_or os i o)) ≡ true → Counts f os (i + 1) (n + 1 + 1)
-  unfolding tokens_with
-  counts-mark o h e = go (mark_of (get_or os i o)) (counts-on o h) e
-    where
-      go : (m : StdOption Mark) → n + (tokens_with m + tokens_in (drop (i + 1) os)) ≡ length (places f) → is_some m ≡ true → Counts f os (i + 1) (n + 1 + 1)
-      go None s e = absurd (true≢false (sym e))
-      go (Some m) s e = record { sum = omega arith }
+    pub counts-mark : is_some (mark_of (get_or ops i o)) ≡ true → Counting (places f) (n + 1 + 1) (drop (i + 1) ops)
+    counts-mark = go (mark_of (get_or ops i o)) refl
+      where
+        go : (m : StdOption Mark) → mark_of (get_or ops i o) ≡ m → is_some m ≡ true → Counting (places f) (n + 1 + 1) (drop (i + 1) ops)
+        go None k e = absurd (true≢false (sym e))
+        go (Some m) k e = counting-mark counts-here k
 
   -- There are no more than six.
   pub counts-few : n ≤ 6
-  counts-few = omega (arith, c.sum, six-places f)
+  counts-few = omega (arith, counting-most q, six-places f)
 
-  pub counts-end : length os ≤ i → n ≡ length (places f)
-  unfolding tokens_in
-  counts-end h = let e : drop i os ≡ [] = drop_of_length-le os h in omega (arith, rw e at c.sum)
+  pub counts-end : length ops ≤ i → n ≡ length (places f)
+  counts-end h = let e : drop i ops ≡ [] = drop_of_length-le ops h in counting-end (rw e at q)
 
--- ---- marks
-
--- A token of a kind is the mark of a byte exactly if its own is that one.
-mark-of : (k : Kind) (u : List ℕ) (b : ℕ) → 0 < b → mark_of_byte k b ≡ eqb b (mark_byte (kind_meant k u))
-unfolding mark_byte
-mark-of Comma u b h = refl
-mark-of Colon u b h = refl
-mark-of LParen u b h = refl
-mark-of RParen u b h = refl
-mark-of Identifier u b h = sym (ne_eqb b 0 (λ e. omega arith))
-mark-of (Register r) u b h = sym (ne_eqb b 0 (λ e. omega arith))
-mark-of NoRegister u b h = sym (ne_eqb b 0 (λ e. omega arith))
-mark-of (Number n) u b h = sym (ne_eqb b 0 (λ e. omega arith))
-mark-of (Negative n) u b h = sym (ne_eqb b 0 (λ e. omega arith))
-mark-of (Hex n) u b h = sym (ne_eqb b 0 (λ e. omega arith))
-mark-of (Binary n) u b h = sym (ne_eqb b 0 (λ e. omega arith))
-mark-of Directive u b h = sym (ne_eqb b 0 (λ e. omega arith))
+-- ---- the mnemonic's token
 
 -- What an array of tokens is read as past its end.
 abbrev pub past : KeptToken
 past = record { kind = Identifier; start = 0; length = 0 }
-
-module _ (ts : List KeptToken) (at : ℕ) (m : Mark) (full : length ts ≡ kept) (w : Within at (Some m)) where
-  -- whether the token is the mark, by its byte
-  told : (b : Bool) → b ≡ mark_of_byte (get_or ts at past).kind m.byte → (u : List ℕ) → b ≡ eqb m.byte (mark_byte (kind_meant (get_or ts at filler).kind u))
-  told b e u =
-      e ∙ mark-of (get_or ts at past).kind u m.byte w.1
-      ∙ ap (λ t. eqb m.byte (mark_byte (kind_meant t.kind u))) (get_d_any ts at past filler (omega (arith, w.0)))
-
-  pub mark-found : true ≡ mark_of_byte (get_or ts at past).kind m.byte → MarkIs ts at (Some m) (Ok (at + 1))
-  mark-found e = (refl, λ u. sym (eqb-true _ _ (sym (told true e u))))
-
-  pub mark-missing : false ≡ mark_of_byte (get_or ts at past).kind m.byte → MarkIs ts at (Some m) (Err m.refusal)
-  mark-missing e = (refl, λ u q. eqb-false _ _ (sym (told false e u)) (sym q))
 
 -- ---- operand tokens
 
@@ -275,16 +216,20 @@ module _ (s : List ℕ) (l : Line) (at : ℕ) (k : Kept s l) (few : at ≤ 2) wh
         no-identifier LParen f = refl
         no-identifier RParen f = refl
 
-    -- It is the one of the row that is found by the key of its spelling in lower case.
-    module _ (i : (get_or l.tokens at past).kind ≡ Identifier) (below : Below s) (key : ℕ)
+    -- It is the one of the row that is found by the key of its spelling in lower case, if it has one.
+    module _ (i : (get_or l.tokens at past).kind ≡ Identifier) (below : Below s) (key : StdOption ℕ)
         (e : let t = get_or l.tokens at past in key ≡ key_of (map lower (take (t.start + t.length - t.start) (drop t.start s))))
-        (o : StdOption Mnemonic) (n : found_meant o ≡ find (λ q. eqb (key_of q.mnemonic) key) table) where
+        (o : StdOption Mnemonic) (n : MatchOption key (o ≡ None) (λ k. found_meant o ≡ find (λ q. eqb (packed q.mnemonic) k) table)) where
       named : found_meant o ≡ row_named (map lower word)
       named =
           let t = get_or l.tokens at past in
           let q : t.start + t.length - t.start ≡ t.length = omega arith in
-          let k : key ≡ key_of (map lower word) = e ∙ ap (λ j. key_of (map lower (take j (drop t.start s)))) q in
-          rw k at n ∙ sym (row-by-key (map lower word) (lowered-below word (below-part t.start t.length s below)))
+          by_key key (e ∙ ap (λ j. key_of (map lower (take j (drop t.start s)))) q) n
+        where
+          by_key : (o' : StdOption ℕ) → o' ≡ key_of (map lower word) → MatchOption o' (o ≡ None) (λ k. found_meant o ≡ find (λ q. eqb (packed q.mnemonic) k) table) → found_meant o ≡ row_named (map lower word)
+          by_key None h f = rw f (sym (row-without-key (map lower word) h))
+          by_key (Some k) h f =
+              let t = get_or l.tokens at past in f ∙ sym (row-by-key (map lower word) (lowered-below word (below-part t.start t.length s below)) k h)
 
       pub no-mnemonic : o ≡ None → ParsedIs s l at (Err UnknownMnemonic)
       unfolding read_mnemonic read_identifier

@@ -1,1 +1,3 @@
+pub mod Sources
 pub mod Promised
+pub mod Laws

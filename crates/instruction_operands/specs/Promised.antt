@@ -1,31 +1,43 @@
 -- What operands that were read mean in terms of the definitions, and what the functions promise.
-use Rattle.std.specs.Prelude.{ℕ, ◌+◌, ◌-◌, ◌≤◌, ◌<◌, ◌≡◌, List, map, length, drop, get_or, Option, Some, None, Ok, Err}
+use Rattle.std.specs.Prelude.{ℕ, ◌+◌, ◌-◌, ◌≤◌, ◌≡◌, List, [], ◌∷◌, ◌++◌, map, length, drop, get_or, Ok, Err}
 use Rattle.std.specs.Prelude.{Result as Answer}
-use Rattle.refusal.specs.Refusals.{answered}
+use Rattle.text_lexical.specs.Bytes.{refused}
+use Rattle.refusal.specs.Refusals.{answered, number_of}
 use Rattle.refusal.specs.declared.refusal.Refusal.{Refusal}
+use Rattle.refusal.specs.declared.refusal.Refusal.TheVariants.{OperandCount}
+use Rattle.text.specs.Tokens.{Token}
 use Rattle.text.specs.Lines.{kept}
 use Rattle.text.specs.Promised.{kind_meant, meant, filler, firsts}
+use Rattle.text.specs.declared.lexer.Kind.{Kind}
 use Rattle.text.specs.declared.lexer.Token.{Token as KeptToken}
 use Rattle.text.specs.declared.parser.Line.{Line}
 use Rattle.instruction.specs.Table.{Place}
-use Rattle.instruction.specs.Operands.{mark_byte, read_operands, read_row, read_instruction, behind}
+use Rattle.instruction.specs.Operands.{read_operands, read_row, read_instruction, behind}
 use Rattle.instruction.specs.Operands.{Instruction as Meant}
 use Rattle.instruction.specs.Promised.{row_of, operands_meant, parts_meant, SettledFor, Settled}
-use Rattle.instruction.specs.declared.form.Mark.{Mark}
 use Rattle.instruction.specs.declared.instruction.Operands.{Operands}
 use Rattle.instruction.specs.declared.opcode.Mnemonic.{Mnemonic}
 use Rattle.instruction_operands.specs.declared.assembler.Parsed.{Parsed}
+use Rattle.instruction_operands.specs.declared.assembler.Tokens.{Tokens}
 
--- A mark is one of the tokens that are kept, and has a byte.
-abbrev pub Within : ℕ → Option Mark → Type 0
-Within at None = Unit {0}
-Within at (Some m) = (at < kept) × (0 < m.byte)
+-- ---- the tokens of a line as a source
 
--- The token at a place is the mark that is asked for, if one is.
-abbrev pub MarkIs : List KeptToken → ℕ → Option Mark → Answer ℕ Refusal → Type 0
-MarkIs ts at None r = r ≡ Ok at
-MarkIs ts at (Some m) (Ok next) = (next ≡ at + 1) × ((u : List ℕ) → mark_byte (kind_meant (get_or ts at filler).kind u) ≡ m.byte)
-MarkIs ts at (Some m) (Err e) = (e ≡ m.refusal) × ((u : List ℕ) → mark_byte (kind_meant (get_or ts at filler).kind u) ≡ m.byte → ⊥)
+-- What they mean, of whatever text they are: no operand is read of a spelling.
+abbrev pub left_meant : Tokens → List Token
+left_meant t = map (meant []) t.left.now
+
+abbrev pub TokensTook : Tokens → List Token → Tokens → Type 0
+TokensTook s ts t = left_meant s ≡ ts ++ left_meant t
+
+abbrev pub TokensRefuse : Tokens → List Place → Refusal → Type 0
+TokensRefuse s ps e = read_operands ps (left_meant s) ≡ refused (number_of e)
+
+-- The next token was taken, and this is its kind; or there is none.
+abbrev pub KindTaken : Tokens → Answer Kind Refusal → Tokens → Type 0
+KindTaken s (Ok k) t = (u : List ℕ) × (left_meant s ≡ kind_meant k u ∷ left_meant t)
+KindTaken s (Err e) t = (left_meant s ≡ []) × (e ≡ OperandCount)
+
+-- ---- operands
 
 -- No part of operands that were read is free.
 abbrev pub OperandSettled : List Place → Answer Operands Refusal → Type 0

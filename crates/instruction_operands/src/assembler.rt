@@ -7,8 +7,10 @@ ghost use Rattle.text.specs.Promised.{kind_meant};
 ghost use Rattle.instruction.specs.Table.{places};
 ghost use Rattle.instruction.specs.Operands.{read_register};
 ghost use Rattle.instruction.specs.Promised.{form_meant};
-ghost use Rattle.instruction_operands.specs.Promised.{Within, MarkIs, Reads, RowIs, ParsedIs, Kept};
+ghost use Rattle.instruction_operands.specs.Promised.{TokensTook, TokensRefuse, KindTaken, Reads, RowIs, ParsedIs, Kept};
+ghost use Rattle.instruction_operands.specs.Laws.{tokens_laws};
 
+use crate::source::OperandSource;
 use instruction::form::{Form, Mark};
 use instruction::instruction::Operands;
 use instruction::opcode::Mnemonic;
@@ -37,22 +39,7 @@ fn extract_register(kind: Kind) -> Result<Register, Refusal>
     }
 }
 
-// The place after the mark that follows an operand, if one does.
-fn after_mark(tokens: [Token; KEPT], at: usize, mark: Option<Mark>) -> Result<usize, Refusal>
-    requires tokens_kept { length tokens ≡ kept }
-    requires mark_within { Within at mark }
-    ensures { MarkIs tokens at mark result }
-{
-    let Some(mark) = mark else {
-        return Ok(at);
-    };
-    if !text::lexer::is_mark(tokens[at].kind, mark.byte) {
-        return Err(mark.refusal);
-    }
-    Ok(at + 1)
-}
-
-// How many operand tokens a form has.
+// How many operand tokens a form has: one or two for each operand.
 fn operand_count(form: Form) -> usize
     ensures { result ≡ length (places (form_meant form)) }
 {
@@ -66,30 +53,62 @@ fn operand_count(form: Form) -> usize
     count
 }
 
-// The operands of a form, from the tokens after the one at `at`: from left to right, as the form describes them.
+// The tokens of a line from one on.
+#[derive(Drop)]
+struct Tokens<'a> {
+    left: &'a [Token],
+}
+
+impl Tokens<'_> {
+    // The kind of the next token. Where there is none, the form has more operands than the line.
+    fn take(&mut self) -> Result<Kind, Refusal>
+        ensures { KindTaken self.old result self.new }
+    {
+        let (token, left) = self.left.split_first().ok_or(Refusal::OperandCount)?;
+        self.left = left;
+        Ok(token.kind)
+    }
+}
+
+impl OperandSource for Tokens<'_> {
+    type Error = Refusal;
+
+    ghost Took = { TokensTook };
+
+    ghost Refuses = { TokensRefuse };
+
+    fn register(&mut self) -> Result<Register, Refusal> {
+        extract_register(self.take()?)
+    }
+
+    fn number(&mut self) -> Result<Whole, Refusal> {
+        text::parser::extract_number(self.take()?)
+    }
+
+    fn mark(&mut self, mark: Mark) -> Result<(), Refusal> {
+        if !text::lexer::is_mark(self.take()?, mark.byte) {
+            return Err(mark.refusal);
+        }
+        Ok(())
+    }
+
+    ghost laws = { tokens_laws };
+}
+
+// The operands of a form, from the tokens after the one at `at`.
+// A type for a place from 0 to 2 would ask the same where a place is made, and each use would have to read it out again.
 fn parse_operands(form: Form, tokens: [Token; KEPT], at: usize) -> Result<Operands, Refusal>
     requires tokens_kept { length tokens ≡ kept }
     requires place_in_range { at ≤ 2 }
     ensures { Reads (places (form_meant form)) tokens at result }
 {
-    let mut registers = [Register::R0; 3];
-    let mut count = 0;
-    let mut number = Whole::default();
-    let mut next = at + 1;
-    for operand in form.operands() {
-        let kind = tokens[next].kind;
-        if operand.is_number() {
-            number = text::parser::extract_number(kind)?;
-        } else {
-            registers[count] = extract_register(kind)?;
-            count += 1;
-        }
-        next = after_mark(tokens, next + 1, operand.mark())?;
-    }
-    Ok(Operands::new(registers, number))
+    let mut source = Tokens {
+        left: &tokens[at + 1..],
+    };
+    crate::source::read_operands(&mut source, form)
 }
 
-// The instruction of a mnemonic's row, by the operand tokens after the one at `at`.
+// The instruction of a mnemonic's row, by the operand tokens after the one at `at`. That this is 2 at most is for `parse_operands`.
 fn parse_row(mnemonic: Mnemonic, line: Line, at: usize) -> Result<Parsed, Refusal>
     requires token_there { at < line.count }
     requires place_in_range { at ≤ 2 }
@@ -119,7 +138,7 @@ pub fn parse_instruction(source: &[u8], line: Line, at: usize) -> Result<Parsed,
     };
     let end = token.start + token.length;
     let key = text_lexical::name::lower_key(&source[token.start..end]);
-    let Some(mnemonic) = instruction::opcode::find_mnemonic(key) else {
+    let Some(mnemonic) = key.and_then(instruction::opcode::find_mnemonic) else {
         return Err(Refusal::UnknownMnemonic);
     };
     parse_row(mnemonic, line, at)

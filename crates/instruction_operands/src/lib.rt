@@ -2,3 +2,4 @@
 #![tactic(auto)]
 
 pub mod assembler;
+pub mod source;

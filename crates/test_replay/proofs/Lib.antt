@@ -1,4 +1,3 @@
 pub mod Reading
 pub mod Lines
-pub mod Every
 pub mod Reports

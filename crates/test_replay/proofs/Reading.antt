@@ -1,5 +1,6 @@
 -- Laws of reading from a place on: up to an empty line, and the digits of a number.
-use Rattle.std.proofs.Common.{◌≡◌, ℕ, suc, ◌+◌, ◌-◌, ◌*◌, ◌^◌, ◌<◌, ◌≤◌, true, false, ◌&&◌, eqb, List, [], ◌∷◌, length, get_or, drop, sym, ◌∙◌, le_trans, add-zero, mul-le-mul_left, lt_of_not-le, mul-one, add-one, arith, drop_of_length-le, drop-cons, le-ltb, lt-ltb}
+use Rattle.std.proofs.Common.{◌≡◌, ℕ, suc, ◌+◌, ◌-◌, ◌*◌, ◌^◌, ◌<◌, ◌≤◌, true, false, ◌&&◌, eqb, List, [], ◌∷◌, length, get_or, drop, sym, ◌∙◌, le_trans, add-zero, mul-le-mul_left, lt_of_not-le, mul-one, add-one, arith, drop_of_length-le, drop-cons}
+use Rattle.std.specs.Prelude.{Some, None}
 use native.Mathlib.Nat.{min-eq_left, min-eq_right, min-le_right}
 use native.Mathlib.Decide.{dec_le}
 use Rattle.test_replay.specs.List.{behind, through_empty, digit_value, digits, value_from, fitted, number_at}
@@ -40,7 +41,7 @@ unfolding value_from
 value-ge radix p a [] = omega arith
 value-ge radix p a (d ∷ ds) =
     let m : a * 1 ≤ a * radix = mul-le-mul_left a p in
-    omega (arith, value-ge radix p (a * radix + digit_value d) ds, mul-one a)
+    omega (arith, value-ge radix p (a * radix + d) ds, mul-one a)
 
 -- What was read may be cut to 64 bits before the digits behind it are.
 value-fitted : (radix : ℕ) → 0 < radix → (a : ℕ) (ds : List ℕ) → fitted (value_from radix (fitted a) ds) ≡ fitted (value_from radix a ds)
@@ -53,13 +54,13 @@ value-fitted radix p a ds =
 -- ---- digits
 
 module _ (radix : ℕ) (s : List ℕ) (i : ℕ) where
-  digits_more : i < length s → digit_value (get_or s i 0) < radix → digits radix (drop i s) ≡ get_or s i 0 ∷ digits radix (drop (suc i) s)
+  digits_more : {d : ℕ} → i < length s → digit_value radix (get_or s i 0) ≡ Some d → digits radix (drop i s) ≡ d ∷ digits radix (drop (suc i) s)
   unfolding digits
-  digits_more h l = rw (drop-cons s i 0 h, digits, lt-ltb _ radix l)
+  digits_more h e = rw (drop-cons s i 0 h, digits, e)
 
-  pub digits-stop : i < length s → radix ≤ digit_value (get_or s i 0) → digits radix (drop i s) ≡ []
+  pub digits-stop : i < length s → digit_value radix (get_or s i 0) ≡ None → digits radix (drop i s) ≡ []
   unfolding digits
-  digits-stop h l = rw (drop-cons s i 0 h, digits, le-ltb _ radix l)
+  digits-stop h e = rw (drop-cons s i 0 h, digits, e)
 
   pub digits-end : length s ≤ i → digits radix (drop i s) ≡ []
   unfolding digits
@@ -75,14 +76,13 @@ pub record Unread (radix : ℕ) (s : List ℕ) (from value at : ℕ) : Type 0 wh
 
 module _ {radix : ℕ} {s : List ℕ} {from value at : ℕ} (u : Unread radix s from value at) where
   -- A digit more.
-  pub unread-more : 0 < radix → at < length s → digit_value (get_or s at 0) < radix
-      → Unread radix s from (fitted (value * radix + digit_value (get_or s at 0))) (at + 1)
+  pub unread-more : {d : ℕ} → 0 < radix → at < length s → digit_value radix (get_or s at 0) ≡ Some d → Unread radix s from (fitted (value * radix + d)) (at + 1)
   unfolding value_from
-  unread-more p h l =
+  unread-more {d} p h l =
       let e = digits_more radix s at h l in
       rw (add-one at) (record {
-        small = fitted-small (value * radix + digit_value (get_or s at 0));
-        means = value-fitted radix p (value * radix + digit_value (get_or s at 0)) (digits radix (drop (suc at) s)) ∙ rw e at u.means;
+        small = fitted-small (value * radix + d);
+        means = value-fitted radix p (value * radix + d) (digits radix (drop (suc at) s)) ∙ rw e at u.means;
         ends = omega (arith, rw e at u.ends);
       })
 

@@ -1,6 +1,6 @@
--- Laws of texts that are put into a room, one after the other, and of a number's digits.
-use Rattle.std.proofs.Common.{◌≡◌, ℕ, zero, suc, ◌+◌, ◌/◌, ◌%◌, ◌^◌, ◌<◌, ◌≤◌, min, true, false, eqb, List, [], ◌∷◌, ◌++◌, length, get_or, drop, set, sym, refl, ap, ◌∙◌, append_assoc, append-nil, add-zero, add-suc, suc-add, lt_of_not-le, add-one, arith, length-append, drop_of_length-le, length-take-le, take, ◌-◌, drop-cons, le-ltb, lt-ltb}
-use native.Mathlib.Nat.{min-eq_left, min-eq_right, min-le_right}
+-- Laws of texts that are put into a report, one after the other, and of a number's digits.
+use Rattle.std.proofs.Common.{◌≡◌, ℕ, zero, suc, ◌+◌, ◌/◌, ◌%◌, ◌^◌, ◌<◌, ◌≤◌, min, List, [], ◌∷◌, ◌++◌, length, get_or, drop, set, sym, refl, ap, ◌∙◌, append_assoc, append-nil, add-zero, add-suc, suc-add, lt_of_not-le, add-one, arith, length-append, drop_of_length-le, length-take-le, take, ◌-◌, drop-cons, le-ltb, lt-ltb, ne_eqb}
+use native.Mathlib.Nat.{min-eq_left, min-eq_right}
 use native.Mathlib.Decide.{dec_le}
 use lib.Seq.{sets, length-sets, set_out, drop-drop}
 use borrow.Rule.Slice.PartMut.{put_mid}
@@ -8,6 +8,7 @@ use lib.ListN.{take-append-drop}
 use Rattle.std.proofs.lemmas.List.Edits.{sets-eq}
 use Rattle.std.specs.Fmt.{decimal as written}
 use Rattle.std.proofs.lemmas.Fmt.{decimal_digit, decimal_step}
+use Rattle.test_replay.specs.declared.report.Report.{Report}
 use Rattle.test_replay.specs.Report.{decimal_in, decimal, filled, refusal_text, refusals_from, Put}
 
 -- ---- a text in a room
@@ -21,43 +22,43 @@ sets-append : (l : List ℕ) (at : ℕ) (s t : List ℕ) → sets l at (s ++ t) 
 sets-append l at [] t = rw (add-zero at)
 sets-append l at (b ∷ s) t = rw (add-suc at (length s), ← suc-add at (length s)) (sets-append (set l at b) (suc at) s t)
 
-pub put-made : {old new : List ℕ} {at end : ℕ} {text : List ℕ} → new ≡ sets old at text → end ≡ min (at + length text) (length old) → Put old at text end new
-put-made {old} {new} {at} {end} {text} h e =
-    let l : length new ≡ length old = ap length h ∙ length-sets old at text in
-    let w : end ≤ length new = omega (arith, e, min-le_right (at + length text) (length old)) in
-    record { holds = h; ends = e; within = w; part = sym (length-take-le end new w) }
+module _ {old new : Report} {text : List ℕ} (p : Put old text new) where
+  pub put-length : length new.room.now ≡ length old.room.now
+  put-length = ap length p.holds ∙ length-sets old.room.now old.end text
 
-pub put-length : {old new : List ℕ} {at end : ℕ} {text : List ℕ} → Put old at text end new → length new ≡ length old
-put-length {old} {new} {at} {end} {text} p = ap length p.holds ∙ length-sets old at text
+  -- A text, and then another after it.
+  pub put-append : {last : Report} {after : List ℕ} → Put new after last → Put old (text ++ after) last
+  put-append {last} {after} q =
+      let l = put-length in
+      let a = length-append text after in
+      let w = old.within in
+      let room = old.room.now in
+      elim (dec_le (old.end + length text) (length room)) [
+        | yes h ↦
+            let e : new.end ≡ old.end + length text = p.ends ∙ min-eq_left h in
+            record {
+              holds = q.holds ∙ rw (e, p.holds) (sym (sets-append room old.end text after));
+              ends = q.ends ∙ rw (l, e) (ap (λ (n : ℕ). min n (length room)) (omega arith));
+              same_room = q.same_room ∙ p.same_room;
+            }
+        | no h ↦
+            let g = lt_of_not-le h in
+            let e : new.end ≡ length room = p.ends ∙ min-eq_right (omega arith) in
+            let r : last.room.now ≡ new.room.now = q.holds ∙ sets-out new.room.now new.end after (omega arith) in
+            record {
+              holds = r ∙ p.holds ∙ sym (sets-append room old.end text after ∙ sets-out (sets room old.end text) (old.end + length text) after (rw (length-sets room old.end text) (omega arith)));
+              ends = q.ends ∙ rw (l, e) (min-eq_right (omega arith) ∙ sym (min-eq_right (omega arith)));
+              same_room = q.same_room ∙ p.same_room;
+            }
+      ]
 
--- A place past the room's end.
-pub put-past : (old : List ℕ) (at : ℕ) (text : List ℕ) → length old ≤ at → Put old at text (length old) old
-put-past old at text h = put-made (sym (sets-out old at text h)) (sym (min-eq_right (omega arith)))
-
--- No text after another.
-pub put-none : {old mid : List ℕ} {at place : ℕ} {s : List ℕ} → Put old at s place mid → Put mid place [] place mid
-put-none {place = place} p = put-made refl (sym (rw (add-zero place) (min-eq_left p.within)))
-
--- A text, and then another after it.
-pub put-append : {old mid new : List ℕ} {at place end : ℕ} {s t : List ℕ} → Put old at s place mid → Put mid place t end new → Put old at (s ++ t) end new
-put-append {old} {mid} {new} {at} {place} {end} {s} {t} p q =
-    let l = put-length p in
-    let a = length-append s t in
-    elim (dec_le (at + length s) (length old)) [
-      | yes h ↦
-          let e : place ≡ at + length s = p.ends ∙ min-eq_left h in
-          put-made (q.holds ∙ rw (e, p.holds) (sym (sets-append old at s t))) (q.ends ∙ rw (l, e) (ap (λ (n : ℕ). min n (length old)) (omega arith)))
-      | no h ↦
-          let g = lt_of_not-le h in
-          let e : place ≡ length old = p.ends ∙ min-eq_right (omega arith) in
-          let r : new ≡ mid = q.holds ∙ sets-out mid place t (omega arith) in
-          put-made (r ∙ p.holds ∙ sym (sets-append old at s t ∙ sets-out (sets old at s) (at + length s) t (rw (length-sets old at s) (omega arith))))
-          (q.ends ∙ rw (l, e) (min-eq_right (omega arith) ∙ sym (min-eq_right (omega arith))))
-    ]
+-- No text.
+pub put-none : (r : Report) → Put r [] r
+put-none r = record { holds = refl; ends = sym (rw (add-zero r.end) (min-eq_left r.within)); same_room = refl }
 
 -- As much of a text as there is room for, put as one part.
 pub put_part : (old : List ℕ) (at n : ℕ) (text : List ℕ) → at ≤ length old → n ≡ min (length text) (length old - at)
-    → Put old at text (at + n) (put_mid at n old (take n text))
+    → (put_mid at n old (take n text) ≡ sets old at text) × (at + n ≡ min (at + length text) (length old))
 put_part old at n text h e =
     let w : length (take n text) ≡ n = length-take-le n text (omega arith) in
     let t : sets old at text ≡ sets (sets old at (take n text)) (at + length (take n text)) (drop n text) =
@@ -69,7 +70,7 @@ put_part old at n text h e =
       | yes k ↦ rw (drop_of_length-le text k)
       | no k ↦ let g = lt_of_not-le k in sets-out (sets old at (take n text)) (at + length (take n text)) (drop n text) (rw (length-sets old at (take n text)) (omega arith))
     ] in
-    put-made (sym (t ∙ r ∙ m)) (omega arith)
+    (sym (t ∙ r ∙ m), omega arith)
 
 -- ---- a number's digits
 
@@ -91,20 +92,20 @@ decimal-is n h = digits_are n n (omega arith) h
 -- ---- a text that is put piece by piece
 
 -- What is put, and what is left, are all of the text.
-pub record Telling (old : List ℕ) (at : ℕ) (text new : List ℕ) (place : ℕ) (rest : List ℕ) : Type 0 where
+pub record Telling (old : Report) (text : List ℕ) (new : Report) (rest : List ℕ) : Type 0 where
   pub said : List ℕ
-  pub is-put : Put old at said place new
+  pub is-put : Put old said new
   pub left : said ++ rest ≡ text
 
-pub telling-none : {old new : List ℕ} {at place : ℕ} {text : List ℕ} → Put old at [] place new → Telling old at text new place text
-telling-none p = record { said = []; is-put = p; left = refl }
+pub telling-none : (r : Report) (text : List ℕ) → Telling r text r text
+telling-none r text = record { said = []; is-put = put-none r; left = refl }
 
-module _ {old : List ℕ} {at : ℕ} {text new : List ℕ} {place : ℕ} {rest : List ℕ} (l : Telling old at text new place rest) where
-  pub telling-more : {next s after : List ℕ} {end : ℕ} → rest ≡ s ++ after → Put new place s end next → Telling old at text next end after
+module _ {old new : Report} {text rest : List ℕ} (l : Telling old text new rest) where
+  pub telling-more : {next : Report} {s after : List ℕ} → rest ≡ s ++ after → Put new s next → Telling old text next after
   telling-more {s = s} {after} e p =
       record { said = l.said ++ s; is-put = put-append l.is-put p; left = append_assoc l.said s after ∙ rw e at l.left }
 
-  pub telling-all : rest ≡ [] → Put old at text place new
+  pub telling-all : rest ≡ [] → Put old text new
   telling-all e = rw (sym (append-nil l.said) ∙ rw e at l.left) at l.is-put
 
 -- ---- the lines of refusals
@@ -121,23 +122,22 @@ module _ (counts : List ℕ) (number : ℕ) where
 
 -- ---- a text that is filled with numbers
 
-filled-byte : (b : ℕ) (s ns : List ℕ) → eqb b 35 ≡ false → filled (b ∷ s) ns ≡ b ∷ filled s ns
-unfolding filled
-filled-byte b s [] h = refl
-filled-byte b s (n ∷ ns) h = rw (filled, h)
-
-module _ (s ns : List ℕ) (i n : ℕ) (h : i < length s) where
-  pub filled-number : n < length ns → eqb (get_or s i 0) 35 ≡ true
-      → filled (drop i s) (drop n ns) ≡ decimal (get_or ns n 0) ++ filled (drop (i + 1) s) (drop (n + 1) ns)
+module _ (s : List ℕ) (i : ℕ) (h : i < length s) where
+  pub filled-number : (ns : List ℕ) → 1 ≤ length ns → get_or s i 0 ≡ 35
+      → filled (drop i s) ns ≡ decimal (get_or ns 0 0) ++ filled (drop (i + 1) s) (drop 1 ns)
   unfolding filled
-  filled-number g e = rw (add-one i, add-one n, drop-cons s i 0 h, drop-cons ns n 0 g, filled, e)
+  filled-number [] g e = absurd (omega arith)
+  filled-number (n ∷ ns) g e = rw (add-one i, drop-cons s i 0 h, filled, e)
 
-  pub filled-other : eqb (get_or s i 0) 35 ≡ false → filled (drop i s) (drop n ns) ≡ get_or s i 0 ∷ filled (drop (i + 1) s) (drop n ns)
-  filled-other e = rw (add-one i, drop-cons s i 0 h) (filled-byte _ _ _ e)
-
-  pub filled-past : length ns ≤ n → filled (drop i s) (drop n ns) ≡ get_or s i 0 ∷ filled (drop (i + 1) s) (drop n ns)
+  pub filled-other : (ns : List ℕ) → (get_or s i 0 ≡ 35 → ⊥) → filled (drop i s) ns ≡ get_or s i 0 ∷ filled (drop (i + 1) s) ns
   unfolding filled
-  filled-past g = rw (add-one i, drop-cons s i 0 h, drop_of_length-le ns g)
+  filled-other [] e = rw (add-one i, drop-cons s i 0 h)
+  filled-other (n ∷ ns) e = rw (add-one i, drop-cons s i 0 h, filled, ne_eqb (get_or s i 0) 35 e)
+
+  pub filled-past : (ns : List ℕ) → length ns < 1 → filled (drop i s) ns ≡ get_or s i 0 ∷ filled (drop (i + 1) s) ns
+  unfolding filled
+  filled-past [] g = rw (add-one i, drop-cons s i 0 h)
+  filled-past (n ∷ ns) g = absurd (omega arith)
 
 pub filled_none : (s ns : List ℕ) (i : ℕ) → length s ≤ i → filled (drop i s) ns ≡ []
 unfolding filled

@@ -1,4 +1,3 @@
 pub mod List
-pub mod Every
 pub mod Tally
 pub mod Report

@@ -1,5 +1,5 @@
 -- Reading a list: what its bytes say from a place on. A place past the list's end holds 0.
-use Rattle.std.specs.Prelude.{ℕ, zero, suc, ◌+◌, ◌-◌, ◌*◌, ◌%◌, ◌^◌, min, Bool, true, false, ◌&&◌, ◌||◌, List, [], ◌∷◌, length, drop, ◌==◌, nat_le, nat_lt, slice_index}
+use Rattle.std.specs.Prelude.{ℕ, zero, suc, ◌+◌, ◌-◌, ◌*◌, ◌%◌, ◌^◌, min, Bool, true, false, ◌&&◌, ◌||◌, List, [], ◌∷◌, length, drop, ◌==◌, nat_le, nat_lt, slice_index, Option, Some, None}
 use Rattle.test_replay.specs.declared.list.Number.{Number}
 use Rattle.test_replay.specs.declared.list.Piece.{Piece}
 use Rattle.test_replay.specs.declared.list.Spelled.{Spelled}
@@ -33,19 +33,27 @@ next_record s from = from + through_empty 0 (drop from s)
 
 -- ---- numbers
 
--- A digit's value, with a to f for 10 to 15; 16 for what is no digit.
-unfoldable pub digit_value : ℕ → ℕ
-digit_value b = elim (nat_le 48 b && nat_le b 57) [ true ↦ b - 48 | false ↦ elim (nat_le 97 b && nat_le b 102) [ true ↦ b - 87 | false ↦ 16 ] ]
+-- A value that a digit of a radix has.
+abbrev pub below : ℕ → ℕ → Option ℕ
+below radix d = elim (nat_lt d radix) [ true ↦ Some d | false ↦ None ]
 
--- The digits that a list begins with.
+-- The value of a digit of a radix, with a to f for 10 to 15.
+unfoldable pub digit_value : ℕ → ℕ → Option ℕ
+digit_value radix b =
+    elim (nat_le 48 b && nat_le b 57) [
+      | true ↦ below radix (b - 48)
+      | false ↦ elim (nat_le 97 b && nat_le b 102) [ true ↦ below radix (b - 87) | false ↦ None ]
+    ]
+
+-- The values of the digits that a list begins with.
 unfoldable pub digits : ℕ → List ℕ → List ℕ
 digits radix [] = []
-digits radix (b ∷ s) = elim (nat_lt (digit_value b) radix) [ true ↦ b ∷ digits radix s | false ↦ [] ]
+digits radix (b ∷ s) = elim (digit_value radix b) [ Some d ↦ d ∷ digits radix s | None ↦ [] ]
 
 -- The value of digits, the highest first, behind those whose value is `a`.
 unfoldable pub value_from : ℕ → ℕ → List ℕ → ℕ
 value_from radix a [] = a
-value_from radix a (d ∷ ds) = value_from radix (a * radix + digit_value d) ds
+value_from radix a (d ∷ ds) = value_from radix (a * radix + d) ds
 
 -- A value in 64 bits: the largest of them for one that does not fit.
 unfoldable pub fitted : ℕ → ℕ
@@ -61,7 +69,7 @@ number_at radix s from =
 
 -- A digit's value in hex; 0 for what is no digit.
 unfoldable pub hex_digit : ℕ → ℕ
-hex_digit b = elim (nat_lt (digit_value b) 16) [ true ↦ digit_value b | false ↦ 0 ]
+hex_digit b = elim (digit_value 16 b) [ Some d ↦ d | None ↦ 0 ]
 
 -- The byte that two digits in hex spell, and the place behind them.
 unfoldable pub hex_byte_at : List ℕ → ℕ → Spelled

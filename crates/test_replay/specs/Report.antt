@@ -1,8 +1,9 @@
--- The text of a report, and how it is put into a room.
-use Rattle.std.specs.Prelude.{◌≡◌, ℕ, zero, suc, ◌+◌, ◌/◌, ◌%◌, ◌≤◌, min, Bool, true, false, List, [], ◌∷◌, ◌++◌, length, take, ◌==◌, nat_lt}
+-- The text of a report, and how it is put into its room.
+use Rattle.std.specs.Prelude.{◌≡◌, ℕ, zero, suc, ◌+◌, ◌/◌, ◌%◌, min, true, false, List, [], ◌∷◌, ◌++◌, length, ◌==◌, nat_lt}
 use Prim.Native.Char.{code}
 use Prim.Native.String.{String, [] as []ˢ, ◌∷◌ as ◌∷ˢ◌}
 use Rattle.std.proofs.lemmas.List.Edits.{sets}
+use Rattle.test_replay.specs.declared.report.Report.{Report}
 
 -- ---- texts
 
@@ -26,10 +27,9 @@ filled [] ns = []
 filled (b ∷ s) [] = b ∷ filled s []
 filled (b ∷ s) (n ∷ ns) = elim (b == 35) [ true ↦ decimal n ++ filled s ns | false ↦ b ∷ filled s (n ∷ ns) ]
 
--- The line of a record that differs; nothing for one that agrees.
-unfoldable pub verdict_text : ℕ → Bool → List ℕ
-verdict_text n true = []
-verdict_text n false = filled (bytes "differs: record #\n") (n ∷ [])
+-- The line of a record that differs.
+unfoldable pub difference_text : ℕ → List ℕ
+difference_text n = filled (bytes "differs: record #\n") (n ∷ [])
 
 -- The line of a refusal that was met so often; none if it was not met.
 unfoldable pub refusal_text : ℕ → ℕ → List ℕ
@@ -43,12 +43,15 @@ refusals_from number (count ∷ counts) = refusal_text number count ++ refusals_
 unfoldable pub refusals_text : List ℕ → List ℕ
 refusals_text counts = refusals_from 0 counts
 
--- ---- rooms
+-- ---- reports
 
--- A text was put into a room at a place: what the room then has, where the text ends, or the room, and that it ends there within
--- the room, said twice, as a use of the room's part up to there asks it.
-pub record Put (old : List ℕ) (at : ℕ) (text : List ℕ) (end : ℕ) (new : List ℕ) : Type 0 where
-  pub holds : new ≡ sets old at text
-  pub ends : end ≡ min (at + length text) (length old)
-  pub within : end ≤ length new
-  pub part : end ≡ length (take end new)
+-- A text was put into a report, behind the text that it had: what the room then has, and where the text ends, or the room. The room stays
+-- the one that was lent.
+pub record Put (old : Report) (text : List ℕ) (new : Report) : Type 0 where
+  pub holds : new.room.now ≡ sets old.room.now old.end text
+  pub ends : new.end ≡ min (old.end + length text) (length old.room.now)
+  pub same_room : new.room.ghost_name ≡ old.room.ghost_name
+
+-- This text was the last to be put into a report.
+abbrev pub EndsWith : List ℕ → Report → Type 0
+EndsWith text new = (old : Report) × Put old text new

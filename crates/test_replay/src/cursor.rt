@@ -1,5 +1,5 @@
 // A place of a list, which goes on as the list is read. Places have 64 bits: after the last comes the first.
-ghost use Rattle.std.specs.Prelude.{◌≡◌};
+ghost use Rattle.std.specs.Prelude.{◌≡◌, ◌<◌};
 ghost use Rattle.test_replay.specs.List.{byte_at, behind, has_tag, is_record_end, number_at};
 
 use crate::list;
@@ -17,7 +17,7 @@ impl<'a> Cursor<'a> {
         list::byte_at(self.list, self.at)
     }
 
-    // Whether a line with this tag stands there.
+    // Whether a line with this tag, a byte of the list's own, stands there.
     pub fn has_tag(self, tag: u8) -> bool
         ensures { result ≡ has_tag self.entry.list.now self.entry.at tag }
     {
@@ -53,9 +53,7 @@ impl<'a> Cursor<'a> {
         ensures value { result ≡ (number_at 10 self.old.list.now self.old.at).value }
         ensures place { self.new ≡ record { list = self.old.list; at = (number_at 10 self.old.list.now self.old.at).next } }
     {
-        let number = list::number_at(self.list, self.at);
-        self.at = number.next;
-        number.value
+        self.number_in(10)
     }
 
     // Reads a number in hex, lower case, and the byte that ends it.
@@ -63,7 +61,15 @@ impl<'a> Cursor<'a> {
         ensures value { result ≡ (number_at 16 self.old.list.now self.old.at).value }
         ensures place { self.new ≡ record { list = self.old.list; at = (number_at 16 self.old.list.now self.old.at).next } }
     {
-        let number = list::hex_at(self.list, self.at);
+        self.number_in(16)
+    }
+
+    fn number_in(&mut self, radix: u8) -> u64
+        requires { 0 < radix }
+        ensures value { result ≡ (number_at radix self.old.list.now self.old.at).value }
+        ensures place { self.new ≡ record { list = self.old.list; at = (number_at radix self.old.list.now self.old.at).next } }
+    {
+        let number = list::number_in(self.list, self.at, radix);
         self.at = number.next;
         number.value
     }

@@ -4,5 +4,7 @@
 
 pub mod cursor;
 pub mod list;
+pub mod replay;
 pub mod report;
+pub mod room;
 pub mod tally;

@@ -1,7 +1,9 @@
-// Reading a list: its bytes, records, and in a record a line of text and numbers. A place past the list's end holds 0.
+// Reading a list: its bytes, records, and in a record a line of text and numbers. A place past the list's end holds 0, which is in no list and
+// ends each number and tag there, so that no step of reading has to ask for the end first. A list and a place stand apart here: the methods of
+// `Cursor`, which has both, rest on these functions.
 ghost use Rattle.std.specs.Io.{ReadsAtMost};
 ghost use Rattle.std.specs.Io.KnownBytes.{Consumes, IsAtEnd};
-ghost use Rattle.std.specs.Prelude.{IfOk, ◌≡◌, ◌+◌, ◌*◌, ◌<◌, ◌≤◌, [], ◌∷◌, ◌++◌, length, take};
+ghost use Rattle.std.specs.Prelude.{IfOk, IfSome, ◌≡◌, ◌+◌, ◌*◌, ◌<◌, ◌≤◌, [], ◌∷◌, ◌++◌, length, take};
 ghost use Rattle.std.proofs.lemmas.List.Edits.{sets};
 ghost use Rattle.test_replay.specs.List.{byte_at, has_tag, is_record_end, next_record, digit_value, fitted, number_at};
 ghost use Rattle.test_replay.specs.List.{hex_digit, hex_byte_at, unescaped_at, line_for, piece_for};
@@ -39,7 +41,7 @@ pub fn read_full<R: Read>(input: &mut R, room: &mut [u8]) -> io::Result<usize>
     ensures end { IfOk result (λ n. n < length room.new → IsAtEnd (R.remaining input.new)) }
 {
     let mut done = 0;
-    // each read says how far the next one begins
+    // each read tells where the next one begins, so no range gives the places
     while done < room.len() {
         let n = input.read(&mut room[done..])?;
         if n == 0 {
@@ -53,13 +55,10 @@ pub fn read_full<R: Read>(input: &mut R, room: &mut [u8]) -> io::Result<usize>
 pub fn byte_at(list: &[u8], at: usize) -> u8
     ensures { result ≡ byte_at list.now at }
 {
-    match list.get(at) {
-        Some(&byte) => byte,
-        None => 0,
-    }
+    list.get(at).copied().unwrap_or(0)
 }
 
-// Whether a line with this tag stands at a place.
+// Whether a line with this tag stands at a place. Tags are the list's own bytes, and each program has its own.
 #[tactic(auto, unfolding(crate::specs::List::has_tag, crate::specs::List::behind))]
 pub fn has_tag(list: &[u8], at: usize, tag: u8) -> bool
     ensures { result ≡ has_tag list.now at tag }
@@ -93,39 +92,43 @@ pub fn next_record(list: &[u8], from: usize) -> usize
     list.len()
 }
 
-// The value of a digit, and 16 for what is none.
+// The value of a digit of a number in this radix, in lower case alone, where the library takes capitals too.
 #[tactic(auto, unfolding(crate::specs::List::digit_value))]
-fn digit_value(b: u8) -> u8
-    ensures { result ≡ digit_value b }
+fn digit_value(radix: u8, b: u8) -> Option<u8>
+    ensures value { result ≡ digit_value radix b }
+    ensures upper_bound { IfSome result (λ digit. digit < radix) }
 {
-    match b {
+    let value = match b {
         b'0'..=b'9' => b - b'0',
         b'a'..=b'f' => b - b'a' + 10,
-        _ => 16,
-    }
+        _ => return None,
+    };
+    (value < radix).then_some(value)
 }
 
 // A number with a digit behind it; the largest of 64 bits where that does not fit.
 #[tactic(auto, unfolding(crate::specs::List::fitted))]
-fn extended(value: u64, radix: u64, digit: u64) -> u64
+fn extended(value: u64, radix: u8, digit: u8) -> u64
     ensures { result ≡ fitted (value * radix + digit) }
 {
-    value.saturating_mul(radix).saturating_add(digit)
+    value
+        .saturating_mul(u64::from(radix))
+        .saturating_add(u64::from(digit))
 }
 
-fn number_in(list: &[u8], from: usize, radix: u64) -> Number
+// A number in a radix; its digits above 9 are in lower case.
+pub(crate) fn number_in(list: &[u8], from: usize, radix: u8) -> Number
     requires { 0 < radix }
     ensures { result ≡ number_at radix list.now from }
 {
     let mut value = 0;
     for at in from..list.len() {
-        let digit = u64::from(digit_value(list[at]));
-        if radix <= digit {
+        let Some(digit) = digit_value(radix, list[at]) else {
             return Number {
                 value,
                 next: at.wrapping_add(1),
             };
-        }
+        };
         value = extended(value, radix, digit);
     }
     Number {
@@ -134,26 +137,12 @@ fn number_in(list: &[u8], from: usize, radix: u64) -> Number
     }
 }
 
-pub fn number_at(list: &[u8], from: usize) -> Number
-    ensures { result ≡ number_at 10 list.now from }
-{
-    number_in(list, from, 10)
-}
-
-// A number in hex, lower case.
-pub fn hex_at(list: &[u8], from: usize) -> Number
-    ensures { result ≡ number_at 16 list.now from }
-{
-    number_in(list, from, 16)
-}
-
 #[tactic(auto, unfolding(crate::specs::List::hex_digit))]
 fn hex_digit(b: u8) -> u8
     ensures value { result ≡ hex_digit b }
     ensures upper_bound { result < 16 }
 {
-    let value = digit_value(b);
-    if value < 16 { value } else { 0 }
+    digit_value(16, b).unwrap_or(0)
 }
 
 // A byte of two digits in hex, lower case.
@@ -182,8 +171,9 @@ pub fn unescaped_at(list: &[u8], at: usize) -> Spelled
     Spelled { byte, next }
 }
 
-// Puts a record's line into the room, behind two bytes that it leaves, and byte 10 behind it. A line that is too long is cut,
-// and then differs. The last two promises follow from the others, and are what a use of the line asks for, as `&room[..end]`.
+// Puts a record's line into the room, behind two bytes that it leaves, and byte 10 behind it. The place is one of the list: the room has none,
+// and is filled from its third byte on. A line that is too long is cut, and then differs. The last two promises follow from the others, and are
+// what a use of the line asks for, as `&room[..end]`. Any room will do that has a third byte, so it is no array of one length.
 pub fn line_at(list: &[u8], from: usize, room: &mut [u8]) -> Piece
     requires { 2 < length room.old }
     ensures value { result ≡ piece_for (length room.old) list.now from }
@@ -192,14 +182,17 @@ pub fn line_at(list: &[u8], from: usize, room: &mut [u8]) -> Piece
     ensures slice_end { result.end ≡ length (take result.end room.new) }
 {
     let start = 2;
-    let mut end: usize = start;
+    let last = room.len() - 1;
+    let mut end = last;
     let mut at = from;
-    // two places go on at once, of which that of the list is told by what is read
-    while end < room.len() - 1 && byte_at(list, at) != b'\n' {
-        let next = unescaped_at(list, at);
-        room[end] = next.byte;
-        at = next.next;
-        end += 1;
+    for place in start..last {
+        if byte_at(list, at) == b'\n' {
+            end = place;
+            break;
+        }
+        let spelled = unescaped_at(list, at);
+        room[place] = spelled.byte;
+        at = spelled.next;
     }
     room[end] = b'\n';
     Piece {

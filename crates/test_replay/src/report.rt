@@ -1,53 +1,74 @@
-// The text of a report, put piece after piece into a room that the program lends and then writes: there is no heap, and a struct of the room
-// and a place would be handed on as both are. What goes past the room's end is left out.
-ghost use Rattle.test_replay.specs.Report.{decimal, filled, verdict_text, Put};
+// The text of a report, put piece after piece into a room that the program lends and then writes: there is no heap. What goes past the
+// room's end is left out.
+ghost use Rattle.std.specs.Prelude.{◌≤◌, length};
 
 use itoa::Buffer;
 
-// Puts bytes into the room from a place on, and answers the place after them.
-pub fn put(room: &mut [u8], at: usize, bytes: &[u8]) -> usize
-    ensures { Put room.old at bytes.now result room.new }
-{
-    if room.len() < at {
-        return room.len();
+// The room, and where the text in it ends.
+#[derive(Drop)]
+pub struct Report<'a> {
+    pub room: &'a mut [u8],
+    pub end: usize,
+    ghost within: { end ≤ length room.now },
+}
+
+impl<'a> Report<'a> {
+    ghost use Rattle.std.specs.Prelude.{◌≡◌, take};
+    ghost use Rattle.test_replay.specs.Report.{decimal, filled, difference_text, Put};
+
+    // A report without a text as yet.
+    pub fn new(room: &'a mut [u8]) -> Report<'a>
+        ensures end { result.end ≡ 0 }
+        ensures room { result.room.now ≡ room.old }
+        ensures same_room { result.room.ghost_name ≡ room.entry.ghost_name }
+    {
+        Report { room, end: 0 }
     }
-    let n = bytes.len().min(room.len() - at);
-    let end = at + n;
-    room[at..end].copy_from_slice(&bytes[..n]);
-    end
-}
 
-// Puts a number in decimal.
-fn put_number(room: &mut [u8], at: usize, n: u64) -> usize
-    ensures { Put room.old at (decimal n) result room.new }
-{
-    let mut buffer = Buffer::new();
-    put(room, at, buffer.format(n).as_bytes())
-}
+    pub fn text(&self) -> &[u8]
+        ensures { result.now ≡ take self.now.end self.now.room.now }
+    {
+        &self.room[..self.end]
+    }
 
-// Puts a text in which each `#` stands for the next of the numbers, as long as there is one.
-pub fn put_filled(room: &mut [u8], at: usize, text: &[u8], numbers: &[u64]) -> usize
-    ensures { Put room.old at (filled text.now numbers.now) result room.new }
-{
-    let mut place = put(room, at, b"");
-    let mut n = 0;
-    for &byte in text {
-        if n < numbers.len() && byte == b'#' {
-            place = put_number(room, place, numbers[n]);
-            n += 1;
-        } else {
-            place = put(room, place, &[byte]);
+    // Puts bytes behind the text.
+    pub fn put(&mut self, bytes: &[u8])
+        ensures { Put self.old bytes.now self.new }
+    {
+        let n = bytes.len().min(self.room.len() - self.end);
+        let end = self.end + n;
+        self.room[self.end..end].copy_from_slice(&bytes[..n]);
+        self.end = end;
+    }
+
+    // Puts a number in decimal.
+    fn put_number(&mut self, n: u64)
+        ensures { Put self.old (decimal n) self.new }
+    {
+        let mut buffer = Buffer::new();
+        self.put(buffer.format(n).as_bytes());
+    }
+
+    // Puts a text in which each `#` stands for the next of the numbers, as long as there is one.
+    pub fn put_filled(&mut self, text: &[u8], numbers: &[u64])
+        ensures { Put self.old (filled text.now numbers.now) self.new }
+    {
+        let mut left = numbers;
+        for &byte in text {
+            match left {
+                [number, rest @ ..] if byte == b'#' => {
+                    self.put_number(*number);
+                    left = rest;
+                }
+                _ => self.put(&[byte]),
+            }
         }
     }
-    place
-}
 
-// The line of a record that differs, by its number, counted from 1; nothing for one that agrees.
-pub fn put_verdict(room: &mut [u8], at: usize, number: u64, agrees: bool) -> usize
-    ensures { Put room.old at (verdict_text number agrees) result room.new }
-{
-    if agrees {
-        return put(room, at, b"");
+    // Puts the line of a record that differs, by its number, counted from 1.
+    pub fn put_difference(&mut self, number: u64)
+        ensures { Put self.old (difference_text number) self.new }
+    {
+        self.put_filled(b"differs: record #\n", &[number]);
     }
-    put_filled(room, at, b"differs: record #\n", &[number])
 }

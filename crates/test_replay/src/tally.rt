@@ -3,7 +3,7 @@ ghost use Rattle.std.specs.Prelude.{◌≡◌, replicate};
 ghost use Rattle.test_replay.specs.Tally.{one_more, counted, agreed, nothing_tallied, tallied, tally_text};
 ghost use Rattle.test_replay.specs.Report.{refusals_text, Put};
 
-use crate::report::{put, put_filled};
+use crate::report::Report;
 
 // No run counts to 2^64.
 pub fn more(n: u64) -> u64
@@ -25,35 +25,31 @@ impl Refusals {
         Refusals { counts: [0u64; 33] }
     }
 
+    // One refusal more.
     #[tactic(auto, unfolding(crate::specs::Tally::counted))]
-    pub fn with(mut self, number: u64) -> Refusals
-        ensures { result ≡ record { counts = counted self.counts number } }
+    pub fn count(&mut self, number: u64)
+        ensures { self.new ≡ record { counts = counted self.old.counts number } }
     {
         let at = number as usize;
         if at < self.counts.len() {
             self.counts[at] = more(self.counts[at]);
         }
-        self
     }
 
-    // A line for each refusal that was met, put into a room as `put` does.
-    pub fn put(self, room: &mut [u8], at: usize) -> usize
-        ensures { Put room.old at (refusals_text self.counts) result room.new }
+    // Puts a line for each refusal that was met.
+    pub fn put(&self, report: &mut Report)
+        ensures { Put report.old (refusals_text self.now.counts) report.new }
     {
-        let counts = self.counts;
-        let mut place = put(room, at, b"");
-        for number in 0..counts.len() {
-            if 0 < counts[number] {
-                let numbers = [counts[number], number as u64];
-                place = put_filled(room, place, b"# refused by #\n", &numbers);
+        for (number, &count) in self.counts.iter().enumerate() {
+            if 0 < count {
+                report.put_filled(b"# refused by #\n", &[count, number as u64]);
             }
         }
-        place
     }
 }
 
 // What comparing a record gave: it differs, or it agrees in what is assembled, in what is listed, or in a refusal, by the list's own number for
-// it.
+// it. Four outcomes, each counted by itself, so this is no `Option`.
 #[derive(Clone, Copy)]
 pub enum Outcome {
     Differs,
@@ -62,7 +58,7 @@ pub enum Outcome {
     Refused(u64),
 }
 
-// Whether a record agrees.
+// Whether a record agrees. It is an equation, as a comparison by the enum's variants in the programs would not be.
 #[tactic(auto, unfolding(crate::specs::Tally::agreed))]
 pub fn agrees(outcome: Outcome) -> bool
     ensures { result ≡ agreed outcome }
@@ -96,29 +92,24 @@ impl Tally {
 
     // One record more.
     #[tactic(auto, unfolding(crate::specs::Tally::tallied))]
-    pub fn with(mut self, outcome: Outcome) -> Tally
-        ensures { result ≡ tallied self outcome }
+    pub fn count(&mut self, outcome: Outcome)
+        ensures { self.new ≡ tallied self.old outcome }
     {
         self.records = more(self.records);
         match outcome {
             Outcome::Differs => self.differences = more(self.differences),
             Outcome::Assembled => self.assembled = more(self.assembled),
             Outcome::Listed => self.listed = more(self.listed),
-            Outcome::Refused(number) => {
-                let refusals = self.refusals;
-                self.refusals = refusals.with(number);
-            }
+            Outcome::Refused(number) => self.refusals.count(number),
         }
-        self
     }
 
-    // The counts, put into a room: a text of the program's own, filled with the first four, and the lines of the refusals.
-    pub fn put(self, text: &[u8], room: &mut [u8], at: usize) -> usize
-        ensures { Put room.old at (tally_text text.now self) result room.new }
+    // Puts the counts: a text of the program's own, filled with the first four, and the lines of the refusals.
+    pub fn put(&self, text: &[u8], report: &mut Report)
+        ensures { Put report.old (tally_text text.now self.now) report.new }
     {
         let counts = [self.records, self.differences, self.assembled, self.listed];
-        let next = put_filled(room, at, text, &counts);
-        let refusals = self.refusals;
-        refusals.put(room, next)
+        report.put_filled(text, &counts);
+        self.refusals.put(report);
     }
 }

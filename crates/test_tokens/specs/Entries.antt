@@ -1,5 +1,5 @@
 -- When the record of a line is what the list has for it. The list's format is described in oracle/README.md, which is quoted.
-use Rattle.std.specs.Prelude.{ℕ, ◌+◌, ◌-◌, ◌%◌, ◌^◌, Bool, true, false, ◌&&◌, List, [], ◌∷◌, ◌==◌, nat_lt, eqb, Result, Ok, Err}
+use Rattle.std.specs.Prelude.{ℕ, zero, suc, ◌+◌, ◌%◌, ◌^◌, Bool, ◌&&◌, List, [], ◌∷◌, ◌==◌, eqb, Result, Ok, Err}
 use Rattle.text_lexical.specs.Promised.{index_of}
 use Rattle.text.specs.declared.lexer.Kind.{Kind}
 use Rattle.text.specs.declared.lexer.Kind.TheVariants.{Identifier, Register, NoRegister, Number, Negative, Hex, Binary, Directive, Comma, Colon, LParen, RParen}
@@ -29,45 +29,49 @@ spelling_of Colon = record { letter = 58; value = 0 }
 spelling_of LParen = record { letter = 40; value = 0 }
 spelling_of RParen = record { letter = 41; value = 0 }
 
+-- A token that was read, as the list would have it.
+unfoldable pub entry_of : Token → Entry
+entry_of t =
+    record { tag = 107; kind = (spelling_of t.kind).letter; start = t.start; length = t.length; value = (spelling_of t.kind).value }
+
 -- `k KIND START LENGTH VALUE` at a place, for a line that begins at `from` of the text: "START counts from the line's first byte".
 unfoldable pub entry_at : List ℕ → ℕ → ℕ → Entry
 entry_at s at from =
     let start = number_at 10 s (behind at 4) in
     let size = number_at 10 s start.next in
-    let value = number_at 10 s size.next in
     record {
       tag = byte_at s at;
       kind = byte_at s (behind at 2);
       start = (start.value + from) % 2 ^ 64;
       length = size.value;
-      value = value.value;
-      next = value.next;
+      value = (number_at 10 s size.next).value;
     }
 
--- What stands in a place that no token takes, where the list has nothing: a comma of no length, and the list goes on where it was.
-unfoldable pub filler_at : ℕ → Entry
-filler_at next = record { tag = 107; kind = 44; start = 0; length = 0; value = 0; next = next }
+-- The place after that line.
+unfoldable pub entry_end : List ℕ → ℕ → ℕ
+entry_end s at = (number_at 10 s (number_at 10 s (number_at 10 s (behind at 4)).next).next).next
 
--- A token is what the list has.
-unfoldable pub same_token : Token → Entry → Bool
-same_token t e =
-    (e.tag == 107)
-    && (spelling_of t.kind).letter == e.kind
-    && (spelling_of t.kind).value == e.value
-    && t.start == e.start
-    && t.length == e.length
+-- What stands in a place that no token takes, where the list has nothing: a comma of no length.
+abbrev pub filler : Entry
+filler = record { tag = 107; kind = 44; start = 0; length = 0; value = 0 }
+
+-- Two such tokens are one, each field of them.
+abbrev pub same_entry : Entry → Entry → Bool
+same_entry held e =
+    held.tag == e.tag
+    && held.kind == e.kind
+    && held.start == e.start
+    && held.length == e.length
+    && held.value == e.value
 
 -- ---- lines
 
--- What the list has for the next place of a line, of which so many tokens are left.
-unfoldable pub wanted_at : ℕ → ℕ → List ℕ → ℕ → Entry
-wanted_at left from s at = elim (nat_lt 0 left) [ true ↦ entry_at s at from | false ↦ filler_at at ]
-
--- The places of a line hold the tokens that the list has from a place on, and then fillers; and there the list's record ends.
+-- The places of a line hold the tokens that the list has from a place on, as many as are left, and then fillers; and there the list's record
+-- ends.
 unfoldable pub same_tokens : ℕ → ℕ → List Token → List ℕ → ℕ → Bool
 same_tokens left from [] s at = is_record_end s at
-same_tokens left from (t ∷ ts) s at =
-    same_token t (wanted_at left from s at) && same_tokens (left - 1) from ts s (wanted_at left from s at).next
+same_tokens zero from (t ∷ ts) s at = same_entry (entry_of t) filler && same_tokens zero from ts s at
+same_tokens (suc left) from (t ∷ ts) s at = same_entry (entry_of t) (entry_at s at from) && same_tokens left from ts s (entry_end s at)
 
 -- What is read of a line is what the list has after it: "`b`: a token of it is bad"; "`n COUNT`: or all its tokens, then the first nine of them". No line is
 -- refused for anything else.

@@ -1,21 +1,21 @@
 // What a record of the list says of a line's tokens, and whether a line's record agrees.
 ghost use Rattle.std.specs.Prelude.{◌≡◌};
-ghost use Rattle.test_tokens.specs.Entries.{spelling_of, entry_at, filler_at, same_token, same_tokens, same_line};
+ghost use Rattle.test_tokens.specs.Entries.{spelling_of, entry_of, entry_at, entry_end, filler, same_tokens, same_line};
 
 use refusal::refusal::Refusal;
-use test_replay::list::{Piece, byte_at, is_record_end, number_at};
+use test_replay::cursor::Cursor;
+use test_replay::list::Piece;
 use text::lexer::{Kind, Token};
-use text::parser::{KEPT, Line};
+use text::parser::Line;
 
-// A token, and the place after its line of the list.
-#[derive(Clone, Copy)]
+// A token as the list has it. Its tag and its kind are the list's own bytes: an enum of kinds would be the one of the crate under test.
+#[derive(Clone, Copy, PartialEq)]
 pub struct Entry {
     pub tag: u8,
     pub kind: u8,
     pub start: u64,
     pub length: u64,
     pub value: u64,
-    pub next: usize,
 }
 
 // How a kind stands in the list: its letter and its number.
@@ -33,6 +33,7 @@ impl Spelling {
     }
 }
 
+// How the list spells a kind: a function with a name, since a conversion would not say that the letters are the list's own.
 #[tactic(auto, unfolding(crate::specs::Entries::spelling_of))]
 fn spelled(kind: Kind) -> Spelling
     ensures { result ≡ spelling_of kind }
@@ -53,28 +54,45 @@ fn spelled(kind: Kind) -> Spelling
     }
 }
 
-// A token of a line that begins at `from` of the text.
-#[tactic(auto, unfolding(crate::specs::Entries::entry_at, test_replay::specs::List::behind))]
-fn entry_at(list: &[u8], at: usize, from: usize) -> Entry
-    ensures { result ≡ entry_at list.now at from }
+// A token that was read, as the list would have it, which a conversion would not say.
+#[tactic(auto, unfolding(crate::specs::Entries::entry_of))]
+fn entry_of(token: Token) -> Entry
+    ensures { result ≡ entry_of token }
 {
-    let start = number_at(list, at.wrapping_add(4));
-    let length = number_at(list, start.next);
-    let value = number_at(list, length.next);
+    let spelling = spelled(token.kind);
     Entry {
-        tag: byte_at(list, at),
-        kind: byte_at(list, at.wrapping_add(2)),
-        start: start.value.wrapping_add(from as u64),
-        length: length.value,
-        value: value.value,
-        next: value.next,
+        tag: b'k',
+        kind: spelling.letter,
+        start: token.start as u64,
+        length: token.length as u64,
+        value: spelling.value,
+    }
+}
+
+// Reads a token of a line that begins at `from` of the text.
+#[tactic(auto, unfolding(crate::specs::Entries::entry_at, crate::specs::Entries::entry_end, test_replay::specs::List::behind))]
+fn read_entry(cursor: &mut Cursor, from: usize) -> Entry
+    ensures value { result ≡ entry_at cursor.old.list.now cursor.old.at from }
+    ensures place { cursor.new ≡ record { list = cursor.old.list; at = entry_end cursor.old.list.now cursor.old.at } }
+{
+    let tag = cursor.byte();
+    let kind = cursor.after(2).byte();
+    cursor.skip(4);
+    let start = cursor.number().wrapping_add(from as u64);
+    let length = cursor.number();
+    let value = cursor.number();
+    Entry {
+        tag,
+        kind,
+        start,
+        length,
+        value,
     }
 }
 
 // What stands past the count, where the list has nothing.
-#[tactic(auto, unfolding(crate::specs::Entries::filler_at))]
-fn filler(next: usize) -> Entry
-    ensures { result ≡ filler_at next }
+fn filler() -> Entry
+    ensures { result ≡ filler }
 {
     Entry {
         tag: b'k',
@@ -82,42 +100,26 @@ fn filler(next: usize) -> Entry
         start: 0,
         length: 0,
         value: 0,
-        next,
     }
 }
 
-// Whether a token is what the list has.
-#[tactic(auto, unfolding(crate::specs::Entries::same_token))]
-fn is_entry(token: Token, entry: Entry) -> bool
-    ensures { result ≡ same_token token entry }
+// Whether the places of a line from `from` hold the tokens that the list has at a place, and then the filler.
+fn are_entries(line: Line, from: usize, place: Cursor) -> bool
+    ensures { result ≡ same_tokens line.count from line.tokens place.entry.list.now place.entry.at }
 {
-    let kind = token.kind;
-    let spelling = spelled(kind);
-    entry.tag == b'k'
-        && spelling.letter == entry.kind
-        && spelling.value == entry.value
-        && token.start as u64 == entry.start
-        && token.length as u64 == entry.length
-}
-
-// Whether the places of a line from `from` hold the tokens that the list has from `at` on, and then the filler.
-fn are_entries(line: Line, from: usize, list: &[u8], at: usize) -> bool
-    ensures { result ≡ same_tokens line.count from line.tokens list.now at }
-{
-    let tokens = line.tokens;
-    let mut next = at;
-    for i in 0..KEPT {
-        let entry = if i < line.count {
-            entry_at(list, next, from)
+    let mut cursor = place;
+    // a token stands where the one before it ends, so a chain's closure would change the cursor, and nothing be known of what it answers
+    for (i, &token) in line.tokens.iter().enumerate() {
+        let wanted = if i < line.count {
+            read_entry(&mut cursor, from)
         } else {
-            filler(next)
+            filler()
         };
-        if !is_entry(tokens[i], entry) {
+        if entry_of(token) != wanted {
             return false;
         }
-        next = entry.next;
     }
-    is_record_end(list, next)
+    cursor.is_record_end()
 }
 
 // Whether what is read of a line is what the list has after it.
@@ -125,17 +127,21 @@ fn are_entries(line: Line, from: usize, list: &[u8], at: usize) -> bool
 pub(crate) fn is_answer(read: Result<Line, Refusal>, piece: Piece, list: &[u8]) -> bool
     ensures { result ≡ same_line read piece list.now }
 {
-    let tag = byte_at(list, piece.next);
-    let next = piece.next.wrapping_add(2);
+    let place = Cursor {
+        list,
+        at: piece.next,
+    };
+    let tag = place.byte();
+    let mut next = place.after(2);
     match read {
         Ok(line) => {
-            let count = number_at(list, next);
+            let count = next.number();
             tag == b'n'
-                && line.count as u64 == count.value
+                && line.count as u64 == count
                 && line.end == piece.end
-                && are_entries(line, piece.start, list, count.next)
+                && are_entries(line, piece.start, next)
         }
-        Err(Refusal::BadToken) => tag == b'b' && is_record_end(list, next),
+        Err(Refusal::BadToken) => tag == b'b' && next.is_record_end(),
         Err(_) => false,
     }
 }

@@ -2,7 +2,8 @@
 // record that differs, then counts.
 #![tactic(auto)]
 
-ghost use Rattle.std.specs.Prelude.{◌≡◌, ◌<◌, ◌≤◌, length, take};
+ghost use Rattle.std.specs.Prelude.{◌≤◌, length};
+ghost use Rattle.test_tokens.specs.Tally.{tally_text};
 
 mod list;
 mod tally;
@@ -12,17 +13,12 @@ use refusal::refusal::Refusal;
 use std::io;
 use std::io::Write;
 use tally::Tally;
-use test_replay::list::read_full;
-use test_replay::report::put_verdict;
+use test_replay::cursor::Cursor;
+use test_replay::list::{line_at, read_full};
+use test_replay::replay::{Replay, compare};
+use test_replay::report::Report;
 use text::parser::Line;
 use text_lexical::bytes::Margin;
-
-// What comparing a record gave: what is read of its line within a text, and whether that agrees.
-#[derive(Clone, Copy)]
-struct Compared {
-    read: Result<Line, Refusal>,
-    agrees: bool,
-}
 
 // What is read of the line that begins at `from`, past its margin.
 fn record_of(text: &[u8], from: usize) -> Result<Line, Refusal>
@@ -32,47 +28,36 @@ fn record_of(text: &[u8], from: usize) -> Result<Line, Refusal>
     text::parser::tokenize(text, start)
 }
 
-// The line stands twice: within a text, where what is before it and after its byte 10 must not matter, and at a text's end.
-fn outcome_in(list: &[u8], at: usize, room: &mut [u8]) -> Compared
-    requires { 2 < length room.old }
-{
-    let piece = test_replay::list::line_at(list, at.wrapping_add(2), room);
+// Compares and counts the record of a line, which is read into the room. The line stands twice: within a text, where what is before it and
+// after its byte 10 must not matter, and at a text's end.
+fn agrees_in(tally: &mut Tally, place: Cursor, room: &mut [u8; 512]) -> bool {
+    let piece = line_at(place.list, place.after(2).at, room);
     let read = record_of(room, piece.start);
     let last = record_of(&room[..piece.end], piece.start);
-    let agrees = is_answer(read, piece, list) && is_answer(last, piece, list);
-    Compared { read, agrees }
+    let agrees = is_answer(read, piece, place.list) && is_answer(last, piece, place.list);
+    *tally = tally.with_line(read, agrees);
+    agrees
 }
 
-// Compares the record at `at`. Around the line stand bad tokens.
-fn outcome(list: &[u8], at: usize) -> Compared {
-    let mut room = [b'$'; 512];
-    outcome_in(list, at, &mut room)
-}
+impl Replay for Tally {
+    ghost text = { tally_text };
 
-// Compares each record, and puts the report into the room. The promises are what `&room[..end]` asks for.
-fn compare(list: &[u8], room: &mut [u8]) -> usize
-    ensures in_room { result ≤ length room.new }
-    ensures slice_end { result ≡ length (take result room.new) }
-{
-    let mut tally = Tally::default();
-    let mut end = 0;
-    let mut at = 0;
-    // where a record ends is found by reading, so no range gives the places
-    while at < list.len() {
-        at = test_replay::list::next_record(list, at);
-        if at < list.len() {
-            let compared = outcome(list, at);
-            tally = tally.with_line(compared.read, compared.agrees);
-            end = put_verdict(room, end, tally.lines, compared.agrees);
-        }
+    // Around the line stand bad tokens.
+    fn agrees(&mut self, place: Cursor) -> bool {
+        let mut room = [b'$'; 512];
+        agrees_in(self, place, &mut room)
     }
-    tally.put(room, end)
+
+    fn put_counts(&self, report: &mut Report) {
+        self.put(report);
+    }
 }
 
 fn main(rt: HostRuntime) -> io::Result<()> {
     let mut list = [0; 131072];
     let n = read_full(&mut rt.stdin(), &mut list)?;
-    let mut report = [0; 65536];
-    let end = compare(&list[..n], &mut report);
-    rt.stdout().write_all(&report[..end])
+    let mut room = [0; 65536];
+    let mut report = Report::new(&mut room);
+    compare(&mut Tally::default(), &list[..n], &mut report);
+    rt.stdout().write_all(report.text())
 }

@@ -3,7 +3,7 @@ ghost use Rattle.test_replay.specs.Report.{Put};
 ghost use Rattle.test_tokens.specs.Tally.{tally_text};
 
 use refusal::refusal::Refusal;
-use test_replay::report::put_filled;
+use test_replay::report::Report;
 use test_replay::tally::more;
 use text::lexer::Kind;
 use text::parser::Line;
@@ -53,7 +53,7 @@ impl Tally {
         tally
     }
 
-    // One line more.
+    // One line more. Whether it agrees is no part of what is read: what a line that differs is read as is counted too.
     pub(crate) fn with_line(mut self, read: Result<Line, Refusal>, agrees: bool) -> Tally {
         self.lines = more(self.lines);
         if !agrees {
@@ -68,9 +68,9 @@ impl Tally {
         }
     }
 
-    // The counts, put into a room.
-    pub(crate) fn put(self, room: &mut [u8], at: usize) -> usize
-        ensures { Put room.old at (tally_text self) result room.new }
+    // Puts the counts.
+    pub(crate) fn put(self, report: &mut Report)
+        ensures { Put report.old (tally_text self) report.new }
     {
         let counts = [
             self.lines,
@@ -88,12 +88,10 @@ impl Tally {
             self.openings,
             self.closings,
         ];
-        put_filled(
-            room,
-            at,
+        report.put_filled(
             b"# lines, # differences\n# bad lines\n# identifiers\n# registers\n# numbers\n# negative numbers\n\
               # hex numbers\n# binary numbers\n# directives\n# commas\n# colons\n# opening parentheses\n# closing parentheses\n",
             &counts,
-        )
+        );
     }
 }

@@ -19,7 +19,7 @@ label_end s at = (number_at 10 s (number_at 10 s (number_at 10 s (behind at 2)).
 abbrev pub blank : Label
 blank = record { start = 11936128518282651045; length = 11936128518282651045; address = 11936128518282651045 }
 
-unfoldable pub same_label : Label → Label → Bool
+abbrev pub same_label : Label → Label → Bool
 same_label held wanted = held.start == wanted.start && held.length == wanted.length && held.address == wanted.address
 
 -- The entries are the `left` labels that the list has from a place on, and then what they were.

@@ -1,17 +1,15 @@
 // The answers of the three operations, as the list has them and as they are given.
 
-// The refusals that a smaller table or buffer brings, by their numbers in the list. No number is taken from a crate under test here.
+// The refusals that a smaller table or buffer brings, by their numbers in the list. They are numbers, as `Answer` has them: the enum of
+// refusals is of a crate under test, and no number is taken from one here.
 pub(crate) const TABLE_FULL: u64 = 5;
 
 pub(crate) const IMAGE_TOO_SHORT: u64 = 23;
 
 pub(crate) const TEXT_TOO_SHORT: u64 = 32;
 
-// A number that no refusal has.
-pub(crate) const NO_REFUSAL: u64 = 99;
-
 // The number of the refusal, 0 where there is none, and the other values in the order of the exported functions' answers. A value that
-// a case does not carry is 0.
+// a case does not carry is 0. All are numbers, as the list and the exported functions have them, and are compared as such.
 #[derive(Clone, Copy, PartialEq)]
 pub struct Answer<const N: usize> {
     pub number: u64,

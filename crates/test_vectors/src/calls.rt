@@ -59,13 +59,15 @@ impl Operations for Exports {
     }
 }
 
-// A refusal as the list has it.
+// A refusal as the list has it. The function of `capi` is not called, which is under test.
 fn number(refusal: Refusal) -> u64
     ensures { result ≡ number_of refusal }
 {
     u64::from(u8::from(refusal))
 }
 
+// The order of the values is written out here, as in `capi`, whose own order is under test. This and the next two are no conversions: their names
+// say which operation's order it is.
 #[tactic(auto, unfolding(crate::specs::Given::answer_given))]
 fn assembled(answer: Result<Assembled, AssembleError>) -> AssembleAnswer
     ensures { result ≡ answer_given answer }

@@ -1,4 +1,5 @@
-// An image's record: opened, listed with several buffers, and the text assembled again.
+// An image's record: opened, listed with several buffers, and the text assembled again. Its functions are not those of `sources`, and its buffers
+// are handed on one by one, for the reasons given there.
 use crate::answer::{Answer, OpenAnswer, TEXT_TOO_SHORT};
 use crate::calls::{Exports, Library, Operations};
 use crate::record::{Assembling, Image, Listing};

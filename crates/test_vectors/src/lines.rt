@@ -5,23 +5,23 @@ ghost use Rattle.test_vectors.specs.Tables.{label_at, label_end};
 use image_labels::label::Label;
 use test_replay::cursor::Cursor;
 
-// Reads the numbers of a line, after its tag.
-pub(crate) fn numbers<const N: usize>(cursor: &mut Cursor) -> [u64; N] {
+// Reads the numbers of a line, if the line has this tag. Tags are bytes, as the list has them: an enum of them would be turned into bytes here.
+pub(crate) fn numbers<const N: usize>(cursor: &mut Cursor, tag: u8) -> Option<[u64; N]> {
+    if !cursor.has_tag(tag) {
+        return None;
+    }
     cursor.skip(2);
     let mut numbers = [0; N];
     for number in &mut numbers {
         *number = cursor.number();
     }
-    numbers
+    Some(numbers)
 }
 
 // Reads the number of a line, if the line has this tag.
-pub(crate) fn setting(cursor: &mut Cursor, tag: u8) -> Option<u64> {
-    if !cursor.has_tag(tag) {
-        return None;
-    }
-    cursor.skip(2);
-    Some(cursor.number())
+pub(crate) fn number(cursor: &mut Cursor, tag: u8) -> Option<u64> {
+    let [number] = numbers::<1>(cursor, tag)?;
+    Some(number)
 }
 
 // Reads `l START LENGTH ADDRESS`.

@@ -2,8 +2,6 @@
 // every entry and every byte lent. Writes the number of each record that differs, then counts.
 #![tactic(auto)]
 
-ghost use Rattle.std.specs.Prelude.{◌≡◌, ◌≤◌, length, take};
-ghost use Rattle.test_replay.specs.Report.{Put};
 ghost use Rattle.test_replay.specs.Tally.{tally_text};
 ghost use Rattle.test_vectors.specs.Counts.{counts};
 
@@ -20,8 +18,10 @@ mod table;
 use std::io;
 use std::io::Write;
 use test_replay::cursor::Cursor;
-use test_replay::list::{next_record, read_full};
-use test_replay::report::put_verdict;
+use test_replay::list::read_full;
+use test_replay::replay::{Replay, compare};
+use test_replay::report::Report;
+use test_replay::room::room;
 use test_replay::tally::{Outcome, Tally, agrees};
 
 // What a record's parts are read into, with a room for a text that is kept, and the buffers that are lent.
@@ -69,78 +69,54 @@ fn outcome(place: Cursor, rooms: &mut Rooms) -> Outcome {
     image_outcome(place, rooms)
 }
 
-// Puts the counts into a room.
-#[tactic(auto, unfolding(crate::specs::Counts::counts, test_replay::specs::Report::bytes))]
-fn put_counts(tally: Tally, room: &mut [u8], at: usize) -> usize
-    ensures { Put room.old at (tally_text counts tally) result room.new }
-{
-    tally.put(
-        b"# records, # differences\n# sources assembled\n# images listed\n",
-        room,
-        at,
-    )
+// What the records are compared in, and those compared so far.
+#[derive(Drop)]
+struct Vectors<'a> {
+    rooms: Rooms<'a>,
+    tally: Tally,
 }
 
-// Compares each record, and puts the report into the room. The promises are what `&room[..end]` asks for.
-fn compare(list: &[u8], rooms: &mut Rooms, room: &mut [u8]) -> usize
-    ensures in_room { result ≤ length room.new }
-    ensures slice_end { result ≡ length (take result room.new) }
-{
-    let mut tally = Tally::new();
-    let mut end = 0;
-    let mut at = 0;
-    while at < list.len() {
-        at = next_record(list, at);
-        if at < list.len() {
-            let outcome = outcome(Cursor { list, at }, rooms);
-            tally = tally.with(outcome);
-            end = put_verdict(room, end, tally.records, agrees(outcome));
-        }
+impl Replay for Vectors<'_> {
+    ghost text = { λ vectors. tally_text counts vectors.tally };
+
+    fn agrees(&mut self, place: Cursor) -> bool {
+        let outcome = outcome(place, &mut self.rooms);
+        self.tally.count(outcome);
+        agrees(outcome)
     }
-    put_counts(tally, room, end)
-}
 
-// Room for the list. Each room is a function's, since a proof that meets an array of this length as it is written does not close.
-fn list_room() -> [u8; 786432] {
-    [0; 786432]
-}
-
-// Room for a source that is too long by 64 bytes.
-fn source_room() -> [u8; 1048640] {
-    [0; 1048640]
-}
-
-// Room for an image of one word too many, and what is looked at after it.
-fn image_room() -> [u8; 131328] {
-    [0; 131328]
-}
-
-// Room for the text of 32,768 words, and what is looked at after it.
-fn text_room() -> [u8; 721152] {
-    [0; 721152]
-}
-
-// Room for a report in which every record differs.
-fn report_room() -> [u8; 131072] {
-    [0; 131072]
+    #[tactic(auto, unfolding(crate::specs::Counts::counts, test_replay::specs::Report::bytes))]
+    fn put_counts(&self, report: &mut Report) {
+        let text = b"# records, # differences\n# sources assembled\n# images listed\n";
+        self.tally.put(text, report);
+    }
 }
 
 fn main(rt: HostRuntime) -> io::Result<()> {
-    let mut list = list_room();
+    let mut list = room::<786432>();
     let n = read_full(&mut rt.stdin(), &mut list)?;
-    let mut source = source_room();
-    let mut text = text_room();
-    let mut image = image_room();
-    let mut image_buffer = image_room();
-    let mut text_buffer = text_room();
-    let mut report = report_room();
-    let mut rooms = Rooms {
+    // a source that is too long by 64 bytes
+    let mut source = room::<1048640>();
+    // the text of 32,768 words, and what is looked at after it
+    let mut text = room::<721152>();
+    // an image of one word too many, and what is looked at after it
+    let mut image = room::<131328>();
+    let mut image_buffer = room::<131328>();
+    let mut text_buffer = room::<721152>();
+    let rooms = Rooms {
         source: &mut source,
         text: &mut text,
         image: &mut image,
         image_buffer: &mut image_buffer,
         text_buffer: &mut text_buffer,
     };
-    let end = compare(&list[..n], &mut rooms, &mut report);
-    rt.stdout().write_all(&report[..end])
+    let mut vectors = Vectors {
+        rooms,
+        tally: Tally::new(),
+    };
+    // a report in which every record differs
+    let mut room = room::<131072>();
+    let mut report = Report::new(&mut room);
+    compare(&mut vectors, &list[..n], &mut report);
+    rt.stdout().write_all(report.text())
 }

@@ -1,11 +1,12 @@
 // Bytes of a record: a source or a text in escaped lines, an image in lines of hex. A line may say how often its bytes come.
 ghost use Rattle.std.specs.Prelude.{◌≤◌, length};
 
-use crate::lines::setting;
+use crate::lines::number;
 use test_replay::cursor::Cursor;
 use test_replay::list::Spelled;
 
-// How lines spell their bytes, and the tags of such lines, without and with a count.
+// How lines spell their bytes, and the tags of such lines, without and with a count. Each `byte_at` hands on to the function of
+// `list` for its spelling, which `list` itself calls, without tags.
 pub trait Spelling {
     const TAG: u8;
 
@@ -39,7 +40,8 @@ impl Spelling for Hex {
 }
 
 // Reads a line's bytes into the room after the first `start`, and answers where they end. What does not go in is left, and then the
-// record differs.
+// record differs. The room is lent and outlives the reading, which answers a part of it: a struct of room and place would be taken apart there.
+// `test_replay: list::line_at` reads one line alone, leaves two bytes before it, and puts byte 10 behind it.
 fn put_line<S: Spelling>(cursor: &mut Cursor, room: &mut [u8], start: usize) -> usize
     requires { start ≤ length room.old }
     ensures { result ≤ length room.new }
@@ -57,7 +59,7 @@ fn put_line<S: Spelling>(cursor: &mut Cursor, room: &mut [u8], start: usize) -> 
     room.len()
 }
 
-// Reads the same line `count` times.
+// Reads the same line `count` times, into the room as `put_line` does: the place goes beside it, since the room outlives the reading.
 fn put_repeated<S: Spelling>(
     cursor: &mut Cursor,
     count: u64,
@@ -83,7 +85,7 @@ pub(crate) fn put_lines<'a, S: Spelling>(cursor: &mut Cursor, room: &'a mut [u8]
         if cursor.has_tag(S::TAG) {
             cursor.skip(2);
             filled = put_line::<S>(cursor, room, filled);
-        } else if let Some(count) = setting(cursor, S::REPEATED) {
+        } else if let Some(count) = number(cursor, S::REPEATED) {
             filled = put_repeated::<S>(cursor, count, room, filled);
         } else {
             break;

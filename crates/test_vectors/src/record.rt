@@ -1,6 +1,6 @@
 // Reading a record: what is asked, what is lent, and the answer. Nothing here calls a crate under test.
-use crate::answer::{Answer, AssembleAnswer, ListAnswer, NO_REFUSAL, OpenAnswer};
-use crate::lines::{numbers, setting, skip_labels};
+use crate::answer::{Answer, AssembleAnswer, ListAnswer, OpenAnswer};
+use crate::lines::{number, numbers, skip_labels};
 use crate::pieces::{Escaped, Hex, put_lines};
 use test_replay::cursor::Cursor;
 
@@ -17,7 +17,7 @@ pub struct Assembling<'a> {
 }
 
 impl<'a> Assembling<'a> {
-    // The same with another buffer.
+    // The same with another buffer. A trait over this type and `Listing` would be longer than the two lines.
     pub(crate) fn with_room(self, room: usize) -> Assembling<'a> {
         Assembling { room, ..self }
     }
@@ -33,7 +33,7 @@ pub struct Listing<'a> {
 }
 
 impl<'a> Listing<'a> {
-    // The same with another buffer.
+    // The same with another buffer, as that of `Assembling`.
     pub(crate) fn with_room(self, room: usize) -> Listing<'a> {
         Listing { room, ..self }
     }
@@ -46,32 +46,25 @@ pub struct Image<'a> {
     pub listing: Listing<'a>,
 }
 
-// The number that a line with this tag has for a refusal; where it has another tag, one that no refusal has.
-fn named(has_tag: bool, number: u64) -> u64 {
-    if has_tag { number } else { NO_REFUSAL }
-}
-
 // `a WORDS LABELS LIMB_BITS DATA_LIMBS ADDR_LIMBS`, or `r NUMBER RUST_LINE TRUE_LINE LABELS NEEDED`.
-fn assembled_at(cursor: &mut Cursor) -> AssembleAnswer {
-    if cursor.has_tag(b'a') {
-        let [words, labels, limb_bits, data_limbs, addr_limbs] = numbers::<5>(cursor);
-        return Answer {
+fn assembled_at(cursor: &mut Cursor) -> Option<AssembleAnswer> {
+    if let Some(counts) = numbers::<5>(cursor, b'a') {
+        let [words, labels, limb_bits, data_limbs, addr_limbs] = counts;
+        return Some(Answer {
             number: 0,
             values: [words, labels, limb_bits, data_limbs, addr_limbs, 0, 0, 0],
-        };
+        });
     }
-    let is_refused = cursor.has_tag(b'r');
-    let [number, rust_line, line, labels, needed] = numbers::<5>(cursor);
-    Answer {
-        number: named(is_refused, number),
+    let [number, rust_line, line, labels, needed] = numbers::<5>(cursor, b'r')?;
+    Some(Answer {
+        number,
         values: [0, labels, 0, 0, 0, rust_line, line, needed],
-    }
+    })
 }
 
-// `o LIMB_BITS DATA_LIMBS ADDR_LIMBS FLAGS ENTRY CODE_SIZE DATA_SIZE BSS STACK`. Magic and version are those that every image has, and
-// the code ends where its size says.
-fn header_at(cursor: &mut Cursor) -> OpenAnswer {
-    let fields = numbers::<9>(cursor);
+// A header, of the fields `LIMB_BITS DATA_LIMBS ADDR_LIMBS FLAGS ENTRY CODE_SIZE DATA_SIZE BSS STACK`. Magic and version are those that every
+// image has, and the code ends where its size says.
+pub(crate) fn header(fields: [u64; 9]) -> OpenAnswer {
     let [.., code_size, _, _, _] = fields;
     let mut values = [0; 12];
     values[0] = 0x52494B5A;
@@ -81,33 +74,31 @@ fn header_at(cursor: &mut Cursor) -> OpenAnswer {
     Answer { number: 0, values }
 }
 
-// A header, or `q NUMBER`.
-fn opened_at(cursor: &mut Cursor) -> OpenAnswer {
-    if cursor.has_tag(b'o') {
-        return header_at(cursor);
+// `o FIELDS`, or `q NUMBER`.
+fn opened_at(cursor: &mut Cursor) -> Option<OpenAnswer> {
+    if let Some(fields) = numbers::<9>(cursor, b'o') {
+        return Some(header(fields));
     }
-    let is_refused = cursor.has_tag(b'q');
-    let [number] = numbers::<1>(cursor);
-    Answer {
-        number: named(is_refused, number),
+    let number = number(cursor, b'q')?;
+    Some(Answer {
+        number,
         values: [0; 12],
-    }
+    })
 }
 
 // `y LENGTH`, or `z NUMBER INDEX NEEDED`.
-fn listed_at(cursor: &mut Cursor) -> ListAnswer {
-    if let Some(length) = setting(cursor, b'y') {
-        return Answer {
+fn listed_at(cursor: &mut Cursor) -> Option<ListAnswer> {
+    if let Some(length) = number(cursor, b'y') {
+        return Some(Answer {
             number: 0,
             values: [length, 0, 0],
-        };
+        });
     }
-    let is_refused = cursor.has_tag(b'z');
-    let [number, index, needed] = numbers::<3>(cursor);
-    Answer {
-        number: named(is_refused, number),
+    let [number, index, needed] = numbers::<3>(cursor, b'z')?;
+    Some(Answer {
+        number,
         values: [0, index, needed],
-    }
+    })
 }
 
 // How long an image buffer is that is large enough: the shortest instruction is longer than its word.
@@ -123,12 +114,12 @@ pub(crate) fn source_at<'a>(
 ) -> Option<Assembling<'a>> {
     let mut cursor = place;
     let source = put_lines::<Escaped>(&mut cursor, source);
-    let table = setting(&mut cursor, b't').unwrap_or(1024) as usize;
-    let room = match setting(&mut cursor, b'b') {
+    let table = number(&mut cursor, b't').unwrap_or(1024) as usize;
+    let room = match number(&mut cursor, b'b') {
         Some(room) => room as usize,
         None => ample(source),
     };
-    let answer = assembled_at(&mut cursor);
+    let answer = assembled_at(&mut cursor)?;
     let labels = cursor;
     skip_labels(&mut cursor, answer.labels());
     let image = put_lines::<Hex>(&mut cursor, image);
@@ -153,9 +144,9 @@ pub(crate) fn image_at<'a>(
 ) -> Option<Image<'a>> {
     let mut cursor = place;
     let image = put_lines::<Hex>(&mut cursor, image);
-    let room = setting(&mut cursor, b'n')?;
-    let header = opened_at(&mut cursor);
-    let answer = listed_at(&mut cursor);
+    let room = number(&mut cursor, b'n')?;
+    let header = opened_at(&mut cursor)?;
+    let answer = listed_at(&mut cursor)?;
     let text = put_lines::<Escaped>(&mut cursor, text);
     let [length, ..] = answer.values;
     if text.len() as u64 != length || !cursor.is_record_end() {

@@ -24,6 +24,7 @@ pub(crate) fn part(room: &[u8], count: usize) -> usize
     count.min(room.len())
 }
 
+// Fills the first `count` bytes. The count may be larger than the room, so it is no part of it.
 pub(crate) fn fill(room: &mut [u8], count: usize) {
     for (i, byte) in room.iter_mut().enumerate().take(count) {
         *byte = filler(i);
@@ -35,28 +36,24 @@ pub(crate) fn fill(room: &mut [u8], count: usize) {
 fn wanted_at(bytes: &[u8], i: usize) -> u8
     ensures { result ≡ buffer_byte bytes.now i }
 {
-    match bytes.get(i) {
-        Some(&byte) => byte,
-        None => filler(i),
-    }
+    bytes.get(i).copied().unwrap_or_else(|| filler(i))
 }
 
-// Whether a buffer has these bytes, and then what it was filled with, up to `count`.
+// Whether a buffer has these bytes, and then what it was filled with, up to `count`. No one slice has both parts to compare with.
+#[tactic(auto, unfolding(crate::specs::Rooms::holds_bytes))]
 pub(crate) fn holds(room: &[u8], bytes: &[u8], count: usize) -> bool
     ensures { result ≡ holds_bytes room.now bytes.now count }
 {
     if room.len() < count || count < bytes.len() {
         return false;
     }
-    for (i, &byte) in room[..count].iter().enumerate() {
-        if byte != wanted_at(bytes, i) {
-            return false;
-        }
-    }
-    true
+    room[..count]
+        .iter()
+        .enumerate()
+        .all(|(i, &byte)| byte == wanted_at(bytes, i))
 }
 
-// Keeps the beginning of a buffer in another.
+// Keeps the beginning of a buffer in another. The count may be larger than either, so it is no part of them.
 pub(crate) fn kept<'a>(from: &[u8], to: &'a mut [u8], count: usize) -> &'a [u8] {
     let n = count.min(from.len()).min(to.len());
     to[..n].copy_from_slice(&from[..n]);

@@ -1,8 +1,10 @@
-// A source's record: assembled with several tables and buffers, and its image opened, listed and assembled again.
+// A source's record: assembled with several tables and buffers, and its image opened, listed and assembled again. Sources and images differ in
+// what is lent and where an answer has the needed length, so each has functions of its own. The buffers are handed on one by one, and not as
+// `Rooms`, in whose other rooms what is wanted stands.
 use crate::answer::{Answer, AssembleAnswer, IMAGE_TOO_SHORT, OpenAnswer, TABLE_FULL};
 use crate::calls::{Exports, Library, Operations};
 use crate::lines::{label, skip_labels};
-use crate::record::{Assembling, Image, Listing};
+use crate::record::{Assembling, Image, Listing, header};
 use crate::room;
 use crate::table::{ENTRIES, blank_table, has_labels};
 
@@ -57,7 +59,7 @@ fn is_assembled_with_tables(wanted: Assembling, buffer: &mut [u8]) -> bool {
 }
 
 // With buffers that are too short, by one byte and by all: the labels are entered nevertheless.
-fn is_too_long(wanted: Assembling, needed: u64, buffer: &mut [u8]) -> bool {
+fn is_too_short(wanted: Assembling, needed: u64, buffer: &mut [u8]) -> bool {
     let refused = Assembling {
         answer: Answer {
             number: IMAGE_TOO_SHORT,
@@ -78,11 +80,11 @@ fn is_assembled_in_all(wanted: Assembling, buffer: &mut [u8]) -> bool {
             let needed = wanted.image.len();
             is_assembled(wanted.with_room(needed), buffer)
                 && is_assembled(wanted.with_room(needed.wrapping_add(1)), buffer)
-                && is_too_long(wanted, needed as u64, buffer)
+                && is_too_short(wanted, needed as u64, buffer)
         }
         IMAGE_TOO_SHORT => {
             let [.., needed] = wanted.answer.values;
-            is_too_long(wanted, needed, buffer)
+            is_too_short(wanted, needed, buffer)
         }
         _ => is_assembled(wanted.with_room(0), buffer),
     }
@@ -91,24 +93,17 @@ fn is_assembled_in_all(wanted: Assembling, buffer: &mut [u8]) -> bool {
 // The header of an accepted source's image.
 fn header_of(answer: AssembleAnswer) -> OpenAnswer {
     let [words, _, limb_bits, data_limbs, addr_limbs, ..] = answer.values;
-    let size = words.wrapping_mul(4);
-    Answer {
-        number: 0,
-        values: [
-            0x52494B5A,
-            0x00030004,
-            limb_bits,
-            data_limbs,
-            addr_limbs,
-            0,
-            0x1000,
-            size,
-            0,
-            0,
-            0x100000,
-            size.wrapping_add(32),
-        ],
-    }
+    header([
+        limb_bits,
+        data_limbs,
+        addr_limbs,
+        0,
+        0x1000,
+        words.wrapping_mul(4),
+        0,
+        0,
+        0x100000,
+    ])
 }
 
 // Lists an accepted source's image. The list has no text for it, so the text is kept, and it has to be the same with every buffer and

@@ -1,6 +1,6 @@
 // The label table that is lent, and whether it then has the list's labels.
 ghost use Rattle.std.specs.Prelude.{◌≡◌};
-ghost use Rattle.test_vectors.specs.Tables.{blank, same_label, same_labels};
+ghost use Rattle.test_vectors.specs.Tables.{blank, same_labels};
 
 use crate::lines::label;
 use image_labels::label::Label;
@@ -24,26 +24,20 @@ pub(crate) fn blank_table() -> [Label; 1032] {
     [blank(); 1032]
 }
 
-#[tactic(auto, unfolding(crate::specs::Tables::same_label))]
-fn is_label(held: Label, wanted: Label) -> bool
-    ensures { result ≡ same_label held wanted }
-{
-    held.start == wanted.start && held.length == wanted.length && held.address == wanted.address
-}
-
 // Whether the table has the first `count` labels of the list from a place on, and nothing else was entered.
 #[tactic(auto, using(crate::proofs::Tables::labels_none))]
 pub(crate) fn has_labels(table: &[Label], labels: Cursor, count: u64) -> bool
     ensures { result ≡ same_labels count table.now labels.entry.list.now labels.entry.at }
 {
     let mut cursor = labels;
+    // a label stands where the one before it ends, so a chain's closure would change the cursor, and nothing be known of what it answers
     for (i, &held) in table.iter().enumerate() {
         let wanted = if (i as u64) < count {
             label(&mut cursor)
         } else {
             blank()
         };
-        if !is_label(held, wanted) {
+        if held != wanted {
             return false;
         }
     }

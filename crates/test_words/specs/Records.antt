@@ -1,7 +1,7 @@
 -- When a text and a refusal are what the list has. The list's format is described in oracle/README.md.
 use Rattle.std.specs.Prelude.{ℕ, ◌+◌, ◌-◌, Bool, true, false, ◌&&◌, List, length, ◌==◌, nat_le, nat_lt}
 use Rattle.test_replay.specs.List.{byte_at, behind, has_tag, is_record_end, number_at}
-use Rattle.test_replay.specs.Every.{every_from}
+use Rattle.std.specs.List.{list_all, enumerate_from}
 use Rattle.test_words.specs.declared.calls.Text.{Text}
 use Rattle.test_replay.specs.declared.tally.Outcome.{Outcome}
 use Rattle.test_replay.specs.declared.tally.Outcome.TheVariants.{Differs, Refused}
@@ -12,13 +12,12 @@ use Rattle.test_replay.specs.declared.tally.Outcome.TheVariants.{Differs, Refuse
 unfoldable pub room_byte : ℕ → List ℕ → ℕ → ℕ → ℕ
 room_byte count s at i = elim (nat_le 8 i && nat_lt (i - 8) count) [ true ↦ byte_at s (behind at (i - 8)) | false ↦ 36 ]
 
-abbrev pub in_room : ℕ → List ℕ → ℕ → ℕ → ℕ → Bool
-in_room count s at i b = b == room_byte count s at i
-
--- The room has just that, and has room for it all; and there the list's line ends.
+-- The room has room for it all, and has just that; and there the list's line ends.
 unfoldable pub holds_text : List ℕ → ℕ → List ℕ → ℕ → Bool
 holds_text room count s at =
-    every_from (in_room count s at) 0 room && nat_le (8 + count) (length room) && byte_at s (behind at count) == 10
+    nat_le (8 + count) (length room)
+    && byte_at s (behind at count) == 10
+    && list_all (λ p. p.1 == room_byte count s at p.0) (enumerate_from 0 room)
 
 -- The room has a text, said to be as long as it is, and the list's line at a place has it under this tag.
 unfoldable pub same_text : List ℕ → Text → ℕ → List ℕ → ℕ → Bool

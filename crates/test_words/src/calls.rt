@@ -7,7 +7,7 @@ use instruction_display::display::put_instruction;
 use instruction_operands::assembler::parse_instruction;
 use itoa::Buffer;
 use refusal::refusal::Refusal;
-use test_replay::report::put;
+use test_replay::report::Report;
 use text::parser::tokenize;
 use text_lexical::bytes::{Margin, run_end};
 use text_writer::sink::Sink;
@@ -19,7 +19,8 @@ pub struct Text {
     pub end: usize,
 }
 
-// The instruction of the line that begins at `from`, its mnemonic the token at `place`.
+// The instruction of the line that begins at `from`, its mnemonic the token at `place`, which the list has as a digit: a type of three places
+// would be made here alone, and unmade at the call.
 pub(crate) fn read(text: &[u8], from: usize, place: usize) -> Result<Instruction, Refusal>
     requires in_text { from ≤ length text.now }
     requires place_in_range { place ≤ 2 }
@@ -32,8 +33,7 @@ pub(crate) fn read(text: &[u8], from: usize, place: usize) -> Result<Instruction
 // Takes a text into a room as far as the room goes, and counts all of it. So nothing has to be known of a text before it is put.
 #[derive(Drop)]
 pub struct Room<'a> {
-    pub bytes: &'a mut [u8],
-    pub end: usize,
+    pub report: Report<'a>,
     pub length: usize,
 }
 
@@ -47,10 +47,11 @@ impl Sink for Room<'_> {
     }
 
     fn put_bytes(&mut self, bytes: &[u8]) {
-        self.end = put(self.bytes, self.end, bytes);
+        self.report.put(bytes);
         self.length = self.length.wrapping_add(bytes.len());
     }
 
+    // By `put_bytes`, which counts the digits too: the report's own `put_number` does not.
     fn put_decimal(&mut self, n: u64) {
         let mut buffer = Buffer::new();
         self.put_bytes(buffer.format(n).as_bytes());
@@ -59,20 +60,20 @@ impl Sink for Room<'_> {
     ghost laws = { room_laws };
 }
 
-// Writes an instruction's text into the room, after eight bytes that it leaves. The promises are what `&room[..end]` asks for.
+// Writes an instruction's text into the room, after eight bytes that it leaves. The promises are what `&room[..end]` asks for. With
+// `&mut [u8; 96]` in place of the slice and its length, the proof that the text ends in the room does not close.
 pub(crate) fn write(instruction: Instruction, room: &mut [u8]) -> Text
     requires { length room.old ≡ 96 }
     ensures end_in_bounds { result.end ≤ length room.new }
     ensures slice_end { result.end ≡ length (take result.end room.new) }
 {
     let mut sink = Room {
-        bytes: room,
-        end: 8,
+        report: Report { room, end: 8 },
         length: 0,
     };
     put_instruction(&mut sink, instruction);
     Text {
         length: sink.length,
-        end: sink.end,
+        end: sink.report.end,
     }
 }

@@ -24,19 +24,24 @@ fn wanted_at(i: usize, count: usize, text: Cursor) -> u8
     b'$'
 }
 
-// Whether a room of `$` has the list's text after its first eight bytes, and nothing else, and the list's line ends there.
+// Whether a room of `$` has the list's text after its first eight bytes, and nothing else, and the list's line ends there. No one slice has both
+// parts to compare with.
+#[tactic(auto, unfolding(crate::specs::Records::holds_text))]
 fn holds(room: &[u8], count: usize, text: Cursor) -> bool
     ensures { result ≡ holds_text room.now count text.entry.list.now text.entry.at }
 {
-    for (i, &byte) in room.iter().enumerate() {
-        if byte != wanted_at(i, count, text) {
-            return false;
-        }
+    if room.len() < count.saturating_add(8) {
+        return false;
     }
-    8 <= room.len() && count <= room.len() - 8 && text.after(count).byte() == b'\n'
+    text.after(count).byte() == b'\n'
+        && room
+            .iter()
+            .enumerate()
+            .all(|(i, &byte)| byte == wanted_at(i, count, text))
 }
 
-// Whether the room has an instruction's text, said to be as long as it is, and the list's line at a place has it under this tag.
+// Whether the room has an instruction's text, said to be as long as it is, and the list's line at a place has it under this tag, a byte of the
+// list's own.
 #[tactic(auto, unfolding(crate::specs::Records::same_text, test_replay::specs::List::behind))]
 pub(crate) fn has_text(room: &[u8], text: Text, tag: u8, place: Cursor) -> bool
     ensures { result ≡ same_text room.now text tag place.entry.list.now place.entry.at }

@@ -2,8 +2,7 @@
 // the crates of the instruction layer make of them. Writes the number of each record that differs, then counts.
 #![tactic(auto)]
 
-ghost use Rattle.std.specs.Prelude.{◌≡◌, ◌<◌, ◌≤◌, length, take};
-ghost use Rattle.test_replay.specs.Report.{Put};
+ghost use Rattle.std.specs.Prelude.{◌≡◌, length};
 ghost use Rattle.test_replay.specs.Tally.{tally_text};
 ghost use Rattle.test_words.specs.Counts.{counts};
 
@@ -18,7 +17,9 @@ use std::io;
 use std::io::Write;
 use test_replay::cursor::Cursor;
 use test_replay::list::read_full;
-use test_replay::report::put_verdict;
+use test_replay::replay::{Replay, compare};
+use test_replay::report::Report;
+use test_replay::room::room;
 use test_replay::tally::{Outcome, Tally, agrees};
 
 // Whether the text after the first eight bytes is read as an instruction that has this word.
@@ -32,7 +33,8 @@ fn reads(text: &[u8], word: u32) -> bool {
     }
 }
 
-// Whether a word's instruction has this word, and the text that the list has at a place, from which it is read again.
+// Whether a word's instruction has this word, and the text that the list has at a place, from which it is read again. The room's length is asked
+// for as `calls::write` asks for it.
 fn is_decoded(instruction: Instruction, word: u32, place: Cursor, room: &mut [u8]) -> bool
     requires { length room.old ≡ 96 }
 {
@@ -84,9 +86,7 @@ fn instruction_outcome(instruction: Instruction, place: Cursor) -> Outcome {
 }
 
 // A line, the place of its mnemonic, of one digit, and its instruction or refusal.
-fn line_outcome(place: Cursor, room: &mut [u8]) -> Outcome
-    requires { 2 < length room.old }
-{
+fn line_outcome(place: Cursor, room: &mut [u8; 512]) -> Outcome {
     let piece = test_replay::list::line_at(place.list, place.after(2).at, room);
     let next = Cursor {
         list: place.list,
@@ -113,51 +113,37 @@ fn outcome(place: Cursor) -> Outcome {
     line_outcome(place, &mut room)
 }
 
-// Puts the counts into a room. A line that agrees is one that is assembled, a word one that is listed.
-#[tactic(auto, unfolding(crate::specs::Counts::counts, test_replay::specs::Report::bytes))]
-fn put_counts(tally: Tally, room: &mut [u8], at: usize) -> usize
-    ensures { Put room.old at (tally_text counts tally) result room.new }
-{
-    let text = b"# records, # differences\n# lines read, encoded, decoded and written\n\
-                 # words decoded, encoded, written and read\n";
-    tally.put(text, room, at)
+// The records compared so far. A line that agrees is one that is assembled, a word one that is listed.
+#[derive(Drop)]
+struct Words {
+    tally: Tally,
 }
 
-// Compares each record, and puts the report into the room. Where a record ends is found by reading, so no range gives the places.
-// The promises are what `&room[..end]` asks for.
-fn compare(list: &[u8], room: &mut [u8]) -> usize
-    ensures in_room { result ≤ length room.new }
-    ensures slice_end { result ≡ length (take result room.new) }
-{
-    let mut tally = Tally::new();
-    let mut end = 0;
-    let mut at = 0;
-    // where a record ends is found by reading, so no range gives the places
-    while at < list.len() {
-        at = test_replay::list::next_record(list, at);
-        if at < list.len() {
-            let outcome = outcome(Cursor { list, at });
-            tally = tally.with(outcome);
-            end = put_verdict(room, end, tally.records, agrees(outcome));
-        }
+impl Replay for Words {
+    ghost text = { λ words. tally_text counts words.tally };
+
+    fn agrees(&mut self, place: Cursor) -> bool {
+        let outcome = outcome(place);
+        self.tally.count(outcome);
+        agrees(outcome)
     }
-    put_counts(tally, room, end)
-}
 
-// A room for a list.
-fn list_room() -> [u8; 524288] {
-    [0u8; 524288]
-}
-
-// A room for a report.
-fn report_room() -> [u8; 131072] {
-    [0u8; 131072]
+    #[tactic(auto, unfolding(crate::specs::Counts::counts, test_replay::specs::Report::bytes))]
+    fn put_counts(&self, report: &mut Report) {
+        let text = b"# records, # differences\n# lines read, encoded, decoded and written\n\
+                     # words decoded, encoded, written and read\n";
+        self.tally.put(text, report);
+    }
 }
 
 fn main(rt: HostRuntime) -> io::Result<()> {
-    let mut list = list_room();
+    let mut list = room::<524288>();
     let n = read_full(&mut rt.stdin(), &mut list)?;
-    let mut report = report_room();
-    let end = compare(&list[..n], &mut report);
-    rt.stdout().write_all(&report[..end])
+    let mut room = room::<131072>();
+    let mut report = Report::new(&mut room);
+    let mut words = Words {
+        tally: Tally::new(),
+    };
+    compare(&mut words, &list[..n], &mut report);
+    rt.stdout().write_all(report.text())
 }

@@ -1,6 +1,6 @@
 -- What the code's values mean in terms of the definitions, and what its functions answer.
-use Rattle.std.specs.Prelude.{ℕ, zero, suc, ◌+◌, ◌-◌, ◌<◌, ◌≡◌, Bool, true, false, ◌||◌, List, [], ◌∷◌, ◌++◌, map, length, take, drop, get_or, replicate, eqb, ℤ, pos, nat_abs, Ok, Err}
-use Rattle.std.specs.Prelude.{Result as Answer}
+use Rattle.std.specs.Prelude.{ℕ, zero, suc, ◌+◌, ◌-◌, ◌<◌, ◌≡◌, Bool, true, false, ◌||◌, List, [], ◌∷◌, ◌++◌, map, length, take, drop, get_or, replicate, eqb, ℤ, pos, nat_abs, Some, None, Ok, Err}
+use Rattle.std.specs.Prelude.{Option as Maybe, Result as Answer}
 use Rattle.std.proofs.Math.Option.{Option, none, some}
 use Rattle.text_lexical.specs.Bytes.{Result, value, refused, digit, name_start, blank, margin, run}
 use Rattle.text_lexical.specs.Numbers.{minus}
@@ -22,8 +22,6 @@ use Rattle.text.specs.declared.lexer.Kind.TheVariants.{Identifier, Register as R
 use Rattle.text.specs.declared.lexer.Token.{Token}
 use Rattle.text.specs.declared.lexer.Scan.{Scan}
 use Rattle.text.specs.declared.lexer.Scan.TheVariants.{Found, Bad, End}
-use Rattle.text.specs.declared.lexer.Ending.{Ending}
-use Rattle.text.specs.declared.lexer.Ending.TheVariants.{Line as LineEnd, Comment, Other}
 use Rattle.text.specs.declared.parser.Line.{Line}
 use Rattle.text.specs.declared.reader.Reader.{Reader}
 
@@ -107,15 +105,11 @@ mark_of_byte (Hex n) b = false
 mark_of_byte (Binary n) b = false
 mark_of_byte Directive b = false
 
--- ---- where reading a line ends
+-- ---- where a line ends
 
--- What stands at a place up to which nothing is left of a line: a comment, by its `#`, or the line's end, byte 10 or the text's end.
-abbrev pub ended_at : List ℕ → ℕ → Ending
-ended_at s stop = elim (eqb (get_or s stop 0) 35) [ true ↦ Comment stop | false ↦ LineEnd stop ]
-
--- Where reading the line from a place on ends: past the margin, if nothing is left of the line.
-unfoldable pub ending_at : List ℕ → ℕ → Ending
-ending_at s at = elim (left_at s at) [ [] ↦ ended_at s (at + run margin (drop at s)) | b ∷ l ↦ Other ]
+-- Where the line ends, if nothing is left to read of it from a place on.
+unfoldable pub ending_at : List ℕ → ℕ → Maybe ℕ
+ending_at s at = elim (left_at s at) [ [] ↦ Some (end_at s at) | b ∷ l ↦ None ]
 
 -- ---- the next token of a line
 

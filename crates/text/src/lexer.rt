@@ -29,6 +29,7 @@ pub enum Kind {
     RParen,
 }
 
+// Its spelling is a part of the text by two numbers, as document 01 names that form.
 #[derive(Clone, Copy)]
 pub struct Token {
     pub kind: Kind,
@@ -37,20 +38,13 @@ pub struct Token {
 }
 
 // What stands at a place: a token and the place after it, no token, or nothing that is left to read, with the place where the line ends. Of
-// these three only the second is an error, and it is no refusal before the line is known to be read by tokens.
+// these three only the second is an error, and it is no refusal before the line is known to be read by tokens: a `Result` would say less
+// plainly which is which.
 #[derive(Clone, Copy)]
 pub enum Scan {
     Found { token: Token, next: usize },
     Bad,
     End(usize),
-}
-
-// Where reading a line ends: at the line's end, or at a comment, whose end is still to find; or something is left to read.
-#[derive(Clone, Copy)]
-pub enum Ending {
-    Line(usize),
-    Comment(usize),
-    Other,
 }
 
 fn found(kind: Kind, at: usize, end: usize) -> Scan
@@ -113,7 +107,7 @@ fn minus(text: &[u8], at: usize) -> Scan
     }
 }
 
-// The kind of a number in another radix than ten.
+// The kind of a number in another radix than ten. By the radix, since `prefixed` is one function for both letters.
 fn pattern(radix: Radix, magnitude: u64) -> Kind
     ensures { result ≡ pattern_kind radix magnitude }
 {
@@ -195,19 +189,21 @@ fn directive(text: &[u8], at: usize) -> Scan
     found(Kind::Directive, at, end)
 }
 
-// Where reading the line from `at` on ends, if nothing but margin is left of it.
-pub fn ending_at(text: &[u8], at: usize) -> Ending
+// Where the line ends, if nothing but margin or a comment is left of it from `at` on. Each line is left by it, and a call of it, which the
+// compiler would make, takes a source of comments or of all `ecall` 5 in 100 longer.
+#[inline(always)]
+pub fn ending_at(text: &[u8], at: usize) -> Option<usize>
     requires { at ≤ length text.now }
     ensures { result ≡ ending_at text.now at }
 {
     let stop = text_lexical::bytes::run_end::<Margin>(text, at);
     if text.len() <= stop {
-        return Ending::Line(stop);
+        return Some(stop);
     }
     match text[stop] {
-        b'\n' => Ending::Line(stop),
-        b'#' => Ending::Comment(stop),
-        _ => Ending::Other,
+        b'\n' => Some(stop),
+        b'#' => Some(text_lexical::bytes::line_end(text, stop)),
+        _ => None,
     }
 }
 
@@ -219,9 +215,8 @@ fn end_or_bad(text: &[u8], at: usize) -> Scan
     ensures { result ≡ scan_at present text.now at }
 {
     match ending_at(text, at) {
-        Ending::Line(stop) => Scan::End(stop),
-        Ending::Comment(stop) => Scan::End(text_lexical::bytes::line_end(text, stop)),
-        Ending::Other => Scan::Bad,
+        Some(end) => Scan::End(end),
+        None => Scan::Bad,
     }
 }
 

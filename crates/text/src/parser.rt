@@ -5,10 +5,12 @@ ghost use Rattle.text.specs.Places.{StartsAt};
 ghost use Rattle.text.specs.Promised.{extracted, record_at};
 
 use crate::lexer::{Kind, Scan, Token};
+use crate::reader::Reader;
 use refusal::refusal::Refusal;
 use text_lexical::number::Whole;
 
-// The whole number that a token means; -0 is 0. Operands and `.config` read their numbers by this function.
+// The whole number that a token means; -0 is 0. Operands and `.config` read their numbers by this function, whose
+// name says so where a `TryFrom` would not.
 #[tactic(auto, unfolding(crate::specs::Values::read_number, refusal::specs::Refusals::refusals))]
 pub fn extract_number(kind: Kind) -> Result<Whole, Refusal>
     ensures { result ≡ extracted kind }
@@ -29,7 +31,8 @@ pub fn extract_number(kind: Kind) -> Result<Whole, Refusal>
 // How many tokens of a line its record keeps.
 pub const KEPT: usize = 9;
 
-// The record of a line: its first tokens, the count of all, and where the line ends.
+// The record of a line: its first tokens, the count of all, and where the line ends. An array by value and a count, as document 01 names that
+// form: there is no heap.
 #[derive(Clone, Copy)]
 pub struct Line {
     pub tokens: [Token; KEPT],
@@ -49,20 +52,19 @@ pub fn tokenize(text: &[u8], start: usize) -> Result<Line, Refusal>
     requires { StartsAt text.now start }
     ensures { result ≡ record_at present text.now start }
 {
+    let mut reader = Reader::new(text, start);
     let mut tokens = FILLER;
     let mut count: usize = 0;
-    let mut at = start;
-    // each turn asks the reader for the next token: no list of them is walked
+    // The reader's last answer is the line's end or why there is none, which an iterator's `None` would not say.
     loop {
-        match crate::reader::token_at(text, at) {
+        match reader.next() {
             Scan::End(end) => return Ok(Line { tokens, count, end }),
             Scan::Bad => return Err(Refusal::BadToken),
-            Scan::Found { token, next } => {
+            Scan::Found { token, .. } => {
                 if count < KEPT {
                     tokens[count] = token;
                 }
                 count += 1;
-                at = next;
             }
         }
     }

@@ -11,7 +11,8 @@ use lib.ListN.{length, drop, get_or, length-take, length-drop}
 use lib.Seq.{drop-cons}
 use lib.Dec.{leb, ltb, eqb}
 use borrow.Author.Tests.{ne_eqb, eqb-true, leb-true, ltb-true}
-use Rattle.std.specs.Prelude.{None}
+use Rattle.std.specs.Prelude.{Some, None}
+use Rattle.std.specs.Option.{unwrap_or}
 use Rattle.text_lexical.specs.Bytes.{bytes, between, letter, digit, name_start, name_part, every, same, run, find, each}
 use Rattle.text_lexical.specs.Names.{Name, name, named, numbered, conventional, present}
 use Rattle.text_lexical.specs.Promised.{index_of, name_meant, name_number, register_number}
@@ -19,6 +20,7 @@ use Rattle.text_lexical.specs.Words.{part, word_end, word_at, up_to, longest, Re
 use Rattle.text_lexical.specs.declared.name.RegisterName.{RegisterName}
 use Rattle.text_lexical.specs.declared.name.RegisterName.TheVariants.{Is as Named, NoSuch, Other as NoName}
 use Rattle.text_lexical.specs.declared.name.Pair.{Pair}
+use Rattle.text_lexical.specs.declared.name.TheConstants.{PAIRS}
 use Rattle.text_lexical.proofs.Tests.{by-test, not-true, no_both, or_elim, Each, in-run}
 use Rattle.text_lexical.proofs.Strings.{same-eq, found, run-le, run_past, run-yes, run-no}
 
@@ -28,23 +30,16 @@ Is u n = some (register_number n) ≡ name_number (named present u)
 
 -- ---- the table, by the last three bits of the first of two bytes
 
--- A letter's names: how many digits may follow it, and the register of the first; the other byte that may follow, and its register.
+-- A letter's names: how many digits may follow it, and the register of the first; the other byte that may follow, and its register. Where there
+-- is no letter, one with other last bits stands for it, which has no names.
 abbrev blank-pair : Pair
-blank-pair = record { letter = 0; digits = 0; first = 0; other = 0; number = 0 }
-
-abbrev pairs : List Pair
-pairs =
-    record { letter = 1; digits = 0; first = 0; other = 0; number = 0 }
-    ∷ record { letter = 97; digits = 6; first = 11; other = 48; number = 11 }
-    ∷ record { letter = 114; digits = 10; first = 0; other = 97; number = 1 }
-    ∷ record { letter = 115; digits = 2; first = 6; other = 112; number = 2 }
-    ∷ record { letter = 116; digits = 3; first = 8; other = 112; number = 4 }
-    ∷ blank-pair
-    ∷ record { letter = 102; digits = 0; first = 0; other = 112; number = 5 }
-    ∷ record { letter = 103; digits = 0; first = 0; other = 112; number = 3 } ∷ []
+blank-pair = record { letter = 1; digits = 0; first = 0; other = 0; number = 0 }
 
 abbrev pair : ℕ → Pair
-pair n = get_or pairs n blank-pair
+pair n = unwrap_or (get_or PAIRS n None) blank-pair
+
+pub pair-is : (a : ℕ) (p : Pair) → get_or PAIRS (a % 8) None ≡ Some p → pair (a % 8) ≡ p
+pair-is a p e = rw e
 
 -- ---- what is in the table is a name
 
@@ -149,6 +144,10 @@ none_named u h = go (named present u) refl
 pub no-letter : (a b : ℕ) → ((pair (a % 8)).letter ≡ a → ⊥) → none ≡ name_number (named present (a ∷ b ∷ []))
 unfolding listed
 no-letter a b h = none_named (a ∷ b ∷ []) (rw (listed, ne_eqb ((pair (a % 8)).letter) a h))
+
+pub no-pair : (a b : ℕ) → get_or PAIRS (a % 8) None ≡ None → none ≡ name_number (named present (a ∷ b ∷ []))
+no-pair a b h =
+    no-letter a b (λ e. let one : 1 ≡ a = rw h at e in let some_pair : get_or PAIRS 1 None ≡ None = rw (← one) at h in let z : ◌≡◌ {A = ℕ} 0 1 = cc in absurd (omega arith))
 
 pub no_second : (a b : ℕ) → (48 ≤ b → b - 48 < (pair (a % 8)).digits → ⊥) → (b ≡ (pair (a % 8)).other → ⊥) → none ≡ name_number (named present (a ∷ b ∷ []))
 unfolding listed

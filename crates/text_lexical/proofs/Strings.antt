@@ -1,8 +1,9 @@
 -- Laws of byte strings and of searching a list.
 use mathlib.Core.Path.{◌≡◌, refl, sym, ap, ◌∙◌}
-use Prim.Native.Nat.{ℕ, zero, suc, ◌+◌, ◌-◌, ◌≤◌, ◌<◌}
+use Prim.Native.Nat.{ℕ, zero, suc, ◌+◌, ◌-◌, ◌*◌, ◌/◌, ◌≤◌, ◌<◌}
+use native.Mathlib.Numerals.{add-one}
 use native.Mathlib.Omega.{arith}
-use native.Mathlib.Nat.{le_of_suc-le-suc}
+use native.Mathlib.Nat.{le_of_suc-le-suc, div-mul-le_self}
 use mathlib.Core.Bool.{Bool, true, false, true≢false}
 use mathlib.Core.Option.{Option, some}
 use mathlib.Core.List.{List, [], ◌∷◌, ◌++◌}
@@ -12,6 +13,7 @@ use lib.Dec.{eqb}
 use borrow.Author.Tests.{eqb-true, eq-eqb}
 use Rattle.std.specs.Cmp.Lexicographic.{pointwise}
 use Rattle.std.specs.Prelude.{nat_eq}
+use Rattle.std.specs.Simd.{first_chunks}
 use Rattle.text_lexical.specs.Bytes.{every, same, before, run, find, is_some, each}
 use Rattle.text_lexical.proofs.Tests.{by-test, both, and_both}
 
@@ -209,3 +211,30 @@ found {A} p q (x ∷ l) a h k =
         → ◌≡◌ {A = Option A} (elim v [ true ↦ some x | false ↦ find p l ]) (some a) → (p a ≡ true) × (q a ≡ true)
     go true e qx f g = let i : x ≡ a = cc in (rw (← i) e, rw (← i) qx)
     go false e qx f g = f g
+
+-- ---- a text by blocks
+
+-- Blocks of n bytes stand in a text from a place on, one after the other.
+pub record BlocksFrom (n : ℕ) (s : List ℕ) (i : ℕ) (blocks : List (List ℕ)) : Type 0 where
+  pub in_text : i + length blocks * n ≤ length s
+  each-is : blocks ≡ first_chunks n (length blocks) (drop i s)
+
+pub blocks-begin : (n : ℕ) (s : List ℕ) (at : ℕ) (u : List ℕ) (blocks : List (List ℕ)) → at ≤ length s → u ≡ drop at s → blocks ≡ first_chunks n (length u / n) u
+    → length blocks ≡ length u / n → BlocksFrom n s at blocks
+blocks-begin n s at u blocks l q e k =
+    record {
+      in_text = rw k (omega (arith, length-drop at s, ap length q, div-mul-le_self (length u) n));
+      each-is = rw (k, ← q) e;
+    }
+
+-- The next of them.
+pub blocks-next : (n : ℕ) (s : List ℕ) (i : ℕ) (blocks : List (List ℕ)) (k : ℕ) (d : List ℕ) → BlocksFrom n s i (drop k blocks) → k < length blocks
+    → (get_or blocks k d ≡ take n (drop i s)) × (i + n ≤ length s) × BlocksFrom n s (i + n) (drop (k + 1) blocks)
+blocks-next n s i blocks k d q l =
+    let e : drop k blocks ≡ get_or blocks k d ∷ drop (k + 1) blocks = drop-cons blocks k d l ∙ rw (add-one k) in
+    go (get_or blocks k d) (drop (k + 1) blocks) (rw e at q)
+  where
+    go : (b : List ℕ) (bs : List (List ℕ)) → BlocksFrom n s i (b ∷ bs) → (b ≡ take n (drop i s)) × (i + n ≤ length s) × BlocksFrom n s (i + n) bs
+    go b bs r =
+        let e : b ∷ bs ≡ take n (drop i s) ∷ first_chunks n (length bs) (drop n (drop i s)) = r.each-is in
+        (cc, omega (arith, r.in_text), record { in_text = omega (arith, r.in_text); each-is = rw (← drop-drop n i s) cc })

@@ -7,6 +7,7 @@ use mathlib.Core.Bool.{true, false}
 use mathlib.Core.List.{List, [], ◌∷◌, ◌++◌, map, map-append}
 use lib.ListN.{length, drop, get_or, length-map, length-take, length-drop, length-append}
 use lib.Seq.{drop-drop}
+use Rattle.std.specs.Prelude.{Some, None}
 use Rattle.text_lexical.specs.Bytes.{name_part, lower, every, run}
 use Rattle.text_lexical.specs.Promised.{packed, key_of}
 use Rattle.text_lexical.specs.Words.{Roomy, with_byte, part, WordIs}
@@ -45,8 +46,8 @@ module _ {u : List ℕ} {p : Packed} (q : Packs u p) where
   pub packs-fit : length u ≤ 7 → p.sum + p.scale < 2 ^ 64
   packs-fit h = omega (arith, scale-within 7 h, q.small)
 
-  pub packs-key : length u ≤ 7 → p.sum + p.scale ≡ key_of u
-  packs-key h = q.key_is ∙ sym (key-short u h)
+  pub packs-key : length u ≤ 7 → Some (p.sum + p.scale) ≡ key_of u
+  packs-key h = ap Some q.key_is ∙ sym (key-short u h)
 
   packs-more : (b : ℕ) → b < 256 → Packs (u ++ (b ∷ [])) (with_byte p b)
   packs-more b h =
@@ -87,7 +88,7 @@ module _ {s : List ℕ} {at : ℕ} {p : Packed} {i : ℕ} (q : Spelling s at p i
   pub spelling-fits : p.sum + p.scale < 2 ^ 64
   spelling-fits = packs-fit q.packs (omega (arith, size, q.few, q.on))
 
-  pub spelling-key : p.sum + p.scale ≡ key_of (map lower (part s at (i - at)))
+  pub spelling-key : Some (p.sum + p.scale) ≡ key_of (map lower (part s at (i - at)))
   spelling-key = packs-key q.packs (omega (arith, size, q.few, q.on))
 
   pub spelling-more : i < length s → i - at < 7 → get_or s i 0 < 256 → Spelling s at (with_byte p (lower (get_or s i 0))) (i + 1)
@@ -112,13 +113,13 @@ module _ {s : List ℕ} {at : ℕ} {p : Packed} {i : ℕ} (q : Spelling s at p i
         rw (drop-drop (i - at) at s, m) at (run_past name_part (i - at) (drop at s) (omega (arith, length-drop at s, q.on, q.in_text)) parts)
 
     -- The word ends.
-    pub word-ends : (i < length s → name_part (get_or s i 0) ≡ false) → WordIs s at (record { key = p.sum + p.scale; end = i })
+    pub word-ends : (i < length s → name_part (get_or s i 0) ≡ false) → WordIs s at (record { key = Some (p.sum + p.scale); end = i })
     word-ends g =
         let z : run name_part (drop i s) ≡ 0 = split i (length s) (λ l. run-no name_part s i l (g l)) (λ l. run_end name_part s i l) in
         record { ends = omega (arith, run_on, z, q.on); key_is = spelling-key }
 
     -- It goes on after seven bytes.
-    pub word-long : (end : ℕ) → i < length s → 7 ≤ i - at → name_part (get_or s i 0) ≡ true → end ≡ i + run name_part (drop i s) → WordIs s at (record { key = 0; end = end })
+    pub word-long : (end : ℕ) → i < length s → 7 ≤ i - at → name_part (get_or s i 0) ≡ true → end ≡ i + run name_part (drop i s) → WordIs s at (record { key = None; end = end })
     word-long end l k h e =
         let more = run-yes name_part s i l h in
         let m : end ≤ length s = omega (arith, run-le name_part (drop i s), length-drop i s) in

@@ -57,8 +57,9 @@ unfoldable pub packed : List ℕ → ℕ
 packed [] = 1
 packed (b ∷ s) = b + 256 * packed s
 
-unfoldable pub key_of : List ℕ → ℕ
-key_of s = elim (leb (length s) 7) [ true ↦ packed s | false ↦ 0 ]
+-- The key of a spelling, if it has at most seven bytes.
+unfoldable pub key_of : List ℕ → CodeOption ℕ
+key_of s = elim (leb (length s) 7) [ true ↦ Some (packed s) | false ↦ None ]
 
 -- ---- numbers
 

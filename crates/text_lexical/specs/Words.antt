@@ -30,7 +30,7 @@ part s at n = take n (drop at s)
 abbrev pub word_at : List ℕ → ℕ → List ℕ
 word_at s at = part s at (word_end s at - at)
 
--- The key of a word in lower case, and its end.
+-- The key of a word in lower case, if it has one, and its end.
 pub record WordIs (s : List ℕ) (at : ℕ) (w : Word) : Type 0 where
   pub ends : w.end ≡ word_end s at
   pub key_is : w.key ≡ key_of (map lower (part s at (w.end - at)))

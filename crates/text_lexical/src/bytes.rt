@@ -1,9 +1,10 @@
-// Byte classes, where a run of one class ends, lower case, and comparing spellings.
+// Byte classes, where a run of one class ends, lower case, and comparing spellings. A place is asked to be within its slice: the two come as
+// the slice and the place that document 01 names, and a type of both would ask the same of whoever makes one.
 ghost use Rattle.std.specs.Prelude.{◌≡◌, ◌+◌, ◌^◌, ◌≤◌, ◌<◌, ℕ, Bool, length, drop};
 ghost use Rattle.text_lexical.specs.Bytes.{between, letter, digit, name_start, name_part, blank, inside, ascii, lower, every, run, margin};
 ghost use Rattle.text_lexical.specs.Bytes.{same as sameSpelling};
 
-// A class of bytes that a run can be of.
+// A class of bytes that a run can be of. A type, and no closure: it brings the test of a block along, and contracts name its meaning.
 pub trait Class {
     ghost has: { ℕ → Bool };
 
@@ -82,7 +83,7 @@ impl Class for Ascii {
         b.is_ascii()
     }
 
-    // All are where the largest is. A test of each byte, as in the other classes, takes six times as long here.
+    // All are where the largest is. A test of each byte, as in the other classes and in the library's `is_ascii`, takes six times as long here.
     fn has_all(block: &[u8]) -> bool {
         let mut most = 0;
         for &b in block {
@@ -92,6 +93,7 @@ impl Class for Ascii {
     }
 }
 
+// The tests below are the library's, under the names that the definitions of tokens have.
 #[tactic(auto, unfolding(crate::specs::Bytes::between))]
 pub fn within(lo: u8, hi: u8, b: u8) -> bool
     ensures { result ≡ between lo hi b }
@@ -141,6 +143,7 @@ pub fn run_end<C: Class>(text: &[u8], at: usize) -> usize
 }
 
 // Where the run of bytes of a class from `at` on ends, found by blocks of N bytes and then by bytes: for runs that are often long.
+// The place is counted, since a count of `take_while` wants a clause of its closure and is no faster.
 fn run_end_by_blocks<C: Class, const N: usize>(text: &[u8], at: usize) -> usize
     requires steps { 0 < N }
     requires small { N < 2 ^ 63 }
@@ -148,7 +151,7 @@ fn run_end_by_blocks<C: Class, const N: usize>(text: &[u8], at: usize) -> usize
     ensures { result ≡ at + run C.has (drop at text.now) }
 {
     let mut i = at;
-    while let Some(block) = text[i..].first_chunk::<N>() {
+    for block in text[at..].as_chunks::<N>().0 {
         if !C::has_all(block) {
             break;
         }
@@ -157,7 +160,7 @@ fn run_end_by_blocks<C: Class, const N: usize>(text: &[u8], at: usize) -> usize
     run_end::<C>(text, i)
 }
 
-// Where the line that a place stands in ends.
+// Where the line that a place stands in ends. As `ascii_end` a name of its own: how long the blocks are is not for callers to know.
 pub fn line_end(text: &[u8], at: usize) -> usize
     requires { at ≤ length text.now }
     ensures { result ≡ at + run inside (drop at text.now) }
@@ -173,6 +176,7 @@ pub fn ascii_end(text: &[u8], at: usize) -> usize
     run_end_by_blocks::<Ascii, 32>(text, at)
 }
 
+// The library's method under the name that keys are stated by.
 #[tactic(auto, unfolding(crate::specs::Bytes::lower, crate::specs::Bytes::between))]
 pub(crate) fn to_lower(b: u8) -> u8
     ensures { result ≡ lower b }
@@ -180,7 +184,7 @@ pub(crate) fn to_lower(b: u8) -> u8
     b.to_ascii_lowercase()
 }
 
-// Whether two spellings are the same.
+// Whether two spellings are the same: the library's comparison, by the definition that contracts name spellings by.
 pub fn same(a: &[u8], b: &[u8]) -> bool
     ensures { result ≡ sameSpelling a.now b.now }
 {

@@ -1,4 +1,5 @@
-// Register names, looked up by their bytes, and the packed keys by which other words are told apart.
+// Register names, looked up by their bytes, and the packed keys by which other words are told apart. A place is asked to be within its text, as
+// in `bytes`.
 ghost use Rattle.std.specs.Prelude.{◌≡◌, [], ◌∷◌, map, ◌+◌, ◌^◌, ◌≤◌, ◌<◌, length};
 ghost use Rattle.std.proofs.Math.Option.{some};
 ghost use Rattle.text_lexical.specs.Bytes.{lower};
@@ -9,10 +10,10 @@ ghost use Rattle.text_lexical.specs.Words.{Roomy, with_byte, WordIs, up_to, Regi
 use crate::bytes::NamePart;
 use crate::register::Register;
 
-// The key of a word, and its end.
+// The key of a word, if it has no more bytes than a key, and its end.
 #[derive(Clone, Copy)]
 pub struct Word {
-    pub key: u64,
+    pub key: Option<u64>,
     pub end: usize,
 }
 
@@ -42,26 +43,28 @@ struct Pair {
     // How many digits may follow the letter, and the register's number for the digit 0.
     digits: u8,
     first: u8,
-    // The other byte that may follow (ra; sp, tp, fp and gp), and its register's number; `a` has only digits.
+    // The other byte that may follow (ra; sp, tp, fp and gp), and its register's number; `a` has only digits. For `a`
+    // its digit 0 stands there, which the digits tell before it is asked; an `Option` would be one test more for each name. Both registers are
+    // numbers, since that of a digit may be 16 (a5), which is no register's.
     other: u8,
     number: u8,
 }
 
 // They are looked up by the last three bits of the first byte, which tell the letters apart: a branch for each letter would often be
-// guessed wrong. Where there is no letter, a byte with other last bits stands in its place, so that no other test is needed.
+// guessed wrong.
 #[rattlefmt::skip]
-static PAIRS: [Pair; 8] = [
-    Pair { letter: 1, digits: 0, first: 0, other: 0, number: 0 },
-    Pair { letter: b'a', digits: 6, first: 11, other: b'0', number: 11 },
-    Pair { letter: b'r', digits: 10, first: 0, other: b'a', number: 1 },
-    Pair { letter: b's', digits: 2, first: 6, other: b'p', number: 2 },
-    Pair { letter: b't', digits: 3, first: 8, other: b'p', number: 4 },
-    Pair { letter: 0, digits: 0, first: 0, other: 0, number: 0 },
-    Pair { letter: b'f', digits: 0, first: 0, other: b'p', number: 5 },
-    Pair { letter: b'g', digits: 0, first: 0, other: b'p', number: 3 },
+static PAIRS: [Option<Pair>; 8] = [
+    None,
+    Some(Pair { letter: b'a', digits: 6, first: 11, other: b'0', number: 11 }),
+    Some(Pair { letter: b'r', digits: 10, first: 0, other: b'a', number: 1 }),
+    Some(Pair { letter: b's', digits: 2, first: 6, other: b'p', number: 2 }),
+    Some(Pair { letter: b't', digits: 3, first: 8, other: b'p', number: 4 }),
+    None,
+    Some(Pair { letter: b'f', digits: 0, first: 0, other: b'p', number: 5 }),
+    Some(Pair { letter: b'g', digits: 0, first: 0, other: b'p', number: 3 }),
 ];
 
-// The register with a number; a name with a higher number (a5) names none, so it is not a register's.
+// The register with a number, if it is one's: a name with a higher number (a5) names none.
 #[tactic(auto, unfolding(crate::specs::Promised::register_number))]
 fn numbered(number: u8) -> RegisterName
     ensures { name_meant result ≡ some (register_number number) }
@@ -76,7 +79,9 @@ fn numbered(number: u8) -> RegisterName
 fn two_bytes(first: u8, second: u8) -> RegisterName
     ensures { name_meant result ≡ name_number (named present (first ∷ second ∷ [])) }
 {
-    let pair = &PAIRS[(first % 8) as usize];
+    let Some(pair) = &PAIRS[(first % 8) as usize] else {
+        return RegisterName::Other;
+    };
     if pair.letter != first {
         return RegisterName::Other;
     }
@@ -197,21 +202,24 @@ impl Packed {
     }
 }
 
-// The key of a spelling in lower case; 0 where it has too many bytes.
-pub fn lower_key(spelling: &[u8]) -> u64
+// The key of a spelling in lower case, if it has no more bytes than a key. A loop of its own: that of `lower_word` ends at what is no part of
+// a name, and a spelling may have any byte.
+pub fn lower_key(spelling: &[u8]) -> Option<u64>
     ensures { result ≡ key_of (map lower spelling.now) }
 {
     if KEY_BYTES < spelling.len() {
-        return 0;
+        return None;
     }
     let mut packed = UNPACKED;
     for &b in spelling {
         packed = packed.with(b);
     }
-    packed.key()
+    Some(packed.key())
 }
 
-// The word at `at`: its key in lower case, and its end. It has no byte where no part of a name stands.
+// The word at `at`: its key in lower case, and its end. It has no byte where no part of a name stands. Each line's first word is read by it:
+// as a call it takes ordinary lines 8 in 100 longer.
+#[inline(always)]
 pub fn lower_word(text: &[u8], at: usize) -> Word
     requires { at ≤ length text.now }
     ensures { WordIs text.now at result }
@@ -221,20 +229,20 @@ pub fn lower_word(text: &[u8], at: usize) -> Word
         let b = text[i];
         if !crate::bytes::is_name_part(b) {
             return Word {
-                key: packed.key(),
+                key: Some(packed.key()),
                 end: i,
             };
         }
         if KEY_BYTES <= i - at {
             return Word {
-                key: 0,
+                key: None,
                 end: crate::bytes::run_end::<NamePart>(text, i),
             };
         }
         packed = packed.with(b);
     }
     Word {
-        key: packed.key(),
+        key: Some(packed.key()),
         end: text.len(),
     }
 }

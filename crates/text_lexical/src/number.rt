@@ -1,4 +1,5 @@
-// Numbers: digits at a place of a text, their value where it fits 64 bits, whole numbers, and their residues.
+// Numbers: digits at a place of a text, their value where it fits 64 bits, whole numbers, and their residues. The place is asked to be within the
+// text, as in `bytes`.
 ghost use Rattle.std.specs.Prelude.{◌≡◌, suc, ◌+◌, ◌*◌, ◌%◌, ◌≤◌, length, None, MatchOption};
 ghost use Rattle.text_lexical.specs.Promised.{base_of, digit_of, digits_at, fitting, whole_meant, Reduced};
 
@@ -17,8 +18,8 @@ pub struct Digits {
     pub end: usize,
 }
 
-// A whole number by its sign and its magnitude; -0 is 0. No type of 64 bits has both 2^64 - 1 and -2^63, and one of
-// 128 would make each operand larger.
+// A whole number by its sign and its magnitude; -0 is 0. No type of 64 bits has both 2^64 - 1 and -2^63, and one of 128, by its alignment, would
+// make each instruction a third larger.
 #[derive(Clone, Copy, Default)]
 pub struct Whole {
     pub negative: bool,
@@ -26,6 +27,7 @@ pub struct Whole {
 }
 
 impl Radix {
+    // The one place where the enum is read as a number. As a `From` it would be public, for two callers in this file.
     fn base(self) -> u32
         ensures { result ≡ base_of self }
     {

@@ -22,7 +22,7 @@ pub enum Register {
     R15,
 }
 
-// The register's number, 0 to 15.
+// The register's number, 0 to 15, by the library's trait.
 impl From<Register> for u8 {
     fn from(register: Register) -> u8
         ensures { result ≡ index_of register }

@@ -3,7 +3,7 @@ use mathlib.Core.Path.{◌≡◌, refl, sym, ap, ◌∙◌}
 use mathlib.Core.List.{List, [], ◌∷◌, ◌++◌}
 use Prim.Native.Nat.{ℕ, zero, suc, ◌+◌, ◌/◌, ◌%◌, ◌*◌, ◌^◌, ◌≤◌, ◌<◌}
 use native.Mathlib.Omega.{arith}
-use lib.ListN.{length, take, drop, set, length-append, take-append-drop}
+use lib.ListN.{length, take, drop, length-append, take-append-drop}
 use borrow.Author.Tests.{lt-ltb, le-ltb}
 use Rattle.text_lexical.specs.Numbers.{minus, decimal_in, decimal, signed_decimal}
 use native.Mathlib.Nat.{mod-eq_of_lt, pow-suc}
@@ -12,7 +12,6 @@ use Rattle.std.proofs.lemmas.Fmt.{decimal_by_steps}
 use Rattle.text_lexical.proofs.Numbers.{decimal-length}
 use Rattle.text_lexical.proofs.Tests.{split}
 use Rattle.text_writer.specs.Promised.{put, Written}
-use Rattle.text_writer.specs.Laws.{written_byte}
 
 -- ---- the last digit
 
@@ -75,11 +74,9 @@ decimal-least (suc k) n h =
 pub decimal-powers : (k n : ℕ) → 10 ^ k ≤ n → n < 10 * 10 ^ k → length (decimal n) ≡ k + 1
 decimal-powers k n h l = omega (arith, decimal-least k n h, decimal-length k n (omega (arith, pow-suc 10 k)))
 
--- One digit at its place is written.
-pub written-digit : (l : List ℕ) (at n : ℕ) → n < 10 → at + length (decimal n) ≤ length l → Written l at (decimal n) (at + 1) (set l at (48 + n))
-written-digit l at n h room =
-    let e : decimal n ≡ (48 + n) ∷ [] = decimal-one n h ∙ ap (λ (d : ℕ). (48 + d) ∷ []) (mod-eq_of_lt h) in
-    rw e (written_byte l at (48 + n) (omega (arith, ap length e)))
+-- A number of one digit is that digit.
+pub decimal-digit : (n : ℕ) → n < 10 → decimal n ≡ (48 + n) ∷ []
+decimal-digit n h = decimal-one n h ∙ ap (λ (d : ℕ). (48 + d) ∷ []) (mod-eq_of_lt h)
 
 -- Digits that end at a place, with the rest of a buffer before and after them, are written.
 pub written-digits : (l : List ℕ) (at start n : ℕ) (m : List ℕ) → n < 2 ^ 64 → at + length (decimal n) ≤ length l

@@ -26,3 +26,39 @@ module _ {S : Type 0} {Fits : S → List ℕ → Type 0} {Took : S → List ℕ 
         fits = laws.fits_after t piece u rest l.fits k;
         taken = λ v m. l.taken v (laws.took_append t piece u rest v l.fits k m);
       }
+
+-- ---- a text in two pieces, or in three
+
+pub record Two (text a b : List ℕ) : Type 0 where
+  pub are : text ≡ a ++ b
+
+pub record Three (text a b c : List ℕ) : Type 0 where
+  pub are : text ≡ a ++ (b ++ c)
+
+-- Where it fits, each piece fits after those before it, and then the text was taken.
+pub record PutTwo {S : Type 0} (Fits : S → List ℕ → Type 0) (Took : S → List ℕ → S → Type 0) (s : S) (text a b : List ℕ) : Type 0 where
+  pub first : Fits s a
+  pub second : {t : S} → Took s a t → Fits t b
+  pub taken : {t u : S} → Took s a t → Took t b u → Took s text u
+
+pub record PutThree {S : Type 0} (Fits : S → List ℕ → Type 0) (Took : S → List ℕ → S → Type 0) (s : S) (text a b c : List ℕ) : Type 0 where
+  pub first : Fits s a
+  pub second : {t : S} → Took s a t → Fits t b
+  pub third : {t u : S} → Took s a t → Took t b u → Fits u c
+  pub taken : {t u v : S} → Took s a t → Took t b u → Took u c v → Took s text v
+
+module _ {S : Type 0} {Fits : S → List ℕ → Type 0} {Took : S → List ℕ → S → Type 0} (laws : SinkLaws Fits Took) {s : S} {text : List ℕ} where
+  pub put_two : {a b : List ℕ} → Two text a b → Fits s text → PutTwo Fits Took s text a b
+  put_two {b = b} e h =
+      let all = left-all laws e.are h in
+      record { first = left-fits laws b all; second = λ k. (left-next laws k all).fits; taken = λ k m. (left-next laws k all).taken _ m }
+
+  pub put_three : {a b c : List ℕ} → Three text a b c → Fits s text → PutThree Fits Took s text a b c
+  put_three {b = b} {c = c} e h =
+      let all = left-all laws e.are h in
+      record {
+        first = left-fits laws (b ++ c) all;
+        second = λ k. left-fits laws c (left-next laws k all);
+        third = λ k m. (left-next laws m (left-next laws k all)).fits;
+        taken = λ k m n. (left-next laws m (left-next laws k all)).taken _ n;
+      }

@@ -2,4 +2,3 @@
 #![tactic(auto)]
 
 pub mod sink;
-pub mod writer;

@@ -1,5 +1,6 @@
 // What takes a text piece by piece. A text has one function that puts it, which measures it into a `Length` and writes it into a `Writer`.
-ghost use Rattle.std.specs.Prelude.{ℕ, ◌∷◌, [], List};
+// The library's `Display` only writes, and document 01 leaves it out.
+ghost use Rattle.std.specs.Prelude.{◌≡◌, ◌≤◌, ℕ, ◌∷◌, [], List, length};
 ghost use Rattle.text_lexical.specs.Numbers.{decimal};
 ghost use Rattle.text_writer.specs.Sinks.{SinkLaws, HasLength, Counted, HasRoom, WrittenOn};
 ghost use Rattle.text_writer.specs.Laws.{length_laws, writer_laws};
@@ -27,6 +28,17 @@ pub trait Sink {
     ghost laws: { SinkLaws Fits Took };
 }
 
+// How many digits a number has.
+pub fn decimal_length(n: u64) -> usize
+    ensures value { result ≡ length (decimal n) }
+    ensures bound { result ≤ 20 }
+{
+    match n.checked_ilog10() {
+        None => 1,
+        Some(tens) => tens as usize + 1,
+    }
+}
+
 // Counts the bytes that are put, up to the largest number, so that it asks nothing of a text.
 #[derive(Drop)]
 pub struct Length {
@@ -47,7 +59,7 @@ impl Sink for Length {
     }
 
     fn put_decimal(&mut self, n: u64) {
-        self.length = self.length.saturating_add(crate::writer::decimal_length(n));
+        self.length = self.length.saturating_add(decimal_length(n));
     }
 
     ghost laws = { length_laws };
@@ -71,11 +83,20 @@ impl Sink for Writer<'_> {
     }
 
     fn put_bytes(&mut self, bytes: &[u8]) {
-        self.at = crate::writer::write_bytes(self.out, self.at, bytes);
+        let end = self.at + bytes.len();
+        self.out[self.at..end].copy_from_slice(bytes);
+        self.at = end;
     }
 
+    // Most numbers of a listing have one digit, which is written at once: by the library's loop a listing took a tenth longer.
     fn put_decimal(&mut self, n: u64) {
-        self.at = crate::writer::write_decimal(self.out, self.at, n);
+        if n < 10 {
+            self.put(b'0' + n as u8);
+            return;
+        }
+        let end = self.at + decimal_length(n);
+        itoa::write_digits(n, self.out, end);
+        self.at = end;
     }
 
     ghost laws = { writer_laws };

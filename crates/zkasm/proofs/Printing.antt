@@ -1,7 +1,6 @@
 -- What is printed: the front of a buffer, and what an answer of assembling or listing says of it.
 use mathlib.Core.Path.{◌≡◌, refl, sym, ap, ◌∙◌}
 use Prim.Native.Nat.{ℕ, ◌+◌, ◌*◌, ◌^◌, ◌≤◌, ◌<◌}
-use native.Mathlib.Nat.{zero-add}
 use native.Mathlib.Omega.{arith}
 use mathlib.Core.Bool.{Bool, true, false}
 use mathlib.Core.Option.{Option, none, some}
@@ -13,7 +12,6 @@ use Rattle.text_lexical.specs.Bytes.{bytes, ascii, every, before}
 use Rattle.text_lexical.specs.Numbers.{decimal}
 use Rattle.text_lexical.specs.Names.{present}
 use Rattle.text_lexical.proofs.Numbers.{decimal-length}
-use Rattle.text_writer.specs.Promised.{put, Written}
 use Rattle.text.specs.Lines.{lines}
 use Rattle.image.specs.Settings.{Settings}
 use Rattle.image.specs.Assembling.{Walk, finished, stopped, Assembled, accepted, rejected, start, walk, most_bytes, refusing, read_to, reading, assembling}
@@ -39,10 +37,6 @@ prints-over text old {new} {r} room size holds =
       fits = omega (arith, ap length holds, length_over text old room);
       printed = rw (size, holds) (take-over text old);
     }
-
-pub prints-written : {text old new : List ℕ} {r : ℕ} → length text ≤ length old → Written old 0 text r new → Prints text old new r
-unfolding put over
-prints-written {text} {old} room w = prints-over text old room (omega (arith, w.ends)) (simp zero-add at w.holds)
 
 -- ---- a refusal is short
 

@@ -11,8 +11,8 @@ use lib.Seq.{length-take-le}
 use lib.Dec.{eqb, ltb}
 use lib.IntN.{ℤ, pos, negsuc}
 use borrow.Author.Tests.{ltb-true, ltb-false}
-use Rattle.std.proofs.Common.{Option as Known, Some, None}
-use Rattle.std.specs.Prelude.{Ok, Err, Result as Answered}
+use Rattle.std.proofs.Common.{Option as Maybe, Some, None}
+use Rattle.std.specs.Prelude.{Ok, Err, Result as Answer}
 use Rattle.std.specs.IoError.{raw_os_error}
 use Rattle.std.specs.declared.io.Error.{Error as IoError}
 use Rattle.std.specs.Io.KnownBytes.{Consumes}
@@ -22,7 +22,7 @@ use Rattle.text_writer.proofs.Writing.{put-append}
 use Rattle.image.specs.Lent.{over}
 use Rattle.zkasm.specs.Zkasm.{program_output}
 use Rattle.image.proofs.Over.{length_over, take-over}
-use Rattle.zkasm.specs.Stdin.{Moved, input_room, interruption, failure_of, failed, delivery_of, count_of, step_of, Transcript, start, next, Writing, printed, told, writing_of}
+use Rattle.zkasm.specs.Stdin.{Moved, input_room, interruption, failure_of, failed, delivery_of, count_of, step_of, Transcript, start, next, writing_of}
 use Rattle.zkasm.specs.Promised.{Delivers, ReadsPiece, Received, Writes, Replies}
 use Rattle.zkasm.specs.declared.stdin.Delivery.{Delivery}
 use Rattle.zkasm.specs.declared.stdin.Delivery.TheVariants.{Piece, End, Interrupted, Failed}
@@ -30,7 +30,6 @@ use Rattle.zkasm.specs.declared.stdin.Input.{Input}
 use Rattle.zkasm.specs.declared.stdin.Input.TheVariants.{Whole, TooLong, Incomplete}
 use Rattle.zkasm.specs.declared.stdin.Step.{Step}
 use Rattle.zkasm.specs.declared.stdin.Step.TheVariants.{Again, Done}
-use Rattle.zkasm.specs.declared.reply.Unread.{Unread}
 use Rattle.zkasm.proofs.Printing.{output_long}
 
 -- ---- one read
@@ -44,13 +43,13 @@ failure-none (pos n) = go (eqb n interruption)
     go false = refl
 failure-none (negsuc n) = refl
 
-pub failed-none : (number : Known ℤ) → count_of (failed number) ≡ 0
+pub failed-none : (number : Maybe ℤ) → count_of (failed number) ≡ 0
 unfolding count_of
 failed-none (Some number) = failure-none number
 failed-none None = refl
 
 -- No more bytes come than were asked for.
-delivered-fits : (room : ℕ) (answer : Answered ℕ IoError) → Moved room answer → count_of (delivery_of answer) ≤ room
+delivered-fits : (room : ℕ) (answer : Answer ℕ IoError) → Moved room answer → count_of (delivery_of answer) ≤ room
 unfolding delivery_of count_of
 delivered-fits room (Ok zero) h = omega arith
 delivered-fits room (Ok (suc n)) h = h
@@ -72,11 +71,11 @@ failure-advances (pos n) = go (eqb n interruption)
     go false = tt
 failure-advances (negsuc n) = tt
 
-failed-advances : (number : Known ℤ) → Advances (failed number)
+failed-advances : (number : Maybe ℤ) → Advances (failed number)
 failed-advances (Some number) = failure-advances number
 failed-advances None = tt
 
-delivered-advances : (answer : Answered ℕ IoError) → Advances (delivery_of answer)
+delivered-advances : (answer : Answer ℕ IoError) → Advances (delivery_of answer)
 unfolding delivery_of
 delivered-advances (Ok zero) = tt
 delivered-advances (Ok (suc n)) = omega arith
@@ -179,20 +178,17 @@ module _ {old new : List ℕ} {filled tries : ℕ} (r : Received old new (Again 
     next-less more left e = step_less filled tries more left delivery (delivers-advance p.delivers) next_fits e
 
     -- Where it is known what the input has left, the bytes that came by then are the first of it.
-    pub reads-on : length piece ≡ input_room → (left now rest : Known (List ℕ)) → Consumes left now r.came → Consumes now rest (take (count_of delivery) piece)
-        → (t : Received old new' (step_of filled tries delivery)) × Consumes left rest t.came
-    reads-on size left now rest before after =
+    pub reads-on : {step : Step} → step ≡ step_of filled tries delivery → length piece ≡ input_room → (left now rest : Maybe (List ℕ))
+        → Consumes left now r.came → Consumes now rest (take (count_of delivery) piece) → (t : Received old new' step) × Consumes left rest t.came
+    reads-on e size left now rest before after =
         let count : length (take (count_of delivery) piece) ≡ count_of delivery = length-take-le (count_of delivery) piece (omega (arith, next_fits)) in (
           record {
             came = r.came ++ take (count_of delivery) piece;
-            calls = next delivery (take (count_of delivery) piece) r.calls count (omega (arith, next_fits)) refl;
+            calls = next delivery (take (count_of delivery) piece) r.calls count (omega (arith, next_fits)) e;
             holds = p.holds ∙ rw (r.holds, (counted r.calls).0) (put-over r.came (take (count_of delivery) piece) old);
           },
           Consumes-trans left now rest r.came (take (count_of delivery) piece) before after,
         )
-
-    pub reads-next : length piece ≡ input_room → Received old new' (step_of filled tries delivery)
-    reads-next size = (reads-on size None None None tt tt).0
 
 -- ---- what was read
 
@@ -220,13 +216,6 @@ pub rest-alike : (came rest : List ℕ) → length came ≡ input_room → progr
 rest-alike came rest h = output_long (came ++ rest) (omega (arith, length-append came rest)) ∙ sym (output_long came (omega arith))
 
 module _ {old new : List ℕ} {n : ℕ} where
-  pub output-fits : Replies old new (Ok n) → n ≤ length new
-  output-fits r = go (writing_of r.read r.came) r.writes
-    where
-      go : (w : Writing) → Writes w old new (Ok n) → n ≤ length new
-      go (printed text) h = h.fits
-      go (told line) h = absurd h
-
   -- A text is printed only after a call that answered that the input had ended, or if the input is too long by now.
   pub output-ended : (r : Replies old new (Ok n)) → (last_of r.calls ≡ some End) ⊎ (length r.came ≡ input_room)
   unfolding writing_of

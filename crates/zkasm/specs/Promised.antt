@@ -1,7 +1,7 @@
 -- What the program's functions promise.
 use Rattle.std.specs.Prelude.{ℕ, ◌-◌, ◌≤◌, ◌≡◌, List, length, take}
 use Rattle.std.specs.declared.io.Error.{Error}
-use Rattle.std.specs.Prelude.{Ok, Err, Result as Answered}
+use Rattle.std.specs.Prelude.{Ok, Err, Result as Answer}
 use Rattle.text_lexical.specs.Names.{present}
 use Rattle.text_writer.specs.Promised.{put}
 use Rattle.image.specs.Assembling.{assembling}
@@ -18,7 +18,7 @@ use Rattle.zkasm.specs.declared.stdin.Step.TheVariants.{Done}
 use Rattle.zkasm.specs.declared.reply.Unread.{Unread}
 
 -- Assembling an input with the program's label table.
-pub record AssemblesInput (input old new : List ℕ) (r : Answered Assembled AssembleError) : Type 0 where
+pub record AssemblesInput (input old new : List ℕ) (r : Answer Assembled AssembleError) : Type 0 where
   pub answer : answer_meant r ≡ answer_of (assembling present input table_room (length old))
   pub image_holds : new ≡ image_after present input (assembling present input table_room (length old)) old
 
@@ -31,7 +31,7 @@ pub record Prints (text old new : List ℕ) (r : ℕ) : Type 0 where
 
 -- The delivery of a call of `read` that is lent a buffer of so many bytes, by its answer.
 pub record Delivers (room : ℕ) (r : Delivery) : Type 0 where
-  pub answer : Answered ℕ Error
+  pub answer : Answer ℕ Error
   pub moved : Moved room answer
   pub delivery : r ≡ delivery_of answer
 
@@ -48,14 +48,14 @@ pub record Received (old new : List ℕ) (step : Step) : Type 0 where
   pub holds : new ≡ over came old
 
 -- A text to standard output stands at the front of a buffer; for a line to standard error the buffer keeps its bytes.
-abbrev pub Writes : Writing → List ℕ → List ℕ → Answered ℕ Unread → Type 0
+abbrev pub Writes : Writing → List ℕ → List ℕ → Answer ℕ Unread → Type 0
 Writes (printed text) old new (Ok n) = Prints text old new n
 Writes (printed text) old new (Err u) = ⊥
 Writes (told line) old new (Ok n) = ⊥
 Writes (told line) old new (Err u) = (line ≡ incomplete_line) × (new ≡ old)
 
 -- Calls of `read` that lead to an outcome, and what is written for it and for the bytes that came.
-pub record Replies (old new : List ℕ) (r : Answered ℕ Unread) : Type 0 where
+pub record Replies (old new : List ℕ) (r : Answer ℕ Unread) : Type 0 where
   pub read : Input
   pub came : List ℕ
   pub calls : Transcript (Done read) came

@@ -15,7 +15,8 @@ use text_writer::sink::{Sink, Writer};
 // Room for the image of every input: it has a line more at most than bytes.
 const IMAGE_ROOM: usize = HEADER_SIZE + 4 * ROOM;
 
-// Room for its text: three settings and as many words, of at most 22 bytes a line.
+// Room for its text: three settings and as many words, of at most 22 bytes a line. There is no heap, so the buffer is lent, and each function
+// that prints into it asks for the room.
 pub const TEXT_ROOM: usize = 22 * (3 + ROOM);
 
 // `refused N line L`
@@ -39,7 +40,7 @@ fn write_listing(image: &[u8], out: &mut [u8]) -> usize
     ensures { Prints (text_of image.now) out.old out.new result }
 {
     // no such image is refused
-    image_listing::disassembler::list(image, out).unwrap_or(0)
+    image_listing::disassembler::list(image, out).unwrap()
 }
 
 fn blank_table() -> [Label; 1024] {
@@ -70,7 +71,7 @@ fn report_source(input: &[u8], image: &mut [u8], out: &mut [u8]) -> usize
         Ok(assembled) => write_listing(&image[..HEADER_SIZE + 4 * assembled.words], out),
         Err(AssembleError::Refused { refusal, line, .. }) => write_refusal(out, refusal, line),
         // the image buffer holds the image of every such input
-        Err(AssembleError::TooShort { .. }) => 0,
+        Err(AssembleError::TooShort { .. }) => unreachable!(),
     }
 }
 

@@ -17,11 +17,12 @@ pub const ROOM: usize = MOST_INPUT + 1;
 // The number of times that an interrupted read is tried again.
 const TRIES: usize = 100;
 
-// The number of the error of a call that was interrupted before a byte came.
+// The number of the error of a call that was interrupted before a byte came. By the system's number, since an error of the library's own has none
+// and is no interruption of the call.
 const INTERRUPTION: i32 = 4;
 
-// What a call of `read` delivered: a number of bytes, or the news that no more follow. Four outcomes, each of which reading goes on from in
-// its own way.
+// What a call of `read` delivered: a number of bytes, or the news that no more follow. Four outcomes, each of which another
+// step follows, so this is no `Result`.
 #[derive(Clone, Copy)]
 enum Delivery {
     Piece(usize),
@@ -30,7 +31,7 @@ enum Delivery {
     Failed,
 }
 
-// What reading came to: three outcomes, of which two are printed for.
+// What reading came to: three outcomes, of which two are printed for, so this is no `Result`.
 #[derive(Clone, Copy)]
 pub enum Input {
     Whole(usize),
@@ -38,7 +39,8 @@ pub enum Input {
     Incomplete,
 }
 
-// What follows a delivery: another read, with the number of bytes so far and of tries left, or the outcome, which is no error.
+// What follows a delivery: another read, with the number of bytes so far and of tries left, or the outcome, which is no error, so this is
+// no `Result`; a `ControlFlow` would call the two Continue and Break, which no `?` hands on.
 #[derive(Clone, Copy)]
 enum Step {
     Again { filled: usize, tries: usize },
@@ -55,7 +57,7 @@ fn failure_of(number: Option<i32>) -> Delivery
     Delivery::Failed
 }
 
-// The meaning of an answer of `read`.
+// The meaning of an answer of `read`, which a `From` for the library's own type would hide.
 fn delivery_of(answer: io::Result<usize>) -> Delivery
     ensures { result ≡ delivery_of answer }
 {
@@ -109,7 +111,8 @@ fn read_some<R: Read>(reader: &mut R, piece: &mut [u8]) -> Delivery
 }
 
 // Reads once, as much as there is room for, and puts the piece after the bytes that came before. The call is lent a buffer of its
-// own, because nothing is known of the bytes that it leaves after the piece.
+// own, because nothing is known of the bytes that it leaves after the piece. There is no heap, so both buffers have their length from the start,
+// and how far the input is filled is a number beside them.
 fn read_piece<R: Read>(
     reader: &mut R,
     input: &mut [u8],
@@ -124,12 +127,13 @@ fn read_piece<R: Read>(
     let left = input.len() - filled;
     let delivery = read_some(reader, &mut piece[..left]);
     if let Delivery::Piece(n) = delivery {
-        text_writer::writer::write_bytes(input, filled, &piece[..n]);
+        input[filled..filled + n].copy_from_slice(&piece[..n]);
     }
     delivery
 }
 
-// Reads until the input ends or fills the buffer, or until a read fails.
+// Reads until the input ends or fills the buffer, or until a read fails. How many calls that takes is known by their answers alone, so the loop
+// is no `for`.
 pub fn read_input<R: Read>(reader: &mut R, input: &mut [u8]) -> Input
     requires { length input.old ≡ input_room }
     ensures calls { Received input.old input.new (Done result) }

@@ -1,5 +1,5 @@
 -- `image_assembler::assembler::assemble` meets its contract.
-use Rattle.std.proofs.Common.{◌∙◌, sym}
+use Rattle.std.proofs.Common.{rules, ◌∙◌, sym}
 use borrow.Author.Tests.{ltb-true}
 use Rattle.text_lexical.specs.Names.{present}
 use Rattle.image_assembler.proofs.Walks.{overlong-assembles, walks-ready, walks-end}
@@ -13,4 +13,7 @@ pub finish-assembled-requires : goal.finish-assembled-requires
 finish-assembled-requires c = walks-ready c.walk-outcome.ensures
 
 pub returns : goal.returns
-returns c = walks-end c.walk-outcome.ensures c.unlink.ensures c.finish-assembled.ensures
+returns c =
+    let labels = c.walk-outcome.ensures in
+    let same = sym (c.unlink.ensures.lent.same_table ∙ labels.lent.same_table) in
+    walks-end labels (search rules ∙ c.unlink.ensures.table) c.finish-assembled.ensures

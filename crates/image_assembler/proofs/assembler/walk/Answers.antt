@@ -5,18 +5,18 @@ use Rattle.image_assembler.proofs.Walks.{walking-begin, walking-reads, walking-e
 use Rattle.image_assembler.proofs.assembler.walk.Goals as goal
 
 pub loop-at-init : goal.loop-at-init
-loop-at-init c = walking-begin present c.args.table.now c.requires.short c.begin-next.ensures c.requires.bare
+loop-at-init c = walking-begin present c.requires c.begin-next.ensures
 
 pub enter-entered-requires-clause-tree : goal.enter-entered-requires-clause-tree
-enter-entered-requires-clause-tree c = (walking-reads present-naming c.loop-at.invariant c.in-AtLabel.ensures).tree
+enter-entered-requires-clause-tree c = (walking-reads present-naming c.loop-at.invariant c.in-AtLabel.ensures).linked
 
 pub enter-entered-requires-clause-enterable : goal.enter-entered-requires-clause-enterable
 enter-entered-requires-clause-enterable c = walking-enterable (walking-reads present-naming c.loop-at.invariant c.in-AtLabel.ensures)
 
 pub loop-at-preserved : goal.loop-at-preserved
 loop-at-preserved c =
-    walking_on (walking-reads present-naming c.loop-at.invariant c.in-AtLabel.ensures) c.enter-entered.ensures.enters c.enter-entered.ensures.tree_after
-    c.go_on-next.ensures
+    let e = c.enter-entered.ensures in
+    walking_on (walking-reads present-naming c.loop-at.invariant c.in-AtLabel.ensures) e.enters e.tree_after e.counted e.lent c.go_on-next.ensures
 
 pub loop-at-smaller : goal.loop-at-smaller
 loop-at-smaller c = nearer c.in-AtLabel.ensures c.go_on-next.ensures

@@ -4,7 +4,7 @@ use Rattle.image_assembler.proofs.Walks.{Walking, left}
 use Rattle.image_assembler.proofs.assembler.walk.Given as goal
 
 abbrev pub invariant-loop-at : goal.invariant-loop-at
-invariant-loop-at l = Walking present l.source l.fn.table l.table l.roots l.next
+invariant-loop-at l = Walking present l.fn.labels l.labels l.next
 
 abbrev pub decreases-loop-at : goal.decreases-loop-at
 decreases-loop-at l = left l.source l.next

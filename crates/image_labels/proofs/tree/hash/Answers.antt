@@ -1,32 +1,22 @@
 -- `image_labels::tree::hash` meets its contract.
-use Rattle.std.proofs.Common.{◌∙◌, ◌+◌, ◌-◌, take, drop, sym, ap, refl, arith, length-take}
-use Rattle.image_labels.specs.Tree.{mixed}
+use Rattle.std.proofs.Common.{◌∙◌, sym, ap, arith}
+use Rattle.image_labels.specs.Tree.{hash_from, mixed}
 use Rattle.image_labels.specs.declared.tree.Digest.{Digest}
-use Rattle.image_labels.proofs.Hashing.{hash-three, hash-one, hash-done, hash-all}
+use Rattle.image_labels.proofs.Hashing.{hash-threes-done, hash-one, hash-done, hash-all}
 use Rattle.image_labels.proofs.tree.hash.Goals as goal
-
-pub loop-at-preserved : goal.loop-at-preserved
-loop-at-preserved c =
-    let l = c.loop-at in
-    (omega arith, omega arith, rw (c.mix-hash.ensures, c.three_bytes.ensures.value) (sym (hash-three c.args.source.now l.hash l.at _ (omega arith) (omega arith)) ∙ l.invariant.2))
-
-pub loop-byte-init : goal.loop-byte-init
-loop-byte-init c =
-    let a = c.args in
-    (omega (arith, length-take (a.label.start + a.label.length - c.loop-at.at) (drop c.loop-at.at a.source.now)), omega arith, refl)
 
 pub loop-byte-preserved : goal.loop-byte-preserved
 loop-byte-preserved c =
-    let a = c.args in
     let l = c.loop-byte in
-    let u = take (a.label.start + a.label.length - c.loop-at.at) (drop c.loop-at.at a.source.now) in
-    (l.invariant.0, omega arith, rw (c.mix-hash-in-loop-byte.ensures, c.from.ensures) (sym (hash-one l.hash u l.byte-index (omega arith) l.invariant.0) ∙ l.invariant.2))
+    rw (c.mix-hash-in-loop-byte.ensures, c.from.ensures) (sym (hash-one l.hash c.as_chunks.result.1.now l.byte-index (omega arith) (omega arith)) ∙ l.invariant)
 
 pub returns : goal.returns
 returns c =
-    let a = c.args in
-    let l = c.loop-byte in
-    let u = take (a.label.start + a.label.length - c.loop-at.at) (drop c.loop-at.at a.source.now) in
+    let rest = c.as_chunks.result.1.now in
+    let threes = c.loop-three in
+    let bytes = c.loop-byte in
     c.mix.ensures
-    ∙ ap (λ (h : Digest). mixed h 0) (sym (hash-done l.hash u l.byte-index (omega arith)) ∙ l.invariant.2 ∙ c.loop-at.invariant.2)
-    ∙ hash-all a.source.now c.loop-at.hash a.label
+    ∙ ap (λ (h : Digest). mixed h 0)
+    (sym (hash-done bytes.hash rest bytes.byte-index (omega arith)) ∙ bytes.invariant
+    ∙ ap (λ (h : Digest). hash_from h rest) (sym (hash-threes-done threes.hash c.as_chunks.result.0.now threes.three-index (omega arith)) ∙ threes.invariant))
+    ∙ hash-all c.args.source.now c.args.label c.as_chunks.ensures.front c.as_chunks.ensures.back

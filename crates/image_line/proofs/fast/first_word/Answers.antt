@@ -18,7 +18,7 @@ returns-then-is_some c =
       label = c.loop-at.invariant;
       in_text = omega (arith, c.if-source-at.false);
       begins = sym c.is_name_start.ensures ∙ c.if-not-is_name_start.false;
-      word = c.lower_word-word.ensures;
+      word = record { ends = c.lower_word-word.ensures.ends; key_is = rw c.in-Some.is at c.lower_word-word.ensures.key_is };
     }
 
 pub loop-at-preserved : goal.loop-at-preserved

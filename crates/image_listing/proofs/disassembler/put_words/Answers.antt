@@ -1,10 +1,12 @@
 use Rattle.refusal.specs.Refusals.{number_of}
 use Rattle.text_writer.proofs.Sinks.{left-fits, left-next}
 use Rattle.instruction.specs.Promised.{instruction_meant}
+use Rattle.image.specs.Listing.{refusal}
 use Rattle.image_listing.proofs.Texts.{puts-all, first-faulty, line-left, puts-next}
 use Rattle.image_listing.proofs.disassembler.put_words.Goals as goal
 
 pub returns-in-Err : goal.returns-in-Err
+unfolding refusal
 returns-in-Err g c =
     let L = g.met.S.Sink.laws in
     first-faulty c.args.code.now c.as_chunks.ensures.front L c.loop-index.invariant

@@ -1,7 +1,9 @@
+use lib.ListN.{drop}
+use Rattle.instruction.specs.Table.{places}
 use Rattle.instruction.specs.Promised.{form_meant}
-use Rattle.instruction_operands.proofs.Line.{Counts}
+use Rattle.instruction.proofs.Forms.{Counting}
 use Rattle.instruction_operands.proofs.assembler.operand_count.Given as goal
 
 -- So many tokens are counted before the operand.
 abbrev pub invariant-loop-operand : goal.invariant-loop-operand
-invariant-loop-operand l = Counts (form_meant l.fn.form) l.operand-items l.operand-index l.count
+invariant-loop-operand l = Counting (places (form_meant l.fn.form)) l.count (drop l.operand-index l.operand-items)

@@ -1,5 +1,5 @@
 -- `text::lexer::ending_at` meets its contract.
-use Rattle.std.proofs.Common.{arith}
+use Rattle.std.proofs.Common.{arith, ap, ◌∙◌, Some}
 use Rattle.text.proofs.Endings.{line-here, comment-here, other-here}
 use Rattle.text.proofs.lexer.ending_at.Goals as goal
 
@@ -10,7 +10,8 @@ pub returns-in-10 : goal.returns-in-10
 returns-in-10 c = line-here c.args.text.now c.args.at c.run_end-stop.result c.requires c.run_end-stop.ensures (λ m. c.in-10.is)
 
 pub returns-in-35 : goal.returns-in-35
-returns-in-35 c = comment-here c.args.text.now c.args.at c.run_end-stop.result c.requires c.run_end-stop.ensures c.in-35.is
+returns-in-35 c =
+    ap Some c.line_end.ensures ∙ comment-here c.args.text.now c.args.at c.run_end-stop.result c.requires c.run_end-stop.ensures c.in-35.is
 
 pub returns-in_default : goal.returns-in_default
 returns-in_default c =

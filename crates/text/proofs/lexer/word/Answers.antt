@@ -1,5 +1,5 @@
 -- `text::lexer::word` meets its contract.
-use Rattle.std.proofs.Common.{arith, sym, ap, ◌∙◌, ◌+◌, ◌-◌}
+use Rattle.std.proofs.Common.{arith, sym, ap, ◌∙◌, ◌+◌}
 use Rattle.text_lexical.specs.Bytes.{name_part}
 use Rattle.text_lexical.specs.Promised.{name_meant}
 use Rattle.text_lexical.specs.declared.name.RegisterName.TheVariants.{Is, NoSuch, Other}

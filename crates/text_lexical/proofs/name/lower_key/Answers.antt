@@ -1,5 +1,5 @@
 -- `text_lexical::name::lower_key` meets its contract.
-use Rattle.std.proofs.Common.{◌≡◌, ◌-◌, ◌∙◌, sym, arith, map, take}
+use Rattle.std.proofs.Common.{◌≡◌, ◌-◌, ◌∙◌, sym, ap, arith, map, take, Some}
 use Rattle.std.proofs.lemmas.List.{length-map}
 use Rattle.std.proofs.Math.Seq.{take_all}
 use Rattle.text_lexical.specs.Bytes.{lower}
@@ -28,4 +28,4 @@ pub returns : goal.returns
 returns c =
     let s = c.args.spelling.now in
     let e : take (c.loop-b.b-index - 0) s ≡ s = take_all (c.loop-b.b-index - 0) s (omega arith) in
-    c.key.ensures ∙ rw e at (spelling-key c.loop-b.invariant)
+    ap Some c.key.ensures ∙ rw e at (spelling-key c.loop-b.invariant)

@@ -7,14 +7,14 @@ use Rattle.image.specs.Meaning.{image_of}
 use Rattle.image_assembler.specs.declared.assembler.Assembled.{Assembled}
 use Rattle.image_assembler.specs.declared.assembler.AssembleError.{AssembleError}
 use Rattle.image_assembler.specs.Promised.{answer_meant}
-use Rattle.std.specs.Prelude.{Ok, Err, Result as Answered}
+use Rattle.std.specs.Prelude.{Ok, Err, Result as Answer}
 use Rattle.zkasm.specs.Zkasm.{most_input, table_room, image_room}
 use Rattle.zkasm.specs.Promised.{AssemblesInput}
 use Rattle.zkasm.proofs.Rooms.{words-few, text-short, never-32}
 use Rattle.zkasm.proofs.Printing.{Listable, listable, output-refused, no-need, image-front}
 use Rattle.zkasm.proofs.report.report_source.Goals as goal
 
-module _ {input old new : List ℕ} {x : Assembled} {r : Answered Assembled AssembleError} (short : length input ≤ most_input) (room : image_room ≤ length old)
+module _ {input old new : List ℕ} {x : Assembled} {r : Answer Assembled AssembleError} (short : length input ≤ most_input) (room : image_room ≤ length old)
     (a : AssemblesInput input old new r) (is : r ≡ Ok x) where
   -- The input is accepted,
   accepted : Listable input x.words (assembling present input table_room (length old))
@@ -65,7 +65,7 @@ returns-in-Ok c =
     rw ((accepted q.input_fits q.image_room_in c.assemble.ensures c.in-Ok.is).output
     ∙ ap text_of (sym (front q.input_fits q.image_room_in c.assemble.ensures c.in-Ok.is))) c.write_listing.ensures
 
-pub returns-in-Err-TooShort : goal.returns-in-Err-TooShort
-returns-in-Err-TooShort c =
+pub unreachable-requires : goal.unreachable-requires
+unreachable-requires c =
     let q = c.requires in
     no-need c.args.input.now (length c.args.image.now) q.input_fits q.image_room_in (sym (ap answer_meant (c.in-Err-TooShort.is ∙ ap Err c.in-Err-TooShort.field-0-is)) ∙ c.assemble.ensures.answer)

@@ -1,9 +1,7 @@
-use Rattle.std.proofs.Common.{◌≡◌, [], arith, refl, sym, ap, ◌∙◌, subst, length}
-use Rattle.std.specs.Io.KnownBytes.{Consumes}
+use Rattle.std.proofs.Common.{◌≡◌, [], arith, refl, sym, ap, ◌∙◌, length}
 use Rattle.std.proofs.KnownBytes.{Consumes-nil}
 use Rattle.image.specs.Lent.{over}
 use Rattle.zkasm.specs.Stdin.{input_room, start}
-use Rattle.zkasm.specs.Promised.{Received}
 use Rattle.zkasm.proofs.Transcripts.{filled-small, still-room, next_fits, next-less, reads-on, whole-by-end}
 use Rattle.zkasm.proofs.Sources.{takes}
 use Rattle.zkasm.specs.declared.stdin.Step.TheVariants.{Done}
@@ -30,27 +28,18 @@ loop-more-preserved g c =
     let p = c.read_piece-delivery in
     let l = c.loop-more.invariant in
     let long : input_room ≡ length p.new.piece = l.0 ∙ sym p.auto.piece in
-    let t = reads-on l.1.0 c.requires p.ensures.piece (sym long) _ _ _ l.1.1 p.ensures.bytes.0 in (
-      long,
-      subst (λ s. (t : Received c.args.input.now p.new.input s) × Consumes (g.R.Read.remaining c.args.reader.now) (g.R.Read.remaining p.new.reader) t.came)
-          (sym c.step_after.ensures ∙ c.in-Again.is) t,
-    )
+    (long, reads-on l.1.0 c.requires p.ensures.piece (sym c.in-Again.is ∙ c.step_after.ensures) (sym long) _ _ _ l.1.1 p.ensures.bytes.0)
 
 pub returns-in-Done-clause-calls : goal.returns-in-Done-clause-calls
 returns-in-Done-clause-calls g c =
     let p = c.read_piece-delivery in
     let l = c.loop-more.invariant in
-    let long : input_room ≡ length p.new.piece = l.0 ∙ sym p.auto.piece in
-    let t = reads-on l.1.0 c.requires p.ensures.piece (sym long) _ _ _ l.1.1 p.ensures.bytes.0 in
-    subst (Received c.args.input.now p.new.input) (sym c.step_after.ensures ∙ c.in-Done.is) t.0
+    (reads-on l.1.0 c.requires p.ensures.piece (sym c.in-Done.is ∙ c.step_after.ensures) (p.auto.piece ∙ sym l.0) _ _ _ l.1.1 p.ensures.bytes.0).0
 
 pub returns-in-Done-clause-source : goal.returns-in-Done-clause-source
 returns-in-Done-clause-source g c =
     let p = c.read_piece-delivery in
     let l = c.loop-more.invariant in
-    let long : input_room ≡ length p.new.piece = l.0 ∙ sym p.auto.piece in
-    let t = reads-on l.1.0 c.requires p.ensures.piece (sym long) _ _ _ l.1.1 p.ensures.bytes.0 in
-    let e = sym c.step_after.ensures ∙ c.in-Done.is in
-    let whole =
-    subst (λ s. (t : Received c.args.input.now p.new.input s) × Consumes (g.R.Read.remaining c.args.reader.now) (g.R.Read.remaining p.new.reader) t.came) e t in
-    takes c.requires _ _ c.in-Done.outcome whole (λ n i. p.ensures.bytes.1 (whole-by-end p.result _ _ (sym (e ∙ ap Done i))))
+    let e = sym c.in-Done.is ∙ c.step_after.ensures in
+    let t = reads-on l.1.0 c.requires p.ensures.piece e (p.auto.piece ∙ sym l.0) _ _ _ l.1.1 p.ensures.bytes.0 in
+    takes c.requires _ _ c.in-Done.outcome t (λ n i. p.ensures.bytes.1 (whole-by-end p.result _ _ (ap Done (sym i) ∙ e)))

@@ -1,6 +1,8 @@
-use Rattle.std.proofs.Common.{◌≡◌, ℕ, ◌-◌, ◌≤◌, arith, sym, ap, List, ◌++◌, length, take, drop, length-append, subst}
+use Rattle.std.proofs.Common.{◌≡◌, ℕ, ◌+◌, ◌-◌, ◌≤◌, arith, sym, ap, List, ◌++◌, length, take, drop, length-append, length-drop, subst}
 use lib.Seq.{length-take-le}
-use Rattle.text_writer.proofs.Writing.{put-none}
+use borrow.Rule.Slice.PartMut.{put_mid}
+use Rattle.text_writer.specs.Promised.{put}
+use Rattle.text_writer.proofs.Writing.{put-none, written-copied}
 use Rattle.zkasm.specs.Stdin.{count_of}
 use Rattle.zkasm.specs.Promised.{Delivers}
 use Rattle.zkasm.specs.declared.stdin.Delivery.{Delivery}
@@ -34,32 +36,59 @@ module _ (filled : ℕ) (input piece : List ℕ) {r : Delivery} (lent : length p
     sized : (n : ℕ) → r ≡ Piece n → length (take n (new ++ drop (length input - filled) piece)) ≡ n
     sized n e = length-take-le _ _ (within n e)
 
-pub slice_bounds-write_bytes-end : goal.slice_bounds-write_bytes-end
-slice_bounds-write_bytes-end g c =
-    let d = c.read_some-delivery in
-    within c.args.filled c.args.input.now c.args.piece.now c.requires.piece_as_long d.ensures.delivery d.new.piece d.auto.piece c.in-Piece.n c.in-Piece.is
+-- What is copied into a part of the buffer is put there.
+copied : (filled : ℕ) (input s : List ℕ) (n : ℕ) (t : List ℕ) → t ≡ s → length s ≡ n → put_mid filled (filled + n - filled) input t ≡ put input filled s
+copied filled input s n t e l = subst (λ k. put_mid filled (filled + k - filled) input t ≡ put input filled s) l (written-copied input filled s t e).holds
 
-pub slice_bounds-write_bytes-end-in-Piece : goal.slice_bounds-write_bytes-end-in-Piece
-slice_bounds-write_bytes-end-in-Piece g c =
-    let d = c.read_some-delivery in
-    sym (sized c.args.filled c.args.input.now c.args.piece.now c.requires.piece_as_long d.ensures.delivery d.new.piece d.auto.piece c.in-Piece.n c.in-Piece.is)
-
-pub write_bytes-requires : goal.write_bytes-requires
-write_bytes-requires g c =
+pub overflow_add-filled : goal.overflow_add-filled
+overflow_add-filled g c =
     let d = c.read_some-delivery in
     let a = c.args in
     let p = c.requires.piece_as_long in
-    omega (
-      arith,
-      c.requires.room_left,
-      few a.filled a.input.now a.piece.now p d.ensures.delivery c.in-Piece.n c.in-Piece.is,
-      sized a.filled a.input.now a.piece.now p d.ensures.delivery d.new.piece d.auto.piece c.in-Piece.n c.in-Piece.is,
-    )
+    omega (arith, c.requires.room_left, few a.filled a.input.now a.piece.now p d.ensures.delivery c.in-Piece.n c.in-Piece.is)
+
+pub slice_bounds-copy_from_slice-end : goal.slice_bounds-copy_from_slice-end
+slice_bounds-copy_from_slice-end g c =
+    let d = c.read_some-delivery in
+    let a = c.args in
+    let p = c.requires.piece_as_long in
+    omega (arith, c.requires.room_left, few a.filled a.input.now a.piece.now p d.ensures.delivery c.in-Piece.n c.in-Piece.is)
+
+pub slice_bounds-copy_from_slice-end-in-Piece : goal.slice_bounds-copy_from_slice-end-in-Piece
+slice_bounds-copy_from_slice-end-in-Piece g c =
+    let d = c.read_some-delivery in
+    let a = c.args in
+    let p = c.requires.piece_as_long in
+    within a.filled a.input.now a.piece.now p d.ensures.delivery d.new.piece d.auto.piece c.in-Piece.n c.in-Piece.is
+
+pub slice_bounds-copy_from_slice-end-in-Piece-2 : goal.slice_bounds-copy_from_slice-end-in-Piece-2
+slice_bounds-copy_from_slice-end-in-Piece-2 g c =
+    let d = c.read_some-delivery in
+    let a = c.args in
+    let p = c.requires.piece_as_long in
+    sym (sized a.filled a.input.now a.piece.now p d.ensures.delivery d.new.piece d.auto.piece c.in-Piece.n c.in-Piece.is)
+
+pub copy_from_slice-requires : goal.copy_from_slice-requires
+copy_from_slice-requires g c =
+    let d = c.read_some-delivery in
+    let a = c.args in
+    let p = c.requires.piece_as_long in
+    let f = few a.filled a.input.now a.piece.now p d.ensures.delivery c.in-Piece.n c.in-Piece.is in
+    let n = sized a.filled a.input.now a.piece.now p d.ensures.delivery d.new.piece d.auto.piece c.in-Piece.n c.in-Piece.is in
+    omega (arith, c.requires.room_left, f, n, length-take-le (a.filled + c.in-Piece.n - a.filled) (drop a.filled a.input.now) (omega (arith, f, length-drop a.filled a.input.now)))
 
 pub returns-in-Piece-clause-piece : goal.returns-in-Piece-clause-piece
 unfolding count_of
 returns-in-Piece-clause-piece g c =
-    record { delivers = rw c.in-Piece.is at (delivers c.args.filled c.args.input.now c.args.piece.now c.requires.piece_as_long c.read_some-delivery.ensures.delivery); holds = c.write_bytes.ensures.holds }
+    let d = c.read_some-delivery in
+    let a = c.args in
+    let p = c.requires.piece_as_long in
+    let n = sized a.filled a.input.now a.piece.now p d.ensures.delivery d.new.piece d.auto.piece c.in-Piece.n c.in-Piece.is in
+    let k = c.copy_from_slice in
+    record {
+      delivers = rw c.in-Piece.is at (delivers a.filled a.input.now a.piece.now p d.ensures.delivery);
+      holds = copied a.filled a.input.now _ c.in-Piece.n k.new.self k.ensures.after n;
+    }
 
 pub returns-in-Piece-clause-bytes : goal.returns-in-Piece-clause-bytes
 returns-in-Piece-clause-bytes g c =

@@ -4,4 +4,4 @@ use Rattle.test_replay.proofs.tally.Tally.put.Goals as goal
 
 pub returns : goal.returns
 unfolding tally_text
-returns c = put-append c.put_filled-next.ensures c.put.ensures
+returns c = put-append c.put_filled.ensures c.put.ensures

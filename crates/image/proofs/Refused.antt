@@ -1,0 +1,200 @@
+-- What a line is refused for: what holds of each number that one can be refused with holds of the number of every line that is refused. The
+-- walks take from it that such a number is a refusal's, and the guarantees that it is one of those that they list.
+use Rattle.std.specs.Prelude.{ℕ, ◌-◌, ◌%◌, Bool, true, false, List, [], ◌∷◌, map, length, drop, eqb, ℤ}
+use Rattle.std.proofs.Math.Option.{Option, none, some}
+use Rattle.text_lexical.specs.Bytes.{Result, value, refused, between, same, lower}
+use Rattle.text_lexical.specs.Numbers.{residue}
+use Rattle.text.specs.Tokens.{Token, identifier, register, number, hex, binary, directive, comma, colon, opening, closing}
+use Rattle.text.specs.Values.{read_number}
+use Rattle.text.specs.Lines.{Line}
+use Rattle.instruction.specs.Table.{Place, reg, num, mark, Separator, a-comma, an-opening, a-closing, places, Row, row_named}
+use Rattle.instruction.specs.Operands.{Operands, Instruction, read_identifier, read_register, read_place, read_operands, mark_byte, separator_byte, separator_refusal, with_register, with_number, made, read_row, read_mnemonic, read_instruction, behind}
+use Rattle.instruction.specs.Kinds.{Kind, empty, labelled, config, ignored, plain, kind_of}
+use Rattle.image.specs.Settings.{Settings, settings_fault, set_field, checked, configured_by, configured_with, configured, limb_bits_key, data_limbs_key, addr_limbs_key}
+use Rattle.image.specs.Assembling.{Context, Effect, nothing, sets, codes, faulty, setting, coding, after_label, read_kind, read_on}
+
+-- ---- an answer by cases: what holds of each holds of it
+
+module _ {B : Type 0} (P : B → Type 0) where
+  pub by-test : {x y : B} (b : Bool) → P x → P y → P (elim b [ true ↦ x | false ↦ y ])
+  by-test true h k = h
+  by-test false h k = k
+
+  pub by-option : {A : Type 0} {x : B} {f : A → B} (o : Option A) → P x → ((a : A) → P (f a)) → P (elim o [ none ↦ x | some a ↦ f a ])
+  by-option none h k = h
+  by-option (some a) h k = k a
+
+  by-list : {A : Type 0} {x : B} {f : A → List A → B} (l : List A) → P x → ((a : A) (rest : List A) → P (f a rest)) → P (elim l [ [] ↦ x | a ∷ rest ↦ f a rest ])
+  by-list [] h k = h
+  by-list (a ∷ rest) h k = k a rest
+
+-- A refusal has a number of which something holds.
+abbrev pub OfResult : {A : Type 0} → (ℕ → Type 0) → Result A → Type 0
+OfResult P (value a) = Unit {0}
+OfResult P (refused n) = P n
+
+pub by_result : {A B : Type 0} (P : ℕ → Type 0) (Q : B → Type 0) {f : A → B} {g : ℕ → B} (x : Result A) → OfResult P x
+    → ((a : A) → Q (f a)) → ((n : ℕ) → P n → Q (g n)) → Q (elim x [ value a ↦ f a | refused n ↦ g n ])
+by_result P Q (value a) h k l = k a
+by_result P Q (refused n) h k l = l n h
+
+-- There may be a fault, of which something holds.
+abbrev pub OfFault : {A : Type 0} → (A → Type 0) → Option A → Type 0
+OfFault Q none = Unit {0}
+OfFault Q (some a) = Q a
+
+pub by-fault : {A B : Type 0} {Q : A → Type 0} (P : B → Type 0) {x : B} {f : A → B} (o : Option A) → OfFault Q o
+    → P x → ((a : A) → Q a → P (f a)) → P (elim o [ none ↦ x | some a ↦ f a ])
+by-fault P none q h k = h
+by-fault P (some a) q h k = k a q
+
+-- What a line does: if it is refused, something holds of the number.
+abbrev pub OfEffect : (ℕ → Type 0) → Effect → Type 0
+OfEffect P nothing = Unit {0}
+OfEffect P (sets s) = Unit {0}
+OfEffect P (codes i) = Unit {0}
+OfEffect P (faulty n) = P n
+
+-- ---- settings
+
+-- What holds of the numbers of the four checks holds of the one that fails.
+pub of-settings : (P : ℕ → Type 0) → P 10 → P 11 → P 12 → P 13 → (s : Settings) → OfFault P (settings_fault s)
+unfolding settings_fault
+of-settings P ten eleven twelve thirteen s =
+    let F = OfFault P in
+    by-test F (between 16 30 s.limb_bits)
+    (by-test F (eqb (s.limb_bits % 2) 0) (by-test F (between 1 4 s.data_limbs) (by-test F (between 1 2 s.addr_limbs) tt thirteen) twelve) eleven) ten
+
+-- ---- a line
+
+-- What holds of each number that a line can be refused with holds of the number of every line that is refused.
+module _ (P : ℕ → Type 0) (bad-token : P 3) (config-tokens : P 6) (key-expected : P 7) (number-expected : P 8) (unknown-key : P 9)
+    (limb-bits-range : P 10) (limb-bits-odd : P 11) (data-limbs-range : P 12) (addr-limbs-range : P 13) (mnemonic-expected : P 14)
+    (unknown-mnemonic : P 15) (operand-count : P 16) (register-expected : P 17) (no-register : P 18) (comma-expected : P 19)
+    (opening-expected : P 20) (closing-expected : P 21) where
+  abbrev Of : {A : Type 0} → Result A → Type 0
+  Of = OfResult P
+
+  -- an operand
+  of-number : (t : Token) → Of (read_number t)
+  unfolding read_number
+  of-number (number z) = tt
+  of-number (hex n) = tt
+  of-number (binary n) = tt
+  of-number (identifier s) = number-expected
+  of-number (register r) = number-expected
+  of-number (directive s) = number-expected
+  of-number comma = number-expected
+  of-number colon = number-expected
+  of-number opening = number-expected
+  of-number closing = number-expected
+
+  of-register : (t : Token) → Of (read_register t)
+  unfolding read_register
+  of-register (register (some n)) = tt
+  of-register (register none) = no-register
+  of-register (number z) = register-expected
+  of-register (hex n) = register-expected
+  of-register (binary n) = register-expected
+  of-register (identifier s) = register-expected
+  of-register (directive s) = register-expected
+  of-register comma = register-expected
+  of-register colon = register-expected
+  of-register opening = register-expected
+  of-register closing = register-expected
+
+  of-mark : (m : Separator) → P (separator_refusal m)
+  of-mark a-comma = comma-expected
+  of-mark an-opening = opening-expected
+  of-mark a-closing = closing-expected
+
+  with-register : (n : ℕ) (rest : Result Operands) → Of rest → Of (with_register n rest)
+  unfolding with_register
+  with-register n (value o) k = tt
+  with-register n (refused m) k = k
+
+  with-number : (z : ℤ) (rest : Result Operands) → Of rest → Of (with_number z rest)
+  unfolding with_number
+  with-number z (value o) k = tt
+  with-number z (refused m) k = k
+
+  of-place : (p : Place) (t : Token) (rest : Result Operands) → Of rest → Of (read_place p t rest)
+  unfolding read_place
+  of-place (reg bit) t rest k = by_result P Of (read_register t) (of-register t) (λ n. with-register n rest k) (λ n l. l)
+  of-place (num bit width signed) t rest k = by_result P Of (read_number t) (of-number t) (λ z. with-number z rest k) (λ n l. l)
+  of-place (mark m) t rest k = by-test Of (eqb (mark_byte t) (separator_byte m)) k (of-mark m)
+
+  of-operands : (ps : List Place) (ts : List Token) → Of (read_operands ps ts)
+  unfolding read_operands
+  of-operands [] ts = tt
+  of-operands (p ∷ ps) [] = operand-count
+  of-operands (p ∷ ps) (t ∷ ts) = of-place p t (read_operands ps ts) (of-operands ps ts)
+
+  -- an instruction
+  of-made : (r : Row) (o : Result Operands) → Of o → Of (made r o)
+  unfolding made
+  of-made r (value o) k = tt
+  of-made r (refused n) k = k
+
+  of-row : (r : Row) (count : ℕ) (ts : List Token) → Of (read_row r count ts)
+  unfolding read_row
+  of-row r count ts = let ps = places r.form in by-test Of (eqb count (length ps)) (of-made r (read_operands ps ts) (of-operands ps ts)) operand-count
+
+  of-mnemonic : (t : Token) (count : ℕ) (ts : List Token) → Of (read_mnemonic t count ts)
+  unfolding read_mnemonic
+  of-mnemonic t count ts =
+      by-option Of (read_identifier t) mnemonic-expected (λ s. by-option Of (row_named (map lower s)) unknown-mnemonic (λ r. of-row r count ts))
+
+  of-instruction : (l : Line) → Of (read_instruction l)
+  unfolding read_instruction
+  of-instruction l = by-list Of l.first mnemonic-expected (λ t us. of-mnemonic t (l.count - 1) us)
+
+  -- the `.config` line
+  of-checked : (x : Result Settings) → Of x → Of (checked x)
+  unfolding checked
+  of-checked (refused n) k = k
+  of-checked (value s) k = by-fault Of (settings_fault s) (of-settings P limb-bits-range limb-bits-odd data-limbs-range addr-limbs-range s) tt (λ n l. l)
+
+  of-set : (s : Settings) (key : List ℕ) (v : ℕ) → Of (set_field s key v)
+  unfolding set_field
+  of-set s key v = by-test Of (same key limb_bits_key) tt (by-test Of (same key data_limbs_key) tt (by-test Of (same key addr_limbs_key) tt unknown-key))
+
+  of-setting-tokens : (s : Settings) (ts : List Token) → Of (configured_with s ts)
+  unfolding configured_with configured_by
+  of-setting-tokens s [] = config-tokens
+  of-setting-tokens s (key ∷ []) = config-tokens
+  of-setting-tokens s (key ∷ v ∷ ts) =
+      by-option Of (read_identifier key) key-expected (λ k.
+      by_result P Of (read_number v) (of-number v) (λ z. of-checked (set_field s k (residue 8 z)) (of-set s k (residue 8 z))) (λ n l. l))
+
+  of-configured : (s : Settings) (l : Line) → Of (configured s l)
+  unfolding configured
+  of-configured s l = by-test Of (eqb l.count 3) (of-setting-tokens s (drop 1 l.first)) config-tokens
+
+  -- what it does
+  of-coding : (x : Result Instruction) → Of x → OfEffect P (coding x)
+  unfolding coding
+  of-coding (refused n) k = k
+  of-coding (value i) k = tt
+
+  of-setting : (x : Result Settings) → Of x → OfEffect P (setting x)
+  unfolding setting
+  of-setting (refused n) k = k
+  of-setting (value s) k = tt
+
+  of-after : (l : Line) → OfEffect P (after_label l)
+  unfolding after_label
+  of-after l = by-list (OfEffect P) l.first tt (λ t us. of-coding (read_instruction l) (of-instruction l))
+
+  of-kind : (c : Context) (l : Line) (k : Kind) → OfEffect P (read_kind c l k).effect
+  unfolding read_kind
+  of-kind c l empty = tt
+  of-kind c l (labelled s) = of-after (behind 2 l)
+  of-kind c l config = of-setting (configured c.setup l) (of-configured c.setup l)
+  of-kind c l ignored = tt
+  of-kind c l plain = of-coding (read_instruction l) (of-instruction l)
+
+  pub of-line : (c : Context) (o : Option Line) → OfEffect P (read_on c o).effect
+  unfolding read_on
+  of-line c none = bad-token
+  of-line c (some l) = of-kind c l (kind_of l.first)

@@ -1,0 +1,68 @@
+// The bytes of a line as operands are read from them: a register, a number or a mark, past blanks. Anything else is left to the record of the
+// line's tokens.
+ghost use Rattle.std.specs.Prelude.{◌≤◌, length};
+
+use instruction::form::Mark;
+use instruction_operands::source::OperandSource;
+use text::lexer::Scan;
+use text_lexical::bytes::Blank;
+use text_lexical::number::Whole;
+use text_lexical::register::Register;
+
+// The bytes of a line from a place on.
+#[derive(Drop)]
+pub(crate) struct Bytes<'a> {
+    pub(crate) text: &'a [u8],
+    pub(crate) at: usize,
+    ghost in_text: { at ≤ length text.now },
+}
+
+// Something else stands at a place, which is left to the record.
+#[derive(Drop)]
+pub(crate) struct Other;
+
+impl OperandSource for Bytes<'_> {
+    ghost use Rattle.std.specs.Prelude.{⊤};
+    ghost use Rattle.text_lexical.specs.Names.{present};
+    ghost use Rattle.image_line.specs.Promised.{BytesTook};
+    ghost use Rattle.image_line.specs.Laws.{bytes_laws};
+
+    type Error = Other;
+
+    ghost Took = { BytesTook present };
+
+    ghost Refuses = { λ s ps e. ⊤ };
+
+    fn register(&mut self) -> Result<Register, Other> {
+        let at = text_lexical::bytes::run_end::<Blank>(self.text, self.at);
+        let word = text_lexical::name::register_word(self.text, at).ok_or(Other)?;
+        self.at = word.end;
+        Ok(word.register)
+    }
+
+    fn number(&mut self) -> Result<Whole, Other> {
+        let at = text_lexical::bytes::run_end::<Blank>(self.text, self.at);
+        if self.text.len() <= at || !text::lexer::is_number_start(self.text[at]) {
+            return Err(Other);
+        }
+        let Scan::Found { token, next } = text::lexer::number(self.text, at) else {
+            return Err(Other);
+        };
+        let Ok(number) = text::parser::extract_number(token.kind) else {
+            return Err(Other);
+        };
+        self.at = next;
+        Ok(number)
+    }
+
+    fn mark(&mut self, mark: Mark) -> Result<(), Other> {
+        let at = text_lexical::bytes::run_end::<Blank>(self.text, self.at);
+        if self.text.len() <= at || self.text[at] != mark.byte {
+            return Err(Other);
+        }
+        self.at = at + 1;
+        Ok(())
+    }
+
+    ghost laws = { bytes_laws present };
+}
