@@ -27,7 +27,7 @@ assemble_values (assembled words labels s) = words ∷ labels ∷ s.limb_bits �
 assemble_values (refusal number rust_line true_line labels needed) = 0 ∷ labels ∷ 0 ∷ 0 ∷ 0 ∷ rust_line ∷ true_line ∷ or_zero needed ∷ []
 
 -- An answer of assembling, handed on.
-pub record Handed (a : Answer) (answer' : List ℕ) (r : ℕ) : Type 0 where
+pub record AnswerGiven (a : Answer) (answer' : List ℕ) (r : ℕ) : Type 0 where
   pub number : r ≡ assemble_number a
   pub answer : answer' ≡ assemble_values a
 

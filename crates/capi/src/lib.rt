@@ -7,7 +7,7 @@ ghost use Rattle.std.specs.Prelude.{◌≡◌};
 ghost use Rattle.image_assembler.specs.Promised.{answer_meant};
 ghost use Rattle.refusal.specs.Refusals.{number_of};
 ghost use Rattle.text_lexical.specs.Names.{present};
-ghost use Rattle.capi.specs.Promised.{Handed, AssembleCall, OpenCall, ListCall};
+ghost use Rattle.capi.specs.Promised.{AnswerGiven, AssembleCall, OpenCall, ListCall};
 
 use image::program::Opened;
 use image_assembler::assembler::{AssembleError, Assembled};
@@ -25,7 +25,7 @@ fn number(refusal: Refusal) -> u32
 // An answer of assembling, handed on in the order that C has. The tests write the order out for themselves, since this one is under test.
 #[tactic(auto, unfolding(image::specs::Settings::settings))]
 fn write_assembled(assembled: Result<Assembled, AssembleError>, answer: &mut [u64; 8]) -> u32
-    ensures { Handed (answer_meant assembled) answer.new result }
+    ensures { AnswerGiven (answer_meant assembled) answer.new result }
 {
     match assembled {
         Ok(

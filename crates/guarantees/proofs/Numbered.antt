@@ -6,7 +6,7 @@ use mathlib.Core.Option.{Option, none, some}
 use mathlib.Core.List.{List, [], ◌∷◌, ◌++◌}
 use lib.ListN.{length}
 use lib.Dec.{leb, ltb, eqb}
-use Rattle.text_lexical.specs.Bytes.{ascii, every}
+use Rattle.text_lexical.specs.Bytes.{ascii, every, each}
 use Rattle.text_lexical.specs.Names.{Name}
 use Rattle.text.specs.Lines.{Line, lines, indent, read_line}
 use Rattle.instruction.specs.Table.{places, row_coded}
@@ -40,7 +40,8 @@ abbrev OfLine : Effect → Type 0
 OfLine = OfEffect (OneOf reading_numbers)
 
 line-numbered : (c : Context) (o : Option Line) → OfLine (read_on c o).effect
-line-numbered = of-line (OneOf reading_numbers) refl refl refl refl refl refl refl refl refl refl refl refl refl refl refl refl refl
+unfolding each
+line-numbered = of-line (is_one_of reading_numbers) refl
 
 of_word : (st : State) (i : Instruction) → OfStep (with_instruction st i)
 unfolding with_instruction

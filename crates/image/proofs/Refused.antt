@@ -1,9 +1,14 @@
--- What a line is refused for: what holds of each number that one can be refused with holds of the number of every line that is refused. The
+-- What a line is refused for: a test that each number of one list passes is passed by the number of every line that is refused. The
 -- walks take from it that such a number is a refusal's, and the guarantees that it is one of those that they list.
+use mathlib.Core.Path.{◌≡◌, refl, sym, subst}
+use mathlib.Core.Bool.{true≢false}
+use borrow.Author.Tests.{eqb-true}
 use Rattle.std.specs.Prelude.{ℕ, ◌-◌, ◌%◌, Bool, true, false, List, [], ◌∷◌, map, length, drop, eqb, ℤ}
 use Rattle.std.proofs.Math.Option.{Option, none, some}
-use Rattle.text_lexical.specs.Bytes.{Result, value, refused, between, same, lower}
+use Rattle.text_lexical.specs.Bytes.{Result, value, refused, between, same, lower, each}
 use Rattle.text_lexical.specs.Numbers.{residue}
+use Rattle.text_lexical.proofs.Tests.{both}
+use Rattle.text_lexical.proofs.Tests.{by-test as cases}
 use Rattle.text.specs.Tokens.{Token, identifier, register, number, hex, binary, directive, comma, colon, opening, closing}
 use Rattle.text.specs.Values.{read_number}
 use Rattle.text.specs.Lines.{Line}
@@ -67,11 +72,29 @@ of-settings P ten eleven twelve thirteen s =
 
 -- ---- a line
 
--- What holds of each number that a line can be refused with holds of the number of every line that is refused.
-module _ (P : ℕ → Type 0) (bad-token : P 3) (config-tokens : P 6) (key-expected : P 7) (number-expected : P 8) (unknown-key : P 9)
-    (limb-bits-range : P 10) (limb-bits-odd : P 11) (data-limbs-range : P 12) (addr-limbs-range : P 13) (mnemonic-expected : P 14)
-    (unknown-mnemonic : P 15) (operand-count : P 16) (register-expected : P 17) (no-register : P 18) (comma-expected : P 19)
-    (opening-expected : P 20) (closing-expected : P 21) where
+-- The numbers that a line can be refused with, its label aside: 3 and 6 to 21.
+abbrev pub line_numbers : List ℕ
+line_numbers = 3 ∷ 6 ∷ 7 ∷ 8 ∷ 9 ∷ 10 ∷ 11 ∷ 12 ∷ 13 ∷ 14 ∷ 15 ∷ 16 ∷ 17 ∷ 18 ∷ 19 ∷ 20 ∷ 21 ∷ []
+
+abbrev is_in : List ℕ → ℕ → Bool
+is_in [] n = false
+is_in (m ∷ ms) n = elim (eqb m n) [ true ↦ true | false ↦ is_in ms n ]
+
+of-each : (q : ℕ → Bool) (ms : List ℕ) → each q ms ≡ true → (n : ℕ) → is_in ms n ≡ true → q n ≡ true
+unfolding each
+of-each q [] h n i = absurd (true≢false (sym i))
+of-each q (m ∷ ms) h n i =
+    let (now, later) = both (q m) (each q ms) h in
+    cases (eqb m n) (λ e. subst (λ x. q x ≡ true) (eqb-true m n e) now) (λ e. of-each q ms later n (rw (is_in, e) at i))
+
+-- What each of these numbers passes, the number of every line that is refused passes.
+module _ (q : ℕ → Bool) (ok : each q line_numbers ≡ true) where
+  abbrev P : ℕ → Type 0
+  P n = q n ≡ true
+
+  listed : (n : ℕ) → is_in line_numbers n ≡ true → P n
+  listed n i = of-each q line_numbers ok n i
+
   abbrev Of : {A : Type 0} → Result A → Type 0
   Of = OfResult P
 
@@ -81,32 +104,32 @@ module _ (P : ℕ → Type 0) (bad-token : P 3) (config-tokens : P 6) (key-expec
   of-number (number z) = tt
   of-number (hex n) = tt
   of-number (binary n) = tt
-  of-number (identifier s) = number-expected
-  of-number (register r) = number-expected
-  of-number (directive s) = number-expected
-  of-number comma = number-expected
-  of-number colon = number-expected
-  of-number opening = number-expected
-  of-number closing = number-expected
+  of-number (identifier s) = listed 8 refl
+  of-number (register r) = listed 8 refl
+  of-number (directive s) = listed 8 refl
+  of-number comma = listed 8 refl
+  of-number colon = listed 8 refl
+  of-number opening = listed 8 refl
+  of-number closing = listed 8 refl
 
   of-register : (t : Token) → Of (read_register t)
   unfolding read_register
   of-register (register (some n)) = tt
-  of-register (register none) = no-register
-  of-register (number z) = register-expected
-  of-register (hex n) = register-expected
-  of-register (binary n) = register-expected
-  of-register (identifier s) = register-expected
-  of-register (directive s) = register-expected
-  of-register comma = register-expected
-  of-register colon = register-expected
-  of-register opening = register-expected
-  of-register closing = register-expected
+  of-register (register none) = listed 18 refl
+  of-register (number z) = listed 17 refl
+  of-register (hex n) = listed 17 refl
+  of-register (binary n) = listed 17 refl
+  of-register (identifier s) = listed 17 refl
+  of-register (directive s) = listed 17 refl
+  of-register comma = listed 17 refl
+  of-register colon = listed 17 refl
+  of-register opening = listed 17 refl
+  of-register closing = listed 17 refl
 
   of-mark : (m : Separator) → P (separator_refusal m)
-  of-mark a-comma = comma-expected
-  of-mark an-opening = opening-expected
-  of-mark a-closing = closing-expected
+  of-mark a-comma = listed 19 refl
+  of-mark an-opening = listed 20 refl
+  of-mark a-closing = listed 21 refl
 
   with-register : (n : ℕ) (rest : Result Operands) → Of rest → Of (with_register n rest)
   unfolding with_register
@@ -127,7 +150,7 @@ module _ (P : ℕ → Type 0) (bad-token : P 3) (config-tokens : P 6) (key-expec
   of-operands : (ps : List Place) (ts : List Token) → Of (read_operands ps ts)
   unfolding read_operands
   of-operands [] ts = tt
-  of-operands (p ∷ ps) [] = operand-count
+  of-operands (p ∷ ps) [] = listed 16 refl
   of-operands (p ∷ ps) (t ∷ ts) = of-place p t (read_operands ps ts) (of-operands ps ts)
 
   -- an instruction
@@ -138,38 +161,38 @@ module _ (P : ℕ → Type 0) (bad-token : P 3) (config-tokens : P 6) (key-expec
 
   of-row : (r : Row) (count : ℕ) (ts : List Token) → Of (read_row r count ts)
   unfolding read_row
-  of-row r count ts = let ps = places r.form in by-test Of (eqb count (length ps)) (of-made r (read_operands ps ts) (of-operands ps ts)) operand-count
+  of-row r count ts = let ps = places r.form in by-test Of (eqb count (length ps)) (of-made r (read_operands ps ts) (of-operands ps ts)) (listed 16 refl)
 
   of-mnemonic : (t : Token) (count : ℕ) (ts : List Token) → Of (read_mnemonic t count ts)
   unfolding read_mnemonic
   of-mnemonic t count ts =
-      by-option Of (read_identifier t) mnemonic-expected (λ s. by-option Of (row_named (map lower s)) unknown-mnemonic (λ r. of-row r count ts))
+      by-option Of (read_identifier t) (listed 14 refl) (λ s. by-option Of (row_named (map lower s)) (listed 15 refl) (λ r. of-row r count ts))
 
   of-instruction : (l : Line) → Of (read_instruction l)
   unfolding read_instruction
-  of-instruction l = by-list Of l.first mnemonic-expected (λ t us. of-mnemonic t (l.count - 1) us)
+  of-instruction l = by-list Of l.first (listed 14 refl) (λ t us. of-mnemonic t (l.count - 1) us)
 
   -- the `.config` line
   of-checked : (x : Result Settings) → Of x → Of (checked x)
   unfolding checked
   of-checked (refused n) k = k
-  of-checked (value s) k = by-fault Of (settings_fault s) (of-settings P limb-bits-range limb-bits-odd data-limbs-range addr-limbs-range s) tt (λ n l. l)
+  of-checked (value s) k = by-fault Of (settings_fault s) (of-settings P (listed 10 refl) (listed 11 refl) (listed 12 refl) (listed 13 refl) s) tt (λ n l. l)
 
   of-set : (s : Settings) (key : List ℕ) (v : ℕ) → Of (set_field s key v)
   unfolding set_field
-  of-set s key v = by-test Of (same key limb_bits_key) tt (by-test Of (same key data_limbs_key) tt (by-test Of (same key addr_limbs_key) tt unknown-key))
+  of-set s key v = by-test Of (same key limb_bits_key) tt (by-test Of (same key data_limbs_key) tt (by-test Of (same key addr_limbs_key) tt (listed 9 refl)))
 
   of-setting-tokens : (s : Settings) (ts : List Token) → Of (configured_with s ts)
   unfolding configured_with configured_by
-  of-setting-tokens s [] = config-tokens
-  of-setting-tokens s (key ∷ []) = config-tokens
+  of-setting-tokens s [] = listed 6 refl
+  of-setting-tokens s (key ∷ []) = listed 6 refl
   of-setting-tokens s (key ∷ v ∷ ts) =
-      by-option Of (read_identifier key) key-expected (λ k.
+      by-option Of (read_identifier key) (listed 7 refl) (λ k.
       by_result P Of (read_number v) (of-number v) (λ z. of-checked (set_field s k (residue 8 z)) (of-set s k (residue 8 z))) (λ n l. l))
 
   of-configured : (s : Settings) (l : Line) → Of (configured s l)
   unfolding configured
-  of-configured s l = by-test Of (eqb l.count 3) (of-setting-tokens s (drop 1 l.first)) config-tokens
+  of-configured s l = by-test Of (eqb l.count 3) (of-setting-tokens s (drop 1 l.first)) (listed 6 refl)
 
   -- what it does
   of-coding : (x : Result Instruction) → Of x → OfEffect P (coding x)
@@ -196,5 +219,5 @@ module _ (P : ℕ → Type 0) (bad-token : P 3) (config-tokens : P 6) (key-expec
 
   pub of-line : (c : Context) (o : Option Line) → OfEffect P (read_on c o).effect
   unfolding read_on
-  of-line c none = bad-token
+  of-line c none = listed 3 refl
   of-line c (some l) = of-kind c l (kind_of l.first)

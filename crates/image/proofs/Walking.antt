@@ -69,27 +69,27 @@ adds-step room st at r = go r.label
 -- ---- all lines
 
 -- A walk that finishes adds these instructions and leaves these settings.
-abbrev pub Comes : List Instruction → List Instruction → Settings → Walk → Type 0
-Comes before is s (finished st) = (st.instructions ≡ before ++ is) × (st.setup ≡ s) × (length before ≤ 32768 → length st.instructions ≤ 32768)
-Comes before is s (stopped n line st) = Unit {0}
+abbrev pub Leads : List Instruction → List Instruction → Settings → Walk → Type 0
+Leads before is s (finished st) = (st.instructions ≡ before ++ is) × (st.setup ≡ s) × (length before ≤ 32768 → length st.instructions ≤ 32768)
+Leads before is s (stopped n line st) = Unit {0}
 
-comes-after : (before is js : List Instruction) (s s' : Settings) (st : State) (w : Walk)
-    → Adds before is s (next st) → Comes st.instructions js s' w → Comes before (is ++ js) s' w
-comes-after before is js s s' st (stopped n line x) a c = tt
-comes-after before is js s s' st (finished x) a c =
+leads-after : (before is js : List Instruction) (s s' : Settings) (st : State) (w : Walk)
+    → Adds before is s (next st) → Leads st.instructions js s' w → Leads before (is ++ js) s' w
+leads-after before is js s s' st (stopped n line x) a c = tt
+leads-after before is js s s' st (finished x) a c =
     (c.0 ∙ ap (λ (k : List Instruction). k ++ js) a.0 ∙ append_assoc before is js, c.1, λ h. c.2 (a.2 h))
 
 -- A walk over lines that are read in a context.
-abbrev ComesOf : List Name → List Instruction → Settings → List (List ℕ) → Walk → Type 0
-ComesOf names before s ls w = Comes before (coded_in (reads_from names (record { setup = s }) ls)) (settings_in s (reads_from names (record { setup = s }) ls)) w
+abbrev LinesLead : List Name → List Instruction → Settings → List (List ℕ) → Walk → Type 0
+LinesLead names before s ls w = Leads before (coded_in (reads_from names (record { setup = s }) ls)) (settings_in s (reads_from names (record { setup = s }) ls)) w
 
-pub walk-comes : (names : List Name) (room line at : ℕ) (st : State) (ls : List (List ℕ))
-    → ComesOf names st.instructions st.setup ls (walk names room line at st ls)
+pub walk-leads : (names : List Name) (room line at : ℕ) (st : State) (ls : List (List ℕ))
+    → LinesLead names st.instructions st.setup ls (walk names room line at st ls)
 unfolding walk reads_from coded_in settings_in flat_map context_of context_after
-walk-comes names room line at st [] = (sym (append-nil st.instructions), refl, λ h. h)
-walk-comes names room line at st (l ∷ ls) =
+walk-leads names room line at st [] = (sym (append-nil st.instructions), refl, λ h. h)
+walk-leads names room line at st (l ∷ ls) =
     go (step room st (at + indent l) (read_on (context_of st) (read_line names l))) (adds-step room st (at + indent l) (read_on (context_of st) (read_line names l)))
-    (λ st'. walk-comes names room (suc line) (at + suc (length l)) st' ls)
+    (λ st'. walk-leads names room (suc line) (at + suc (length l)) st' ls)
   where
     read : Read
     read = read_on (record { setup = st.setup }) (read_line names l)
@@ -98,13 +98,13 @@ walk-comes names room line at st (l ∷ ls) =
     after = changed_by st.setup read.effect
 
     go : (r : Step) → Adds st.instructions (coded_by read.effect) after r
-        → ((st' : State) → ComesOf names st'.instructions st'.setup ls (walk names room (suc line) (at + suc (length l)) st' ls))
-        → Comes st.instructions (coded_by read.effect ++ coded_in (reads_from names (record { setup = after }) ls)) (settings_in after (reads_from names (record { setup = after }) ls))
+        → ((st' : State) → LinesLead names st'.instructions st'.setup ls (walk names room (suc line) (at + suc (length l)) st' ls))
+        → Leads st.instructions (coded_by read.effect ++ coded_in (reads_from names (record { setup = after }) ls)) (settings_in after (reads_from names (record { setup = after }) ls))
         (elim r [ next st' ↦ walk names room (suc line) (at + suc (length l)) st' ls | stop n st' ↦ stopped n line st' ])
     go (stop n st') a f = tt
     go (next st') a f =
-        comes-after st.instructions _ _ _ _ st' (walk names room (suc line) (at + suc (length l)) st' ls) a
-        (subst (λ (s : Settings). ComesOf names st'.instructions s ls (walk names room (suc line) (at + suc (length l)) st' ls)) a.1 (f st'))
+        leads-after st.instructions _ _ _ _ st' (walk names room (suc line) (at + suc (length l)) st' ls) a
+        (subst (λ (s : Settings). LinesLead names st'.instructions s ls (walk names room (suc line) (at + suc (length l)) st' ls)) a.1 (f st'))
 
 -- ---- an accepted source
 
@@ -117,7 +117,7 @@ abbrev pub MeansIf : List Name → List ℕ → Assembled → Type 0
 MeansIf names source (accepted st) = Means names source st
 MeansIf names source (rejected r) = Unit {0}
 
-means-read : (names : List Name) (source : List ℕ) (w : Walk) → Comes [] (instructions_of names source) (settings_of names source) w → MeansIf names source (read_to w)
+means-read : (names : List Name) (source : List ℕ) (w : Walk) → Leads [] (instructions_of names source) (settings_of names source) w → MeansIf names source (read_to w)
 unfolding read_to refusing start
 means-read names source (stopped n line st) c = tt
 means-read names source (finished st) c = record { instructions = c.0; setup = c.1; few = c.2 (omega arith) }
@@ -135,7 +135,7 @@ reading-means names source room = go (leb (length source) most_bytes) (every asc
     ])
     go false u = tt
     go true false = tt
-    go true true = means-read names source (walk names room 1 0 start (lines source)) (walk-comes names room 1 0 start (lines source))
+    go true true = means-read names source (walk names room 1 0 start (lines source)) (walk-leads names room 1 0 start (lines source))
 
 -- An accepted source: what the walk came to, and that the image buffer has room.
 pub record Assembles (names : List Name) (source : List ℕ) (room size : ℕ) : Type 0 where

@@ -4,7 +4,7 @@ ghost use Rattle.text_lexical.specs.Bytes.{value as good};
 ghost use Rattle.refusal.specs.Refusals.{answered, fault_of};
 ghost use Rattle.image.specs.Settings.{begin as initial, settings_fault, checked, set_field, configured};
 ghost use Rattle.image.specs.Promised.{settings_meant, record_meant};
-ghost use Rattle.instruction_operands.specs.Promised.{Kept};
+ghost use Rattle.text.specs.Promised.{Kept};
 
 use refusal::refusal::Refusal;
 use text::lexer::Kind;

@@ -7,8 +7,11 @@ pub const MOST_BYTES: usize = 1048576;
 // One more instruction is refused (22), and so is an image with more words (29).
 pub const MOST_WORDS: usize = 32768;
 
+// The bytes of a word.
+pub const WORD_SIZE: usize = 4;
+
 // The bytes that so many words take.
-pub const MOST_CODE: u32 = 4 * MOST_WORDS as u32;
+pub const MOST_CODE: u32 = (WORD_SIZE * MOST_WORDS) as u32;
 
 // The bytes of a header, where an image's code begins.
 pub const HEADER_SIZE: usize = 32;

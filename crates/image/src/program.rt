@@ -1,15 +1,15 @@
 // The header of an image: written, read and checked.
 ghost use Rattle.std.specs.Prelude.{◌≡◌, ◌+◌, ◌≤◌, length};
 ghost use Rattle.refusal.specs.Refusals.{answered, fault_of};
-ghost use Rattle.text_writer.specs.Promised.{Written};
-ghost use Rattle.image.specs.Program.{header_bytes, header_for, number_at, header_of};
+ghost use Rattle.image.specs.Assembling.{most_words};
+ghost use Rattle.image.specs.Program.{header_bytes, header_for, image_length, number_at, header_of};
 ghost use Rattle.image.specs.Opening.{header_fault, opening};
 ghost use Rattle.image.specs.Promised.{settings_meant, header_meant, opened_meant};
 
 use crate::config::Config;
-use crate::limits::{HEADER_SIZE, MAGIC, VERSION};
+use crate::limits::{HEADER_SIZE, MAGIC, VERSION, WORD_SIZE};
 use refusal::refusal::Refusal;
-use text_writer::sink::{Sink, Writer};
+use text_writer::sink::Sink;
 
 #[derive(Clone, Copy)]
 pub struct ProgramHeader {
@@ -32,23 +32,30 @@ pub struct Opened {
     pub code_end: usize,
 }
 
-// The header of a program with settings and a size of code. Entry and stack size are fixed byte strings, as document 01 names that form,
-// and so do not come out of the constants; the contract's `header_for` has the same numbers as those.
-pub fn write_header(image: &mut [u8], config: Config, code_size: u32) -> usize
-    requires { 32 ≤ length image.old }
-    ensures { Written image.old 0 (header_bytes (header_for (settings_meant config) code_size 0)) result image.new }
+// The bytes of an image of so many words, of which there are no more than there may be.
+#[tactic(auto, unfolding(crate::specs::Assembling::most_words, crate::specs::Program::image_length, crate::specs::Program::header_size))]
+pub fn image_length(words: usize) -> usize
+    requires { words ≤ most_words }
+    ensures { result ≡ image_length words }
 {
-    let mut writer = Writer { out: image, at: 0 };
+    HEADER_SIZE + WORD_SIZE * words
+}
+
+// Puts the header of a program with settings and a size of code. Entry and stack size are fixed byte strings, as document 01 names that
+// form, and so do not come out of the constants; the contract's `header_for` has the same numbers as those.
+pub fn put_header<S: Sink>(sink: &mut S, config: Config, code_size: u32)
+    requires { S.Fits sink.old (header_bytes (header_for (settings_meant config) code_size 0)) }
+    ensures { S.Took sink.old (header_bytes (header_for (settings_meant config) code_size 0)) sink.new }
+{
     // magic, version
-    writer.put_bytes(b"ZKIR\x04\x00\x03\x00");
+    sink.put_bytes(b"ZKIR\x04\x00\x03\x00");
     // and no flags
-    writer.put_bytes(&[config.limb_bits, config.data_limbs, config.addr_limbs, 0]);
+    sink.put_bytes(&[config.limb_bits, config.data_limbs, config.addr_limbs, 0]);
     // entry
-    writer.put_bytes(b"\x00\x10\x00\x00");
-    writer.put_bytes(&code_size.to_le_bytes());
+    sink.put_bytes(b"\x00\x10\x00\x00");
+    sink.put_bytes(&code_size.to_le_bytes());
     // data, bss, stack
-    writer.put_bytes(b"\x00\x00\x00\x00\x00\x00\x00\x00\x00\x00\x10\x00");
-    writer.at
+    sink.put_bytes(b"\x00\x00\x00\x00\x00\x00\x00\x00\x00\x00\x10\x00");
 }
 
 // A header's parts are read at their places, from an image that is asked to have them all: document 01's form of slice and place.
@@ -114,7 +121,7 @@ pub fn open(image: &[u8]) -> Result<Opened, Refusal>
     }
     let header = read_header(image);
     header.validate()?;
-    if header.code_size % 4 != 0 {
+    if header.code_size % WORD_SIZE as u32 != 0 {
         return Err(Refusal::CodeSize);
     }
     let code_end = HEADER_SIZE + header.code_size as usize;

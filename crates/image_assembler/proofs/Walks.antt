@@ -11,10 +11,12 @@ use lib.ListN.{length, take, set, length-map, length-append}
 use lib.Seq.{set_out}
 use lib.Dec.{ltb}
 use borrow.Author.Tests.{ltb-true, ltb-false}
-use Rattle.text_lexical.specs.Bytes.{same, find, is_some}
+use Rattle.text_lexical.specs.Bytes.{same, find, is_some, ascii, every, before}
 use Rattle.text_lexical.specs.Names.{Name}
 use Rattle.refusal.specs.Refusals.{fault_of}
+use Rattle.refusal.specs.declared.refusal.Refusal.TheVariants.{NotAscii}
 use Rattle.text_lexical.proofs.Tests.{by-test}
+use Rattle.text.specs.Lines.{lines}
 use Rattle.text.specs.NameSets.{Naming}
 use Rattle.image.specs.Assembling.{is_known, most_bytes}
 use Rattle.image.specs.Assembling.{Label as Meant}
@@ -24,7 +26,7 @@ use Rattle.image_labels.specs.Tree.{place_before, unlinked, Tree, TreeAfter, Ent
 use Rattle.image_labels.proofs.Named.{spelled-long}
 use Rattle.image_labels.specs.declared.label.Label.{Label}
 use Rattle.image_labels.specs.declared.label.Labels.{Labels}
-use Rattle.image_passes.specs.Promised.{Entry, SoundPass, ScannableNext, After, ReadsOn, Begins, Follows, GoesOn}
+use Rattle.image_passes.specs.Promised.{Entry, Verdict, refused_at, first_line, begun, SoundPass, ScannableNext, After, ReadsOn, Begins, Follows, GoesOn}
 use Rattle.image_passes.proofs.Reaching.{Progress, Resumes, with_entry, label_at}
 use Rattle.image_passes.proofs.Answers.{begins-stand}
 use Rattle.image_passes.proofs.Scanning.{reads-stand, goes-stand}
@@ -33,7 +35,6 @@ use Rattle.image_passes.specs.declared.first_pass.Pass.TheVariants.{AtLabel, End
 use Rattle.image_passes.specs.declared.first_pass.Next.{Next}
 use Rattle.image_passes.specs.declared.first_pass.Next.TheVariants.{From, Ended as NextEnded}
 use Rattle.image_passes.specs.declared.first_pass.LabelLine.{LabelLine}
-use Rattle.image_passes.specs.declared.first_pass.Outcome.{Outcome}
 use Rattle.image.proofs.Over.{take-over, length_over, over-more}
 use Rattle.image_assembler.specs.Promised.{overlong, Finishable, Finishes, Starts, Holds, Walks, Assembles}
 use Rattle.image_assembler.specs.declared.assembler.Assembled.{Assembled}
@@ -76,12 +77,23 @@ counted ls l (Err r) = refl
 
 -- ---- the walk
 
+-- A line has at most one label. So fewer labels have been entered than the number of the line that is to be read next,
+abbrev Few : ℕ → Next → Type 0
+Few count (From c) = count + 1 ≤ c.line
+Few count (NextEnded v) = Unit {0}
+
+-- or of the line whose label is to be entered.
+abbrev FewAt : ℕ → Pass → Type 0
+FewAt count (AtLabel p) = count + 1 ≤ p.line
+FewAt count (PassEnded v) = Unit {0}
+
 -- Where it reads on with some labels, since it began with others: those so far.
 pub record Walking (names : List Name) (old now : Labels) (n : Next) : Type 0 where
   pub labels : List Meant
   pub stands : Resumes names old.source.now (length old.table.now) labels n
   pub sound : ScannableNext old.source.now n
   pub counted : now.count ≡ length labels
+  pub few : Few now.count n
   pub holds : Holds old.source.now old.table.now (unlinked now.count now.table.now) labels
   pub linked : Linked now
   pub lent : SameLent old now
@@ -92,9 +104,30 @@ pub record Stopping (names : List Name) (old now : Labels) (p : Pass) : Type 0 w
   pub stands : Progress names old.source.now (length old.table.now) labels p
   pub sound : SoundPass old.source.now p
   pub counted : now.count ≡ length labels
+  pub few : FewAt now.count p
   pub holds : Holds old.source.now old.table.now (unlinked now.count now.table.now) labels
   pub linked : Linked now
   pub lent : SameLent old now
+
+-- The first line is line 1.
+few-first : (s : List ℕ) → Few 0 (begun s)
+unfolding begun
+few-first s = go (every ascii s)
+  where
+    go : (b : Bool) → Few 0 (elim b [ true ↦ From first_line | false ↦ NextEnded (refused_at NotAscii 0 (length (lines (before ascii s)))) ])
+    go true = omega arith
+    go false = tt
+
+few-reads : (count : ℕ) (n : Next) (p : Pass) → Few count n → After n p → FewAt count p
+few-reads count (From c) (AtLabel p) f a = omega (arith, f, a)
+few-reads count (From c) (PassEnded v) f a = tt
+few-reads count (NextEnded v) (AtLabel p) f a = absurd a
+few-reads count (NextEnded v) (PassEnded w) f a = tt
+
+few-on : (count : ℕ) (p : LabelLine) (e : Entry) (n : Next) → count + 1 ≤ p.line → Follows p e n → Few (count_after count e) n
+few-on count p (Ok u) (From c) f a = omega (arith, f, a.0)
+few-on count p (Err r) (From c) f a = omega (arith, f, a.0)
+few-on count p e (NextEnded v) f a = tt
 
 -- How it begins.
 pub walking-begin : (names : List Name) {old : Labels} {n : Next} → Starts old → Begins old.source.now n → Walking names old old n
@@ -106,6 +139,7 @@ walking-begin names {old} {n} x b =
       stands = begins-stand x.short names b (length old.table.now);
       sound = b.sound;
       counted = none;
+      few = rw (none, b.answer) (few-first old.source.now);
       holds = subst (λ (k : ℕ). Holds old.source.now old.table.now (unlinked k old.table.now) []) (sym none) (record { table_is = refl; fits = omega arith; spelled = tt });
       linked = record {
         in_table = rw none (omega arith);
@@ -121,12 +155,13 @@ walking-begin names {old} {n} x b =
 
 -- It reads on.
 pub walking-reads : {names : List Name} {old now : Labels} {n : Next} {p : Pass} → Naming names → Walking names old now n → ReadsOn names old.source.now n p → Stopping names old now p
-walking-reads {old = old} ok w r =
+walking-reads {old = old} {now} {n} {p} ok w r =
     record {
       labels = w.labels;
       stands = reads-stand ok r w.sound (length old.table.now) w.labels w.stands;
       sound = r.sound;
       counted = w.counted;
+      few = few-reads now.count n p w.few r.after;
       holds = w.holds;
       linked = w.linked;
       lent = w.lent;
@@ -188,7 +223,7 @@ module _ {names : List Name} {old now : Labels} {p : LabelLine} (w : Stopping na
   walking-enterable =
       let k = w.sound in
       rw w.lent.same_source
-      (record { in_text = k.in_text; short = k.short; few = omega (arith, k.short, k.line_fits, k.few_labels, w.counted, w.stands.count); near = k.near })
+      (record { in_text = k.in_text; short = k.short; few = omega (arith, k.short, k.line_fits, w.few); near = k.near })
 
   -- It goes on.
   module _ {next : Labels} {e : Entry} {r : Next} (x : Enters now.source.now (unlinked now.count now.table.now) now.count p.label (unlinked next.count next.table.now) e)
@@ -208,6 +243,7 @@ module _ {names : List Name} {old now : Labels} {p : LabelLine} (w : Stopping na
           labels = with_entry e w.labels (label_at old.source.now p);
           stands = goes-stand g (length old.table.now) w.labels w.stands (fault_is p w.counted w.sound.in_text w.holds entered);
           sound = g.sound;
+          few = rw more (few-on now.count p e r w.few g.follows);
           counted = more ∙ ap (λ (m : ℕ). count_after m e) w.counted ∙ sym (counted w.labels (label_at old.source.now p) e);
           holds = holds_on p w.counted w.sound.in_text w.holds entered;
           linked = rw (lent.same_source, more) (linked-after e t);
@@ -221,30 +257,30 @@ module _ {names : List Name} {old now : Labels} {p : LabelLine} (w : Stopping na
 -- What is left, counted in lines.
 abbrev pub left : List ℕ → Next → ℕ
 left s (From c) = length s + 2 - c.line
-left s (NextEnded o) = 0
+left s (NextEnded v) = 0
 
 pub nearer : {names : List Name} {s : List ℕ} {n : Next} {p : LabelLine} {e : Entry} {r : Next} → ReadsOn names s n (AtLabel p) → GoesOn s p e r → left s r < left s n
 nearer {names} {s} {n} {p} {e} {r} a g = go n a.after r g.follows
   where
     go : (n : Next) → After n (AtLabel p) → (r : Next) → Follows p e r → left s r < left s n
     go (From c) h (From d) k = omega (arith, a.sound.line_fits, h, k.0)
-    go (From c) h (NextEnded o) k = omega (arith, a.sound.line_fits, h)
-    go (NextEnded o) h r k = absurd h
+    go (From c) h (NextEnded v) k = omega (arith, a.sound.line_fits, h)
+    go (NextEnded v) h r k = absurd h
 
 -- It has ended.
-pub walking-ends : {names : List Name} {old now : Labels} {o : Outcome} → Stopping names old now (PassEnded o) → Walks names old now o
-walking-ends w = record { labels = w.labels; ends = w.stands; counted = w.counted ∙ sym w.stands.count; holds = w.holds; linked = w.linked; lent = w.lent }
+pub walking-ends : {names : List Name} {old now : Labels} {v : Verdict} → Stopping names old now (PassEnded v) → Walks names old now v
+walking-ends w = record { labels = w.labels; ends = w.stands; counted = w.counted; holds = w.holds; linked = w.linked; lent = w.lent }
 
-module _ {names : List Name} {old new : Labels} {o : Outcome} (w : Walks names old new o) where
+module _ {names : List Name} {old new : Labels} {v : Verdict} (w : Walks names old new v) where
   -- What `finish` asks for.
-  pub walks-ready : Finishable names old.source.now o.verdict
-  walks-ready = ends-ready names old.source.now (length old.table.now) w.labels o.verdict w.ends.judges
+  pub walks-ready : Finishable names old.source.now v
+  walks-ready = ends-ready names old.source.now (length old.table.now) w.labels v w.ends
 
   -- The second walk has ended too, and the entries are unlinked.
-  pub walks-end : {table' : List Label} {image image' : List ℕ} {r : Result Assembled AssembleError} → table' ≡ unlinked new.count new.table.now → Finishes names old.source.now o.labels image image' r o.verdict
+  pub walks-end : {table' : List Label} {image image' : List ℕ} {r : Result Assembled AssembleError} → table' ≡ unlinked new.count new.table.now → Finishes names old.source.now new.count image image' r v
       → Assembles names old.source.now old.table.now image table' image' r
-  walks-end e f =
-      let a = ends-answers w.ends f in
+  walks-end {image = image} {image'} {r} e f =
+      let a = ends-answers names old.source.now (length old.table.now) new.count w.labels image image' r w.counted v w.ends f in
       record { answer = a.answer; table_holds = e ∙ w.holds.table_is ∙ ap (λ (ls : List Meant). over (map entry_of ls) old.table.now) a.labels_are; image_holds = a.image_holds }
 
 -- ---- a source that is too long

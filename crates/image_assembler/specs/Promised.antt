@@ -13,10 +13,7 @@ use Rattle.image_labels.specs.Promised.{entry_of, Spelled}
 use Rattle.image_labels.specs.Tree.{unlinked, Bare, Linked, SameLent}
 use Rattle.image_labels.specs.declared.label.Label.{Label}
 use Rattle.image_labels.specs.declared.label.Labels.{Labels}
-use Rattle.image_passes.specs.Promised.{WalkEnds, Ready, Fills}
-use Rattle.image_passes.specs.declared.first_pass.Outcome.{Outcome}
-use Rattle.image_passes.specs.declared.first_pass.Finished.{Finished}
-use Rattle.image_passes.specs.declared.first_pass.Stopped.{Stopped}
+use Rattle.image_passes.specs.Promised.{Verdict, WalkEnds, Ready, Fills}
 use Rattle.image_passes.specs.declared.second_pass.TooShort.{TooShort as Short}
 use Rattle.image_assembler.specs.declared.assembler.Assembled.{Assembled}
 use Rattle.image_assembler.specs.declared.assembler.AssembleError.{AssembleError}
@@ -39,7 +36,7 @@ answer_for (Ok u) words labels c = Ok (record { words = words; labels = labels; 
 answer_for (Err short) words labels c = Err (TooShort labels short.needed)
 
 -- What `finish` asks of a verdict.
-abbrev pub Finishable : List Name → List ℕ → Result Finished Stopped → Type 0
+abbrev pub Finishable : List Name → List ℕ → Verdict → Type 0
 Finishable names s (Ok f) = Ready names s f.words (settings_meant f.config)
 Finishable names s (Err e) = Unit {0}
 
@@ -50,7 +47,7 @@ pub record Completes (names : List Name) (s : List ℕ) (words labels : ℕ) (c 
   pub answer : r ≡ answer_for fill words labels c
 
 -- What a first walk that has ended comes to, with so many labels, and an image buffer before and after.
-abbrev pub Finishes : List Name → List ℕ → ℕ → List ℕ → List ℕ → Result Assembled AssembleError → Result Finished Stopped → Type 0
+abbrev pub Finishes : List Name → List ℕ → ℕ → List ℕ → List ℕ → Result Assembled AssembleError → Verdict → Type 0
 Finishes names s labels old new r (Ok f) = Completes names s f.words labels f.config old new r
 Finishes names s labels old new r (Err e) = (r ≡ Err (Refused e.refusal e.rust_line e.line labels)) × (new ≡ old)
 
@@ -68,11 +65,12 @@ pub record Holds (s : List ℕ) (old table : List Label) (labels : List Meant) :
   pub fits : length labels ≤ length old
   pub spelled : Spelled s labels
 
--- The first walk has ended. The labels stand in the table once their entries are unlinked; until then they can be found.
-pub record Walks (names : List Name) (old new : Labels) (o : Outcome) : Type 0 where
+-- The first walk has ended, with labels entered, which are counted. They stand in the table once their entries are unlinked; until then
+-- they can be found.
+pub record Walks (names : List Name) (old new : Labels) (v : Verdict) : Type 0 where
   pub labels : List Meant
-  pub ends : WalkEnds names old.source.now (length old.table.now) labels o
-  pub counted : new.count ≡ o.labels
+  pub ends : WalkEnds names old.source.now (length old.table.now) labels v
+  pub counted : new.count ≡ length labels
   pub holds : Holds old.source.now old.table.now (unlinked new.count new.table.now) labels
   pub linked : Linked new
   pub lent : SameLent old new

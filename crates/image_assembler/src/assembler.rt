@@ -6,7 +6,7 @@ ghost use Rattle.image_assembler.specs.Promised.{Finishable, Finishes, Starts, W
 
 use image::config::Config;
 use image_labels::label::{Label, Labels};
-use image_passes::first_pass::{Outcome, Pass};
+use image_passes::first_pass::{Pass, Verdict};
 use refusal::refusal::Refusal;
 
 // What a source has been assembled to. The labels are those that have been entered into the table.
@@ -34,13 +34,17 @@ pub enum AssembleError {
     },
 }
 
-// What a first walk that has ended comes to: its refusal, or the image.
-fn finish(source: &[u8], image: &mut [u8], outcome: Outcome) -> Result<Assembled, AssembleError>
-    requires { Finishable present source.now outcome.verdict }
-    ensures { Finishes present source.now outcome.labels image.old image.new result outcome.verdict }
+// What a first walk that has ended comes to, with so many labels entered: its refusal, or the image.
+fn finish(
+    source: &[u8],
+    image: &mut [u8],
+    labels: usize,
+    verdict: Verdict,
+) -> Result<Assembled, AssembleError>
+    requires { Finishable present source.now verdict }
+    ensures { Finishes present source.now labels image.old image.new result verdict }
 {
-    let labels = outcome.labels;
-    let finished = outcome.verdict.map_err(|stopped| AssembleError::Refused {
+    let finished = verdict.map_err(|stopped| AssembleError::Refused {
         refusal: stopped.refusal,
         rust_line: stopped.rust_line,
         line: stopped.line,
@@ -62,7 +66,7 @@ fn finish(source: &[u8], image: &mut [u8], outcome: Outcome) -> Result<Assembled
 }
 
 // The first walk over a source. Its labels are entered, and stay linked.
-fn walk(labels: &mut Labels) -> Outcome
+fn walk(labels: &mut Labels) -> Verdict
     requires { Starts labels.old }
     ensures { Walks present labels.old labels.new result }
 {
@@ -75,16 +79,19 @@ fn walk(labels: &mut Labels) -> Outcome
                 let entered = labels.enter(at.label);
                 next = image_passes::first_pass::go_on(source, at, entered);
             }
-            Pass::Ended(outcome) => return outcome,
+            Pass::Ended(verdict) => return verdict,
         }
     }
 }
 
-// 4,096 empty hash buckets: few labels of an ordinary source share one, and clearing them takes less time than reading 1 KB.
-fn empty_roots() -> [u32; 4096]
+// How many hash buckets labels have: few labels of an ordinary source share one, and clearing them takes less time than reading 1 KB.
+const BUCKETS: usize = 4096;
+
+// Empty buckets.
+fn empty_roots() -> [u32; BUCKETS]
     ensures { Bare result }
 {
-    [0; 4096]
+    [0; BUCKETS]
 }
 
 // The image of a source, and its labels. A source that is too long is refused before any bucket is cleared. The links by which labels
@@ -112,8 +119,8 @@ pub fn assemble(
         roots: &mut roots,
         count: 0,
     };
-    let outcome = walk(&mut labels);
-    let assembled = finish(source, image, outcome);
+    let verdict = walk(&mut labels);
+    let assembled = finish(source, image, labels.count, verdict);
     labels.unlink();
     assembled
 }

@@ -28,7 +28,7 @@ use Rattle.image_labels.specs.declared.tree.Stage.TheVariants.{At, Known, Missin
 use Rattle.image_labels.specs.declared.tree.Search.{Search}
 use Rattle.image_labels.specs.declared.label.Gap.{Gap}
 use Rattle.image_labels.specs.Promised.{InText, spelled, no_label, any_named, index_of, room_for, Enters}
-use Rattle.image_labels.specs.Tree.{plain, unlinked, place_before, child_number, link_number, link, child_bits, linked, hash_of, first_path, advanced, branch_of, key_of, entry_for, hits, slot_of, root_of, with_root, span, first_stage, begun, visited, gap_of, found_of, Finds, here, there, Tree, TreeAfter, Enterable, addressed, with_parent, joined, rooted_in, Gaps, Finding, Visitable}
+use Rattle.image_labels.specs.Tree.{plain, unlinked, place_before, child_number, link_number, link, child_bits, linked, hash_of, first_path, advanced, branch_of, key_of, hits, slot_of, root_of, with_root, span, first_stage, begun, sought, visited, gap_of, found_of, Finds, here, there, Tree, TreeAfter, Enterable, addressed, with_parent, joined, rooted_in, Gaps, Finding, Visitable}
 use Rattle.image_labels.proofs.Hashing.{slot-inside, parity, child-number-odd, child-bits-odd, child-number-even, child-bits-even, link-low, linked-low, link-high, linked-high, visited-hit, visited_on}
 use Rattle.image_labels.proofs.Roots.{with-root-empty, with-root-same, with-root-long, with-root-new, with-root-kept, with-root-rooted}
 use Rattle.image_labels.proofs.Named.{spelled-long, index_at, index-none, index-names, any-index, enters-known, enters-new, enters-full, has-room, no-room}
@@ -228,16 +228,22 @@ pub data Lost (s : List ℕ) (t : List Label) (roots : List ℕ) (n : ℕ) (u : 
       → p.entry ≡ linked (get_or t p.place no_label) (branch_of z) (n + 1) → Lost s t roots n u (Some p)
 
 -- Where a search stands.
-abbrev pub Stands : List ℕ → List Label → List ℕ → ℕ → Label → Search → Stage → Type 0
-Stands s t roots n l q (At i) = AtEntry s t roots n l q.path i
-Stands s t roots n l q (Known i) = (i < n) × (hit s (spelled s l) t i ≡ true)
-Stands s t roots n l q (Missing p) = Lost s t roots n (spelled s l) p
+abbrev pub StageIs : List ℕ → List Label → List ℕ → ℕ → Label → Search → Stage → Type 0
+StageIs s t roots n l q (At i) = AtEntry s t roots n l q.path i
+StageIs s t roots n l q (Known i) = (i < n) × (hit s (spelled s l) t i ≡ true)
+StageIs s t roots n l q (Missing p) = Lost s t roots n (spelled s l) p
 
 pub record Seeking (s : List ℕ) (t : List Label) (roots : List ℕ) (n : ℕ) (l : Label) (q : Search) : Type 0 where
   pub bucket_is : q.bucket ≡ slot_of (hash_of (spelled s l)) (length roots)
-  pub entry-is : q.entry ≡ entry_for (spelled s l) l
+  pub start-is : q.start ≡ l.start
+  pub length-is : q.length ≡ l.length
+  pub key-is : q.key ≡ key_of (spelled s l)
   pub count-is : q.count ≡ n
-  pub stands : Stands s t roots n l q q.stage
+  pub stands : StageIs s t roots n l q q.stage
+
+-- The entry of a label of a spelling.
+unfoldable entry_for : List ℕ → Label → Label
+entry_for u l = record { start = l.start; length = key_of u; address = l.address }
 
 module _ (s : List ℕ) (t : List Label) (roots : List ℕ) (n : ℕ) (l : Label) (tree : Tree s t roots n) (ok : Enterable s n l) where
   abbrev u : List ℕ
@@ -247,18 +253,21 @@ module _ (s : List ℕ) (t : List Label) (roots : List ℕ) (n : ℕ) (l : Label
   abbrev root : Maybe ℕ
   root = root_of roots u
 
+  key-length : key_of u % 2097152 ≡ l.length
+  unfolding key_of
+  key-length = omega (arith, spelled-long s l ok.in_text, ok.in_text, ok.short)
+
   entry-plain : plain (entry_for u l) ≡ l
-  unfolding entry_for key_of
+  unfolding entry_for
   entry-plain =
       let a : l.start % 2097152 ≡ l.start = omega (arith, ok.in_text, ok.short) in
-      let b : key_of u % 2097152 ≡ l.length = omega (arith, spelled-long s l ok.in_text, ok.in_text, ok.short) in
       let c : l.address % 2097152 ≡ l.address = omega (arith, ok.near) in
-      λ i. record { start = a i; length = b i; address = c i }
+      λ i. record { start = a i; length = key-length i; address = c i }
 
   pub seek-begin : Seeking s t roots n l (begun s roots n l)
-  seek-begin = record { bucket_is = refl; entry-is = refl; count-is = refl; stands = go root refl }
+  seek-begin = record { bucket_is = refl; start-is = refl; length-is = refl; key-is = refl; count-is = refl; stands = go root refl }
     where
-      go : (m : Maybe ℕ) → root ≡ m → Stands s t roots n l (begun s roots n l) (first_stage m)
+      go : (m : Maybe ℕ) → root ≡ m → StageIs s t roots n l (begun s roots n l) (first_stage m)
       go None f = none_there f
       go (Some i) f = record {
         inside = tree.rooted (slot_of (hash_of u) (length roots)) i f;
@@ -266,8 +275,8 @@ module _ (s : List ℕ) (t : List Label) (roots : List ℕ) (n : ℕ) (l : Label
       }
 
   module _ (q : Search) (k : Seeking s t roots n l q) where
-    spelled_is : spelled s (plain q.entry) ≡ u
-    spelled_is = ap (λ (e : Label). spelled s (plain e)) k.entry-is ∙ ap (spelled s) entry-plain
+    sought-is : sought s q ≡ u
+    sought-is = ap₂ (λ (a m : ℕ). spelled s (span a m)) k.start-is k.length-is
 
     -- An entry that it stands before.
     module _ {i : ℕ} (stage-is : q.stage ≡ At i) where
@@ -275,7 +284,7 @@ module _ (s : List ℕ) (t : List Label) (roots : List ℕ) (n : ℕ) (l : Label
       e = get_or t i no_label
 
       here-is : AtEntry s t roots n l q.path i
-      here-is = subst (Stands s t roots n l q) stage-is k.stands
+      here-is = subst (StageIs s t roots n l q) stage-is k.stands
 
       pub inside : i < n
       inside = here-is.inside
@@ -284,7 +293,8 @@ module _ (s : List ℕ) (t : List Label) (roots : List ℕ) (n : ℕ) (l : Label
       unfolding link_number child_number
       seek-visitable =
           record {
-            label_in_text = subst (InText s) (sym (ap plain k.entry-is ∙ entry-plain)) ok.in_text;
+            part_in_text = omega (arith, k.start-is, k.length-is, ok.in_text);
+            length_in_key = omega (arith, k.key-is, k.length-is, key-length);
             entry_in_text = tree.in_text i inside;
             low = lead 1 (e.start / 4398046511104) refl;
             low_address = lead 3 (e.address / 4398046511104) refl;
@@ -295,9 +305,8 @@ module _ (s : List ℕ) (t : List Label) (roots : List ℕ) (n : ℕ) (l : Label
           lead c zero f = omega arith
           lead c (suc j) f = let h = tree.onward i inside c j (ap place_before f) in omega (arith, h.1, ok.few)
 
-      hit-here : hits s e q.entry.length (spelled s (plain q.entry)) ≡ hit s u t i
-      unfolding entry_for
-      hit-here = ap₂ (λ (m : ℕ) (w : List ℕ). hits s e m w) (ap (λ (v : Label). v.length) k.entry-is) spelled_is
+      hit-here : hits s e q.key (sought s q) ≡ hit s u t i
+      hit-here = ap₂ (λ (m : ℕ) (w : List ℕ). hits s e m w) k.key-is sought-is
 
       pub seek-visit : Seeking s t roots n l (visited s q i e)
       seek-visit = by-test (hit s u t i) found (λ miss. passing miss (link e (branch_of q.path)) refl)
@@ -305,7 +314,9 @@ module _ (s : List ℕ) (t : List Label) (roots : List ℕ) (n : ℕ) (l : Label
           found : hit s u t i ≡ true → Seeking s t roots n l (visited s q i e)
           found h = subst (Seeking s t roots n l) (sym (visited-hit s q i e (hit-here ∙ h))) (record {
             bucket_is = k.bucket_is;
-            entry-is = k.entry-is;
+            start-is = k.start-is;
+            length-is = k.length-is;
+            key-is = k.key-is;
             count-is = k.count-is;
             stands = (inside, h);
           })
@@ -313,17 +324,21 @@ module _ (s : List ℕ) (t : List Label) (roots : List ℕ) (n : ℕ) (l : Label
           passing : hit s u t i ≡ false → (m : Maybe ℕ) → link e (branch_of q.path) ≡ m → Seeking s t roots n l (visited s q i e)
           passing miss None f = subst (Seeking s t roots n l) (sym (visited_on s q i e (hit-here ∙ miss) None f)) (record {
             bucket_is = k.bucket_is;
-            entry-is = k.entry-is;
+            start-is = k.start-is;
+            length-is = k.length-is;
+            key-is = k.key-is;
             count-is = k.count-is;
             stands = behind q.path inside here-is.reached miss f (ap (λ (m : ℕ). linked e (branch_of q.path) (m + 1)) k.count-is);
           })
           passing miss (Some j) f = subst (Seeking s t roots n l) (sym (visited_on s q i e (hit-here ∙ miss) (Some j) f)) (record {
             bucket_is = k.bucket_is;
-            entry-is = k.entry-is;
+            start-is = k.start-is;
+            length-is = k.length-is;
+            key-is = k.key-is;
             count-is = k.count-is;
             stands = record {
               inside = (tree.onward i inside (branch_of q.path) j f).1;
-              reached = subst (λ (w : List ℕ). PathTo s u t root n (Some j) (advanced w q.path)) (sym spelled_is) (step here-is.reached inside miss f);
+              reached = subst (λ (w : List ℕ). PathTo s u t root n (Some j) (advanced w q.path)) (sym sought-is) (step here-is.reached inside miss f);
             };
           })
 
@@ -548,13 +563,13 @@ module _ (s : List ℕ) (t : List Label) (roots : List ℕ) (n start long : ℕ)
   unfolding entry_for
   placed lost a h =
       gap_is s t roots n (labelled a) tree (record { in_text = ok.in_text; short = ok.short; few = ok.few; near = h }) lost q k.bucket_is
-      (ap (λ (e : Label). record { start = e.start; length = e.length; address = a }) k.entry-is)
+      (ap₂ (λ (b m : ℕ). record { start = b; length = m; address = a }) k.start-is k.key-is)
 
   pub seek-end : ((i : ℕ) → q.stage ≡ At i → ⊥) → Finding s t roots n start long (found_of q)
   unfolding found_of
   seek-end ended = go q.stage refl k.stands
     where
-      go : (v : Stage) → q.stage ≡ v → Stands s t roots n (span start long) q v → Finding s t roots n start long (found_of q)
+      go : (v : Stage) → q.stage ≡ v → StageIs s t roots n (span start long) q v → Finding s t roots n start long (found_of q)
       go (At i) e x = absurd (ended i e)
       go (Known i) e x = rw (found_of, e) (record { index_is = sym (index-there s t roots n (span start long) tree ok i x); gap = λ g e. cc })
       go (Missing p) e lost = rw (found_of, e) (record {

@@ -17,7 +17,7 @@ use Rattle.image_labels.specs.declared.tree.Digest.{Digest}
 use Rattle.image_labels.specs.declared.tree.Stage.TheVariants.{Known}
 use Rattle.image_labels.specs.declared.tree.Search.{Search}
 use Rattle.image_labels.specs.Promised.{spelled}
-use Rattle.image_labels.specs.Tree.{plain, child_number, link_number, link, child_bits, linked, mixed, three_bytes, hash_from, no_hash, hash_of, slot_of, branch_of, hits, ended_at, passed, visited}
+use Rattle.image_labels.specs.Tree.{child_number, link_number, link, child_bits, linked, mixed, packed_bytes, hash_from, no_hash, hash_of, slot_of, branch_of, hits, sought, ended_at, passed, visited}
 use Rattle.image_labels.proofs.Named.{part-is}
 
 -- ---- the branches
@@ -80,11 +80,11 @@ slot-inside h k some = omega (arith, scaled_fits h.first k)
 -- The hash after some threes.
 abbrev pub hash_threes : Digest → List (List ℕ) → Digest
 hash_threes h [] = h
-hash_threes h (w ∷ ws) = hash_threes (mixed h (three_bytes w)) ws
+hash_threes h (w ∷ ws) = hash_threes (mixed h (packed_bytes w)) ws
 
 -- Three bytes at the front.
-hash-three : (h : Digest) (u : List ℕ) → 3 ≤ length u → hash_from h u ≡ hash_from (mixed h (three_bytes (take 3 u))) (drop 3 u)
-unfolding hash_from three_bytes
+hash-three : (h : Digest) (u : List ℕ) → 3 ≤ length u → hash_from h u ≡ hash_from (mixed h (packed_bytes (take 3 u))) (drop 3 u)
+unfolding hash_from packed_bytes
 hash-three h [] f = absurd (omega arith)
 hash-three h (a ∷ []) f = absurd (omega arith)
 hash-three h (a ∷ b ∷ []) f = absurd (omega arith)
@@ -95,7 +95,7 @@ hash-chunks : (k : ℕ) (h : Digest) (u : List ℕ) → k * 3 ≤ length u → h
 hash-chunks zero h u f = refl
 hash-chunks (suc k) h u f =
     let e : suc k * 3 ≡ 3 + k * 3 = omega arith in
-    rw (e, ← drop-drop (k * 3) 3 u) (hash-chunks k (mixed h (three_bytes (take 3 u))) (drop 3 u) (omega (arith, length-drop 3 u))) ∙ sym (hash-three h u (omega arith))
+    rw (e, ← drop-drop (k * 3) 3 u) (hash-chunks k (mixed h (packed_bytes (take 3 u))) (drop 3 u) (omega (arith, length-drop 3 u))) ∙ sym (hash-three h u (omega arith))
 
 -- No three is left.
 pub hash-threes-done : (h : Digest) (ws : List (List ℕ)) (i : ℕ) → length ws ≤ i → hash_threes h (drop i ws) ≡ h
@@ -135,7 +135,7 @@ module _ (h : Digest) where
 
 module _ (s : List ℕ) (q : Search) (at : ℕ) (e : Label) where
   abbrev is-hit : Bool
-  is-hit = hits s e q.entry.length (spelled s (plain q.entry))
+  is-hit = hits s e q.key (sought s q)
 
   pub visited-hit : is-hit ≡ true → visited s q at e ≡ ended_at q (Known at)
   unfolding visited

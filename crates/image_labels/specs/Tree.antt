@@ -66,9 +66,9 @@ mixed h w =
       second = h.second % 4294967296 * (2246822519 + 113 * w) + (h.first / 4294967296 + w);
     }
 
--- Three bytes as one number.
-unfoldable pub three_bytes : List ℕ → ℕ
-three_bytes w = get_or w 0 0 + 256 * get_or w 1 0 + 65536 * get_or w 2 0
+-- Three bytes as one number, the first byte lowest.
+unfoldable pub packed_bytes : List ℕ → ℕ
+packed_bytes w = get_or w 0 0 + 256 * get_or w 1 0 + 65536 * get_or w 2 0
 
 unfoldable pub hash_from : Digest → List ℕ → Digest
 hash_from h [] = h
@@ -145,13 +145,13 @@ pub record Bare (roots : List ℕ) : Type 0 where
 abbrev pub span : ℕ → ℕ → Label
 span start n = record { start = start; length = n; address = 0 }
 
--- The entry of a label of a spelling.
-unfoldable pub entry_for : List ℕ → Label → Label
-entry_for u l = record { start = l.start; length = key_of u; address = l.address }
-
 -- Whether an entry is of a spelling.
 unfoldable pub hits : List ℕ → Label → ℕ → List ℕ → Bool
 hits s e key u = elim (eqb e.length key) [ true ↦ same (spelled s (plain e)) u | false ↦ false ]
+
+-- The spelling that a search is for.
+abbrev pub sought : List ℕ → Search → List ℕ
+sought s q = spelled s (span q.start q.length)
 
 -- The search for a label after `count` others, from its root on,
 abbrev pub first_stage : Maybe ℕ → Stage
@@ -165,24 +165,27 @@ begun s roots count l =
       stage = first_stage (root_of roots (spelled s l));
       path = first_path (spelled s l);
       count = count;
-      entry = entry_for (spelled s l) l;
+      start = l.start;
+      length = l.length;
+      key = key_of (spelled s l);
     }
 
 -- and after the entry at a place: it has ended, or goes on.
 abbrev pub ended_at : Search → Stage → Search
-ended_at q stage = record { bucket = q.bucket; stage = stage; path = q.path; count = q.count; entry = q.entry }
+ended_at q stage = record { bucket = q.bucket; stage = stage; path = q.path; count = q.count; start = q.start; length = q.length; key = q.key }
 
 abbrev pub passed : List ℕ → Search → ℕ → Label → Maybe ℕ → Search
 passed s q at e None = ended_at q (Missing (Some (record { place = at; entry = linked e (branch_of q.path) (q.count + 1) })))
-passed s q at e (Some i) = record { bucket = q.bucket; stage = At i; path = advanced (spelled s (plain q.entry)) q.path; count = q.count; entry = q.entry }
+passed s q at e (Some i) =
+    record { bucket = q.bucket; stage = At i; path = advanced (sought s q) q.path; count = q.count; start = q.start; length = q.length; key = q.key }
 
 unfoldable pub visited : List ℕ → Search → ℕ → Label → Search
 visited s q at e =
-    elim (hits s e q.entry.length (spelled s (plain q.entry))) [ true ↦ ended_at q (Known at) | false ↦ passed s q at e (link e (branch_of q.path)) ]
+    elim (hits s e q.key (sought s q)) [ true ↦ ended_at q (Known at) | false ↦ passed s q at e (link e (branch_of q.path)) ]
 
 -- What a search that has ended comes to.
 abbrev pub gap_of : Search → Maybe Parent → Gap
-gap_of q parent = record { bucket = q.bucket; entry = q.entry; parent = parent }
+gap_of q parent = record { bucket = q.bucket; entry = record { start = q.start; length = q.key; address = 0 }; parent = parent }
 
 unfoldable pub found_of : Search → Result ℕ Gap
 found_of q = elim q.stage [ Known i ↦ Ok i | At i ↦ Err (gap_of q None) | Missing parent ↦ Err (gap_of q parent) ]
@@ -257,7 +260,8 @@ pub record Finding (s : List ℕ) (t : List Label) (roots : List ℕ) (n start l
 
 -- What a search asks of an entry that it has come to.
 pub record Visitable (s : List ℕ) (q : Search) (e : Label) : Type 0 where
-  pub label_in_text : InText s (plain q.entry)
+  pub part_in_text : InText s (span q.start q.length)
+  pub length_in_key : q.key % 2097152 ≡ q.length
   pub entry_in_text : InText s (plain e)
   pub low : e.start / 4398046511104 ≤ 1048576
   pub low_address : e.address / 4398046511104 ≤ 1048576

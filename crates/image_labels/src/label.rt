@@ -25,9 +25,9 @@ pub struct Gap {
 }
 
 // The index of the label that is spelled as a part of the source, among the first `count` entries of a table, or where it would be entered.
-// Nothing is changed, so table and roots may be shared, which those of a `Labels` are not. The part is given by two numbers, since a label
-// would be passed through memory.
-pub fn find(
+// This is `Labels::find` on the parts of a `Labels`: table and roots are shared here, since nothing is changed. The part of the source is
+// given by two numbers, since a label would be passed through memory.
+fn find(
     source: &[u8],
     table: &[Label],
     roots: &[u32],

@@ -1,10 +1,10 @@
 // While labels are entered, their entries are the nodes of 4-way tries, one for each hash bucket. A label's start, length and address are
 // below 2^21. Above its start and above its address an entry holds two of its four children each, as numbers of 21 bits, and above its
 // length 43 bits of its spelling's hash. There is no heap, and the table is lent by the caller, so a child is the number of an entry and no `Box`.
-ghost use Rattle.std.specs.Prelude.{◌≡◌, ◌+◌, ◌/◌, ◌≤◌, ◌<◌, length, set};
+ghost use Rattle.std.specs.Prelude.{◌≡◌, ◌+◌, ◌/◌, ◌%◌, ◌≤◌, ◌<◌, length, set};
 ghost use Rattle.text_lexical.specs.Bytes.{same};
 ghost use Rattle.image_labels.specs.Promised.{InText, spelled};
-ghost use Rattle.image_labels.specs.Tree.{plain as plain_of, child_number, place_before as before, link as link_of, child_bits, linked as linkedOf, mixed, three_bytes as three_bytes_of, hash_of, advanced, hits as hitsOf, Rootable, slot_of, first_stage as first_stage_of, begun, found_of, span, addressed as addressed_at, visited, Enterable, Visitable};
+ghost use Rattle.image_labels.specs.Tree.{plain as plain_of, child_number, place_before as before, link as link_of, child_bits, linked as linkedOf, mixed, packed_bytes, hash_of, advanced, hits as hitsOf, Rootable, slot_of, first_stage as first_stage_of, begun, found_of, span, addressed as addressed_at, visited, Enterable, Visitable};
 
 use crate::label::{Gap, Label};
 
@@ -17,6 +17,12 @@ const FIELD: usize = 2097152;
 // The upper one of two child numbers counts in units of this.
 const UPPER: usize = FIELD * FIELD;
 
+// The upper 32 bits of a number of 64 count in units of this.
+const HALF_WORD: u64 = 4294967296;
+
+// How many branches there are: each is two path bits.
+const BRANCHES: u64 = 4;
+
 #[derive(Clone, Copy)]
 pub(crate) struct Digest {
     pub(crate) first: u64,
@@ -25,6 +31,9 @@ pub(crate) struct Digest {
 
 // The 1 after the last path bit of a hash, of which 62 are used.
 const PATH_END: u64 = 4611686018427387904;
+
+// The 1 after the last path bit of a byte.
+const BYTE_END: u64 = 256;
 
 // The path bits of a spelling, two for each child that it takes: `bits`, with a 1 after the last, then `rest`, then those of its bytes, of
 // which `used` have been used up.
@@ -35,15 +44,15 @@ pub(crate) struct PathBits {
     pub(crate) used: usize,
 }
 
-// An entry with the child that a label is to be, and where it stands.
+// The place of the entry that gets a label as its child, and this entry with the child.
 #[derive(Clone, Copy)]
 pub(crate) struct Parent {
     pub(crate) place: usize,
     pub(crate) entry: Label,
 }
 
-// Where a search stands: before an entry that it is to visit, or at its end, which is an entry of the spelling, or behind all entries:
-// there the label gets a parent, or becomes a root. These are three states, so neither an `Option` nor a `Result` has them.
+// The state of a search. It is to visit an entry; or it has ended, at an entry of the spelling or after all entries of its path, where the
+// label would get a parent, or become a root. These are three states, so neither an `Option` nor a `Result` has them.
 #[derive(Clone, Copy)]
 pub(crate) enum Stage {
     At(usize),
@@ -51,14 +60,17 @@ pub(crate) enum Stage {
     Missing(Option<Parent>),
 }
 
-// A spelling that is looked for, from the root of a hash bucket on. `entry` is that of its label, after `count` others.
+// A search for a spelling, from the root of its hash bucket on: the part of the source at `start`, of `length` bytes. An entry of it holds
+// `key` for its length. Its label would be entered after `count` others.
 #[derive(Clone, Copy)]
 pub(crate) struct Search {
     pub(crate) bucket: usize,
     pub(crate) stage: Stage,
     pub(crate) path: PathBits,
     pub(crate) count: usize,
-    pub(crate) entry: Label,
+    pub(crate) start: usize,
+    pub(crate) length: usize,
+    pub(crate) key: usize,
 }
 
 // The label of an entry.
@@ -90,6 +102,14 @@ fn place_before(number: usize) -> Option<usize>
     ensures { result ≡ before number }
 {
     number.checked_sub(1)
+}
+
+// The number that is stored for a place (`place_before`).
+fn number_of_place(place: usize) -> usize
+    requires { place ≤ 1048576 }
+    ensures { result ≡ place + 1 }
+{
+    place + 1
 }
 
 // The child of an entry at a branch. Both parts are looked at, so that the processor need not guess which.
@@ -148,48 +168,48 @@ fn mix(hash: Digest, bytes: u64) -> Digest
     let first = hash.first;
     let second = hash.second;
     Digest {
-        first: first % 4294967296 * (2654435761 + 89 * bytes) + (second / 4294967296 + bytes),
-        second: second % 4294967296 * (2246822519 + 113 * bytes) + (first / 4294967296 + bytes),
+        first: first % HALF_WORD * (2654435761 + 89 * bytes) + (second / HALF_WORD + bytes),
+        second: second % HALF_WORD * (2246822519 + 113 * bytes) + (first / HALF_WORD + bytes),
     }
 }
 
-// Three bytes as one number.
-#[tactic(auto, unfolding(crate::specs::Tree::three_bytes))]
-fn three_bytes(three: [u8; 3]) -> u64
-    ensures value { result ≡ three_bytes_of three }
+// Three bytes as one number, the first byte lowest.
+#[tactic(auto, unfolding(crate::specs::Tree::packed_bytes))]
+fn pack_bytes(bytes: [u8; 3]) -> u64
+    ensures value { result ≡ packed_bytes bytes }
     ensures bound { result < 16777216 }
 {
-    u64::from(three[0]) + 256 * u64::from(three[1]) + 65536 * u64::from(three[2])
+    u64::from(bytes[0]) + 256 * u64::from(bytes[1]) + 65536 * u64::from(bytes[2])
 }
 
-fn hash(source: &[u8], label: Label) -> Digest
-    requires { InText source.now label }
-    ensures { result ≡ hash_of (spelled source.now label) }
+// The hash of a part of the source.
+fn hash(source: &[u8], start: usize, length: usize) -> Digest
+    requires { InText source.now (span start «length») }
+    ensures { result ≡ hash_of (spelled source.now (span start «length»)) }
 {
-    let start = label.start;
-    let end = start + label.length;
-    let (threes, rest) = source[start..end].as_chunks::<3>();
+    let end = start + length;
+    let (chunks, rest) = source[start..end].as_chunks::<3>();
     let mut hash = Digest {
         first: 11400714819323198485,
         second: 13787848793156543929,
     };
-    for three in threes {
-        hash = mix(hash, three_bytes(*three));
+    for chunk in chunks {
+        hash = mix(hash, pack_bytes(*chunk));
     }
     for byte in rest {
         hash = mix(hash, u64::from(*byte));
     }
-    // so that the last bytes reach the lowest bits, by which the first branches are chosen
+    // The last bytes reach the lowest bits by this, which choose the first branches.
     mix(hash, 0)
 }
 
-// Advances to the next two path bits.
+// Advances to the next two path bits of a part of the source.
 #[tactic(auto, unfolding(crate::specs::Tree::advanced))]
-fn advance(source: &[u8], label: Label, path: PathBits) -> PathBits
-    requires { InText source.now label }
-    ensures { result ≡ advanced (spelled source.now label) path }
+fn advance(source: &[u8], start: usize, length: usize, path: PathBits) -> PathBits
+    requires { InText source.now (span start «length») }
+    ensures { result ≡ advanced (spelled source.now (span start «length»)) path }
 {
-    let bits = path.bits / 4;
+    let bits = path.bits / BRANCHES;
     let rest = path.rest;
     let used = path.used;
     if 1 < bits {
@@ -202,47 +222,38 @@ fn advance(source: &[u8], label: Label, path: PathBits) -> PathBits
             used,
         };
     }
-    if label.length <= used {
+    if length <= used {
         return PathBits {
-            bits: 256,
+            bits: BYTE_END,
             rest: None,
             used,
         };
     }
-    let at = label.start + used;
+    let at = start + used;
     PathBits {
-        // with a 1 after them
-        bits: 256 + u64::from(source[at]),
+        bits: BYTE_END + u64::from(source[at]),
         rest: None,
         used: used + 1,
     }
 }
 
-// Whether two labels are spelled alike. Equality of labels would compare where they stand.
-fn same_spelling(source: &[u8], a: Label, b: Label) -> bool
-    requires a_in_text { InText source.now a }
-    requires b_in_text { InText source.now b }
-    ensures { result ≡ same (spelled source.now a) (spelled source.now b) }
-{
-    let a_start = a.start;
-    let a_end = a_start + a.length;
-    let b_start = b.start;
-    let b_end = b_start + b.length;
-    text_lexical::bytes::same(&source[a_start..a_end], &source[b_start..b_end])
-}
-
-// Whether an entry is of a label's spelling, given what the label's own entry holds for its length. This is no equality: each entry has
-// children and an address of its own.
+// Whether an entry is of the spelling at a part of the source, given what an entry of this spelling holds for its length. This is no
+// equality of labels: each has a place in the source, children and an address of its own.
 #[tactic(auto, unfolding(crate::specs::Tree::hits))]
-fn hits(source: &[u8], at: Label, key: usize, label: Label) -> bool
-    requires entry_in_text { InText source.now (plain_of at) }
-    requires label_in_text { InText source.now label }
-    ensures { result ≡ hitsOf source.now at key (spelled source.now label) }
+fn hits(source: &[u8], entry: Label, key: usize, start: usize, length: usize) -> bool
+    requires entry_in_text { InText source.now (plain_of entry) }
+    requires part_in_text { InText source.now (span start «length») }
+    requires length_in_key { key % 2097152 ≡ «length» }
+    ensures { result ≡ hitsOf source.now entry key (spelled source.now (span start «length»)) }
 {
-    if at.length != key {
+    if entry.length != key {
         return false;
     }
-    same_spelling(source, plain(at), label)
+    // The entry's spelling has `length` bytes too, since the key holds them.
+    let own_start = plain(entry).start;
+    let own_end = own_start + length;
+    let end = start + length;
+    text_lexical::bytes::same(&source[own_start..own_end], &source[start..end])
 }
 
 // The place of a hash among so many: 32 bits of it, in proportion.
@@ -253,10 +264,10 @@ fn slot(hash: Digest, places: usize) -> usize
     ensures value { result ≡ slot_of hash places }
     ensures below { result < places }
 {
-    (hash.first % 4294967296) as usize * places / 4294967296
+    (hash.first % HALF_WORD) as usize * places / HALF_WORD as usize
 }
 
-// Where a search begins: before the root of its bucket, if it has one.
+// The first state of a search: it is to visit the root of its bucket, if there is one.
 fn first_stage(root: Option<usize>) -> Stage
     ensures { result ≡ first_stage_of root }
 {
@@ -266,7 +277,7 @@ fn first_stage(root: Option<usize>) -> Stage
     }
 }
 
-// The search for a label among others, from the root of its bucket on.
+// A search for a part of the source as a label after `count` others.
 pub(crate) fn begin(
     source: &[u8],
     roots: &[u32],
@@ -278,18 +289,8 @@ pub(crate) fn begin(
     requires rootable { Rootable roots.now }
     ensures { result ≡ begun source.now roots.now count (span start «length») }
 {
-    let label = Label {
-        start,
-        length,
-        address: 0,
-    };
-    let hash = hash(source, label);
+    let hash = hash(source, start, length);
     let second = hash.second;
-    let entry = Label {
-        start,
-        length: length + FIELD * (second as usize / FIELD),
-        address: 0,
-    };
     let path = PathBits {
         bits: PATH_END + hash.first % PATH_END,
         rest: Some(PATH_END + second % PATH_END),
@@ -301,18 +302,19 @@ pub(crate) fn begin(
         stage: first_stage(place_before(roots[bucket] as usize)),
         path,
         count,
-        entry,
+        start,
+        length,
+        key: length + FIELD * (second as usize / FIELD),
     }
 }
 
-// A bucket gets a root: the label that is entered after `count` others. It is stored as the number after its place (`place_before`). The roots
-// are lent, as the table is.
+// A bucket gets a root: the label that is entered after `count` others. The roots are lent, as the table is.
 pub(crate) fn set_root(roots: &mut [u32], bucket: usize, count: usize)
     requires bucket_in_roots { bucket < length roots.old }
     requires count_fits { count ≤ 1048576 }
     ensures { roots.new ≡ set roots.old bucket (count + 1) }
 {
-    roots[bucket] = (count + 1) as u32;
+    roots[bucket] = number_of_place(count) as u32;
 }
 
 // The search after the entry at a place.
@@ -321,26 +323,26 @@ pub(crate) fn visit(source: &[u8], search: Search, at: usize, entry: Label) -> S
     requires { Visitable source.now search entry }
     ensures { result ≡ visited source.now search at entry }
 {
-    let own = search.entry;
+    let start = search.start;
+    let length = search.length;
     let path = search.path;
-    let label = plain(own);
-    if hits(source, entry, own.length, label) {
+    if hits(source, entry, search.key, start, length) {
         return Search {
             stage: Stage::Known(at),
             ..search
         };
     }
-    let branch = path.bits % 4;
+    let branch = path.bits % BRANCHES;
     match link(entry, branch) {
         Some(child) => Search {
             stage: Stage::At(child),
-            path: advance(source, label, path),
+            path: advance(source, start, length, path),
             ..search
         },
         None => {
             let parent = Parent {
                 place: at,
-                entry: linked(entry, branch, search.count + 1),
+                entry: linked(entry, branch, number_of_place(search.count)),
             };
             Search {
                 stage: Stage::Missing(Some(parent)),
@@ -360,9 +362,14 @@ pub(crate) fn found(search: Search) -> Result<usize, Gap>
         Stage::At(_) => None,
         Stage::Missing(parent) => parent,
     };
+    let entry = Label {
+        start: search.start,
+        length: search.key,
+        address: 0,
+    };
     Err(Gap {
         bucket: search.bucket,
-        entry: search.entry,
+        entry,
         parent,
     })
 }

@@ -5,7 +5,7 @@ use native.Mathlib.Omega.{arith}
 use mathlib.Core.Bool.{true, false, not, and-eq-true_iff, true≢false}
 use mathlib.Core.Option.{Option, none, some}
 use mathlib.Core.List.{List, [], ◌∷◌, map}
-use lib.ListN.{length, take, drop, get_or, length-take, length-drop, get_or-eq_default}
+use lib.ListN.{length, take, drop, get_or, length-take, get_or-eq_default}
 use lib.Seq.{take_all, get_or-take, get_or-drop}
 use lib.Dec.{eqb}
 use borrow.Author.Tests.{eq-eqb, ne_eqb, eqb-true}
@@ -18,14 +18,12 @@ use Rattle.text_lexical.specs.Words.{word_end, part, WordIs}
 use Rattle.text_lexical.specs.declared.name.Word.{Word}
 use Rattle.text_lexical.specs.declared.name.RegisterName.{RegisterName}
 use Rattle.text_lexical.specs.declared.name.RegisterName.TheVariants.{Is, NoSuch, Other}
-use Rattle.text_lexical.proofs.Naming.{long-none}
 use Rattle.text_lexical.proofs.Keys.{Below, lowered-below}
 use Rattle.text_lexical.proofs.Tests.{split, no_both}
 use Rattle.text_lexical.proofs.Strings.{same-eq, found}
 use Rattle.text.specs.Tokens.{Token, identifier, register, number, hex, binary, directive, comma, colon, opening, closing, infront, tokens}
 use Rattle.text.specs.Lines.{Line, kept, line_of, record_of, read_line}
 use Rattle.text.specs.NameSets.{Naming}
-use Rattle.text.proofs.NameSets.{present-naming}
 use Rattle.text.specs.Places.{rest_at, left_at, end_at, StartsAt}
 use Rattle.text.specs.declared.lexer.Kind.TheVariants.{Identifier}
 use Rattle.text.proofs.Left.{start-solid}
@@ -40,7 +38,8 @@ use Rattle.instruction.proofs.Lookup.{row-by-key}
 use Rattle.instruction_operands.proofs.Line.{six-places}
 use Rattle.instruction.specs.Kinds.{plain, identifier_kind, kind_of}
 use Rattle.image.specs.Assembling.{Context, nothing, codes, coding, after_label, read_kind, read_on}
-use Rattle.image_line.specs.Promised.{Reads, TailIs, is_label, Labels, OptionalLabel, WordAfter, EffectSettled, read_meant, label_length, end_of, LineIs, ReadsAs}
+use Rattle.image_line.specs.Promised.{Reads, TailIs, is_label, Labels, OptionalLabel, WordHere, FirstWordIs, EffectSettled, read_meant, label_length, end_of, LineIs, ReadsAs}
+use Rattle.image_line.specs.declared.fast.FirstWord.{FirstWord}
 use Rattle.image_line.specs.declared.line.Effect.TheVariants.{Nothing, Codes}
 use Rattle.image_line.specs.declared.line.Read.{Read}
 use Rattle.image_line.proofs.Answers.{answered}
@@ -111,25 +110,20 @@ module _ (names : List Name) (s : List ℕ) (at end : ℕ) where
   pub no_byte : length s ≤ end → false ≡ is_label names s at end
   no_byte h = no_colon (λ e. let z : get_or s end 0 ≡ 0 = get_or-eq_default s 0 {n = end} h in omega arith)
 
-  pub no_name : get_or s end 0 ≡ 58 → name_number (named names (part s at (end - at))) ≡ none → true ≡ is_label names s at end
+  no_name : get_or s end 0 ≡ 58 → name_number (named names (part s at (end - at))) ≡ none → true ≡ is_label names s at end
   unfolding is_label is_some
   no_name c n = sym (rw (is_label, c, n))
 
-  -- A word that is longer than any name.
-  pub long_word : names ≡ present → get_or s end 0 ≡ 58 → end ≤ length s → 4 < end - at → true ≡ is_label names s at end
-  long_word e c h l =
-      no_name c (rw e (long-none (part s at (end - at)) (omega (arith, length-take (end - at) (drop at s), length-drop at s))))
-
-  pub a-name : (o : Option ℕ) → get_or s end 0 ≡ 58 → name_number (named names (part s at (end - at))) ≡ some o → false ≡ is_label names s at end
+  a-name : (o : Option ℕ) → get_or s end 0 ≡ 58 → name_number (named names (part s at (end - at))) ≡ some o → false ≡ is_label names s at end
   unfolding is_label is_some
   a-name o c n = sym (rw (is_label, c, n))
 
--- The name that the code finds in a word after which a colon stands.
-pub found_name : (s : List ℕ) (at end : ℕ) (r : RegisterName) → get_or s end 0 ≡ 58 → name_meant r ≡ name_number (named present (part s at (end - at)))
-    → (r ≡ Other → true ≡ is_label present s at end) × ((r ≡ Other → ⊥) → false ≡ is_label present s at end)
-found_name s at end Other c e = (λ h. no_name present s at end c (sym e), λ h. absurd (h refl))
-found_name s at end (Is r) c e = (λ h. let z : ◌≡◌ {A = ℕ} 0 1 = cc in absurd (omega arith), λ h. a-name present s at end _ c (sym e))
-found_name s at end NoSuch c e = (λ h. let z : ◌≡◌ {A = ℕ} 0 1 = cc in absurd (omega arith), λ h. a-name present s at end _ c (sym e))
+-- The name that is found in a word after which a colon stands.
+pub found_name : (names : List Name) (s : List ℕ) (at end : ℕ) (r : RegisterName) → get_or s end 0 ≡ 58 → name_meant r ≡ name_number (named names (part s at (end - at)))
+    → (r ≡ Other → true ≡ is_label names s at end) × ((r ≡ Other → ⊥) → false ≡ is_label names s at end)
+found_name names s at end Other c e = (λ h. no_name names s at end c (sym e), λ h. absurd (h refl))
+found_name names s at end (Is r) c e = (λ h. let z : ◌≡◌ {A = ℕ} 0 1 = cc in absurd (omega arith), λ h. a-name names s at end _ c (sym e))
+found_name names s at end NoSuch c e = (λ h. let z : ◌≡◌ {A = ℕ} 0 1 = cc in absurd (omega arith), λ h. a-name names s at end _ c (sym e))
 
 no_number : (o : Option (Option ℕ)) → not (is_some o) ≡ true → o ≡ none
 unfolding is_some
@@ -144,23 +138,11 @@ is-label-reads names ok s at end l start ends h =
     let inside_text : end < length s = split end (length s) (λ i. i) (λ i. no_both h (sym (no_byte names s at end i))) in
     (inside_text, label-reads s at end l start ends names ok inside_text (eqb-true (get_or s end 0) 58 c) (no_number _ n))
 
--- A word and the colon after it stand within the text.
+-- A word stands within the text.
 pub word_bounds : (s : List ℕ) (at : ℕ) (w : Word) → WordIs s at w → at < length s → name_start (get_or s at 0) ≡ true → (at < w.end) × (w.end ≤ length s)
 word_bounds s at w h l b = (word_some s at w.end l b h.ends, word_in s at w.end l b h.ends)
 
-pub label_bound : (s : List ℕ) (at : ℕ) (w : Word) → WordIs s at w → at < length s → name_start (get_or s at 0) ≡ true → is_label present s at w.end ≡ true → w.end < length s
-label_bound s at w h l b i = (is-label-reads present present-naming s at w.end l b h.ends i).0
-
--- The first word of a line, its label aside, whose key is a mnemonic's.
-pub word_row : {names : List Name} {s : List ℕ} {start key end : ℕ} {p : Maybe ℕ} (w : WordAfter names s start p key end) → Naming names → NoMnemonics names → Below s → (m : Mnemonic)
-    → some (row_of m) ≡ find (λ q. eqb (packed q.mnemonic) key) table
-    → (row_named (map lower (part s w.at (end - w.at))) ≡ some (row_of m)) × Reads names s w.at (identifier (part s w.at (end - w.at))) end
-word_row {names} {s} {key = key} {end = end} w ok free below m found_it = mnemonic-reads s w.at end w.in_text w.begins w.word.ends names ok free key m below w.word.key_is found_it
-
-pub word-ends : {names : List Name} {s : List ℕ} {start key end : ℕ} {p : Maybe ℕ} → WordAfter names s start p key end → end ≤ length s
-word-ends {s = s} {end = end} w = word_in s w.at end w.in_text w.begins w.word.ends
-
--- ---- the turns of the loop
+-- ---- the words of the loop
 
 -- Where nothing stands before the first word, a label there is the line's, and blanks after it are skipped.
 pub after-label : (names : List Name) (s : List ℕ) (start at end next : ℕ) → at ≡ start → at < end → Labels names s at end (end + 1)
@@ -221,12 +203,12 @@ unfolding line_of
 kept-all ts h = rw (take_all kept ts h)
 
 -- A line by its tokens.
-tokens-line : (names : List Name) (s : List ℕ) (start : ℕ) (ts : List Token) → StartsAt s start → tokens names (left_at s start) ≡ some ts → length ts ≤ 9
+tokens-line : (names : List Name) (s : List ℕ) (start : ℕ) (ts : List Token) → StartsAt s start → tokens names (left_at s start) ≡ some ts → length ts ≤ kept
     → read_line names (rest_at s start) ≡ some (record { count = length ts; first = ts })
 unfolding record_of
 tokens-line names s start ts q e h = content-reads names s start q ∙ rw e (ap some (kept-all ts h))
 
--- A token more in front of others.
+-- A token before others.
 one_more_lem : {o p : Option (List Token)} {t : Token} {ts : List Token} → o ≡ infront t p → p ≡ some ts → o ≡ some (t ∷ ts)
 unfolding infront
 one_more_lem {t = t} e h = e ∙ ap (infront t) h
@@ -318,10 +300,11 @@ module _ (names : List Name) (s : List ℕ) (start : ℕ) (q : StartsAt s start)
       (tokens-line names s start (identifier v ∷ colon ∷ identifier u ∷ ts) q t (omega (arith, w.few)))
       (sym (read-labelled c m o u ts w v)) refl (tail.ends ∙ rd.ends ∙ is.mark.ends ∙ is.name.ends) is.name.in_text w.settled
 
-  -- The same by the line's first word and the mnemonic that its key is found at.
-  pub word_line : {p : Maybe ℕ} {key end : ℕ} → WordAfter names s start p key end → Naming names → NoMnemonics names → Below s → (m : Mnemonic)
-      → some (row_of m) ≡ find (λ q. eqb (packed q.mnemonic) key) table → (o : Kept) (e : ℕ) → TailIs names s end (row_of m).form o e
-      → ReadsAs names s start (record { start = start; label = p; effect = Ok (Codes m o); end = e })
-  word_line {p} {key} {end} w ok free below m found_it o e tail =
-      let (named-is, rd) = word_row w ok free below m found_it in
-      instruction-line p w.at end m _ o e w.label named-is rd tail
+  -- The same by what the line begins with, and the mnemonic that the key of its word is found at.
+  pub word_line : {f : FirstWord} {w : Word} {key : ℕ} → FirstWordIs names s start f → f.word ≡ Some w → w.key ≡ Some key → Naming names → NoMnemonics names → Below s → (m : Mnemonic)
+      → some (row_of m) ≡ find (λ q. eqb (packed q.mnemonic) key) table → (o : Kept) (e : ℕ) → TailIs names s w.end (row_of m).form o e
+      → ReadsAs names s start (record { start = start; label = f.label; effect = Ok (Codes m o); end = e })
+  word_line {f} {w} {key} first is k ok free below m found_it o e tail =
+      let here : WordHere s f.at w = rw is at first.word in
+      let (named-is, rd) = mnemonic-reads s f.at w.end here.in_text here.begins here.word.ends names ok free key m below (sym k ∙ here.word.key_is) found_it in
+      instruction-line f.label f.at w.end m _ o e first.label named-is rd tail

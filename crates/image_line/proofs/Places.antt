@@ -1,5 +1,5 @@
 -- A token at a place of a line, as the fast path finds it.
-use Prim.Native.Nat.{ℕ, suc, ◌+◌, ◌-◌, ◌≤◌, ◌<◌}
+use Prim.Native.Nat.{ℕ, suc, ◌+◌, ◌-◌, ◌<◌}
 use mathlib.Core.Path.{◌≡◌, refl, sym, ap, ◌∙◌}
 use native.Mathlib.Omega.{arith}
 use native.Mathlib.Numerals.{add-one}
@@ -7,43 +7,36 @@ use mathlib.Core.Bool.{true}
 use mathlib.Core.Option.{Option, none, some}
 use mathlib.Core.List.{List, [], ◌∷◌}
 use lib.ListN.{length, take, drop, get_or, length-drop}
-use Rattle.std.specs.Prelude.{Some, None, Ok}
-use Rattle.std.specs.Prelude.{Option as Maybe}
-use Rattle.text_lexical.specs.Bytes.{between, letter, digit, mark, name_start, name_part, blank, inside, every, before, run, is_some}
+use Rattle.std.specs.Prelude.{Some}
+use Rattle.text_lexical.specs.Bytes.{digit, mark, name_start, name_part, blank, inside, every, before, run, is_some}
 use Rattle.text_lexical.specs.Names.{Name}
 use Rattle.text_lexical.specs.Promised.{index_of, name_number}
 use Rattle.text_lexical.specs.Words.{RegisterWordIs}
 use Rattle.text_lexical.specs.declared.name.RegisterName.TheVariants.{Is as Named}
 use Rattle.text_lexical.specs.declared.name.RegisterWord.{RegisterWord}
-use Rattle.text_lexical.specs.declared.number.Whole.{Whole}
 use Rattle.text_lexical.proofs.Tests.{both, or_left}
 use Rattle.text_lexical.proofs.Strings.{every-mono, every-run, take-run, run-yes, run-le}
 use Rattle.text.specs.Tokens.{Token, register, is_identifier, is_register, comma, colon, opening, closing, mark_token, infront, tokens}
 use Rattle.text.specs.NameSets.{Naming}
 use Rattle.text.specs.Places.{left_at, end_at}
-use Rattle.text.specs.Promised.{meant, spelling, extracted, ending_at, scan_at, token_at, number_start, NoWord}
+use Rattle.text.specs.Promised.{meant, spelling, number_at, ending_at, scan_at}
 use Rattle.text.specs.declared.lexer.Token.{Token as KeptToken}
 use Rattle.text.specs.declared.lexer.Kind.TheVariants.{Register as RegisterKind, Comma, Colon, LParen, RParen}
 use Rattle.text.specs.declared.lexer.Scan.TheVariants.{Found}
+use Rattle.text.specs.declared.parser.NumberAt.{NumberAt}
 use Rattle.text.proofs.Scanning.{register-identifier}
-use Rattle.text.proofs.Left.{start-solid, blank-inside, blanks_at, none_read, end_on}
+use Rattle.text.proofs.Left.{blank-inside, blanks_at, none_read, end_on}
 use Rattle.text.proofs.Endings.{ending-is}
 use Rattle.text.proofs.Fronts.{part-cons, word_at}
 use Rattle.text.proofs.Meanings.{extracted-for}
+use Rattle.text.proofs.Numbers.{number-found}
 use Rattle.instruction.proofs.Results.{extracted-is}
-use Rattle.text.proofs.Stepping.{solid-step, mark-step, number_step, blank_step, stepped}
+use Rattle.text.proofs.Stepping.{mark-step, token_step, blank_step, stepped}
 use Rattle.instruction.specs.Table.{Separator, a-comma, an-opening, a-closing}
 use Rattle.instruction.specs.Operands.{mark_byte, separator_byte}
 use Rattle.instruction.specs.declared.form.Mark.{Mark}
 use Rattle.instruction_operands.specs.Sources.{Separates, NumberIn}
 use Rattle.image_line.specs.Promised.{Reads}
-
--- A value that is there is no other, and one that is missing is none.
-pub some-same : {A : Type 0} {a b : A} → Some a ≡ Some b → a ≡ b
-some-same e = cc
-
-pub not-some {ℓ} : {X : Type ℓ} {A : Type 0} {a : A} → ◌≡◌ {A = Maybe A} None (Some a) → X
-not-some e = let z : ◌≡◌ {A = ℕ} 0 1 = cc in absurd (omega arith)
 
 -- ---- what a scan finds
 
@@ -88,52 +81,42 @@ unfolding name_part
 word-goes s at l h = rw (add-one at) (run-yes name_part s at l (or_left (name_start (get_or s at 0)) (digit (get_or s at 0)) h))
 
 -- A word past blanks that names a register.
-pub register-reads : (names : List Name) (ok : Naming names) (s : List ℕ) (from at : ℕ) (r : RegisterWord) → from ≤ length s → at ≡ from + run blank (drop from s) → RegisterWordIs names s at (Some r)
+pub register-reads : (names : List Name) (ok : Naming names) (s : List ℕ) (from at : ℕ) (r : RegisterWord) → at ≡ from + run blank (drop from s) → RegisterWordIs names s at (Some r)
     → Reads names s from (register (some (index_of r.register))) r.end
 unfolding is_register
-register-reads names ok s from at r fl q (room, g, m, n) =
+register-reads names ok s from at r q (room, g, m, n) =
     let e = r.end in
     let l : at < length s = omega (arith, run-le name_part (drop at s), length-drop at s) in
     let i = register-identifier names ok.identifiers (take (e - at) (drop at s)) (some-named _ _ n) in
     let b = identifier-start (get_or s at 0) _ (rw (part-cons s at e g l) at i) in
     let w = word_at names ok s at e (Named r.register) l b (omega (arith, word-goes s at l b)) (sym n) in
-    stepped-reads names ok s from (record { kind = RegisterKind r.register; start = at; length = e - at }) e (blank_step names s from at _ fl q l (solid-step names s at _ l (start-solid _ b) w))
+    stepped-reads names ok s from (record { kind = RegisterKind r.register; start = at; length = e - at }) e (token_step names s from at _ e q w)
 
 -- ---- numbers
 
-pub number-reads : (names : List Name) (ok : Naming names) (s : List ℕ) (from at : ℕ) → from ≤ length s → at ≡ from + run blank (drop from s) → at < length s
-    → number_start (get_or s at 0) ≡ true → (t : KeptToken) (next : ℕ) → Found t next ≡ token_at names s at → (w : Whole) → Ok w ≡ extracted t.kind → (k : Token) × NumberIn w k × Reads names s from k next
-number-reads names ok s from at fl q l b t next f w e =
-    let (z, (v, k)) = extracted-is _ (e ∙ extracted-for t.kind (spelling s t)) in
-    (_, record { number = z; means = v; settled = k }, stepped-reads names ok s from t next (blank_step names s from at _ fl q l (number_step names s at _ l b f)))
+pub number-reads : (names : List Name) (ok : Naming names) (s : List ℕ) (from at : ℕ) → at ≡ from + run blank (drop from s) → (n : NumberAt) → Some n ≡ number_at names s at
+    → (k : Token) × NumberIn n.number k × Reads names s from k n.end
+number-reads names ok s from at q n e =
+    let (t, f, w) = number-found names s at n e in
+    let (z, (v, k)) = extracted-is _ (w ∙ extracted-for t.kind (spelling s t)) in
+    (_, record { number = z; means = v; settled = k }, stepped-reads names ok s from t n.end (token_step names s from at t n.end q f))
 
 -- ---- marks
 
-mark-plain : (m : Separator) → NoWord (separator_byte m)
-unfolding blank name_start letter digit between number_start
-mark-plain a-comma = record { no_blank = refl; no_start = refl; no_number = refl; no_dot = λ h. absurd (omega arith) }
-mark-plain an-opening = record { no_blank = refl; no_start = refl; no_number = refl; no_dot = λ h. absurd (omega arith) }
-mark-plain a-closing = record { no_blank = refl; no_start = refl; no_number = refl; no_dot = λ h. absurd (omega arith) }
-
--- A colon.
-colon-plain : NoWord 58
-unfolding blank name_start letter digit between number_start
-colon-plain = record { no_blank = refl; no_start = refl; no_number = refl; no_dot = λ h. absurd (omega arith) }
-
 pub colon-reads : (names : List Name) (ok : Naming names) (s : List ℕ) (at : ℕ) → at < length s → get_or s at 0 ≡ 58 → Reads names s at colon (at + 1)
 unfolding mark mark_token
-colon-reads names ok s at l b = stepped-reads names ok s at _ (at + 1) (mark-step names ok s at Colon colon l (rw b colon-plain) (rw b) (rw b) (λ u. refl) (λ u. refl))
+colon-reads names ok s at l b = stepped-reads names ok s at _ (at + 1) (mark-step names ok s at Colon colon l (rw b) (rw b) (λ u. refl) (λ u. refl))
 
 -- The mark that follows an operand is one of three.
-module _ (names : List Name) (ok : Naming names) (s : List ℕ) (from at : ℕ) (fl : from ≤ length s) (q : at ≡ from + run blank (drop from s)) (l : at < length s) where
+module _ (names : List Name) (ok : Naming names) (s : List ℕ) (from at : ℕ) (q : at ≡ from + run blank (drop from s)) (l : at < length s) where
   place-reads : (m : Separator) → get_or s at 0 ≡ separator_byte m → (k : Token) × (mark_byte k ≡ separator_byte m) × Reads names s from k (at + 1)
   unfolding mark mark_token mark_byte
   place-reads a-comma b =
-      (comma, refl, stepped-reads names ok s from _ (at + 1) (blank_step names s from at _ fl q l (mark-step names ok s at Comma comma l (rw b (mark-plain a-comma)) (rw b) (rw b) (λ u. refl) (λ u. refl))))
+      (comma, refl, stepped-reads names ok s from _ (at + 1) (blank_step names s from at _ q (mark-step names ok s at Comma comma l (rw b) (rw b) (λ u. refl) (λ u. refl))))
   place-reads an-opening b =
-      (opening, refl, stepped-reads names ok s from _ (at + 1) (blank_step names s from at _ fl q l (mark-step names ok s at LParen opening l (rw b (mark-plain an-opening)) (rw b) (rw b) (λ u. refl) (λ u. refl))))
+      (opening, refl, stepped-reads names ok s from _ (at + 1) (blank_step names s from at _ q (mark-step names ok s at LParen opening l (rw b) (rw b) (λ u. refl) (λ u. refl))))
   place-reads a-closing b =
-      (closing, refl, stepped-reads names ok s from _ (at + 1) (blank_step names s from at _ fl q l (mark-step names ok s at RParen closing l (rw b (mark-plain a-closing)) (rw b) (rw b) (λ u. refl) (λ u. refl))))
+      (closing, refl, stepped-reads names ok s from _ (at + 1) (blank_step names s from at _ q (mark-step names ok s at RParen closing l (rw b) (rw b) (λ u. refl) (λ u. refl))))
 
   pub mark-reads : (m : Mark) → Separates m → get_or s at 0 ≡ m.byte → (k : Token) × (mark_byte k ≡ m.byte) × Reads names s from k (at + 1)
   mark-reads m (k, e) b = rw e (place-reads k (rw e at b))

@@ -12,13 +12,13 @@ use Rattle.std.specs.Prelude.{Some, None, Ok, Err}
 use Rattle.std.specs.Prelude.{Option as Maybe, Result as Answer}
 use Rattle.refusal.specs.declared.refusal.Refusal.{Refusal}
 use Rattle.text_lexical.specs.Bytes.{Result, bytes, same}
-use Rattle.text_lexical.specs.Names.{present}
+use Rattle.text_lexical.specs.Names.{Name}
 use Rattle.text_lexical.proofs.Tests.{split}
 use Rattle.text.specs.Tokens.{identifier, register, number, hex, binary, directive, comma, colon, opening, closing}
 use Rattle.text.specs.Tokens.{Token as Meant}
 use Rattle.text.specs.Lines.{kept, read_line}
 use Rattle.text.specs.Lines.{Line as Record}
-use Rattle.text.proofs.NameSets.{present-naming}
+use Rattle.text.specs.NameSets.{Naming}
 use Rattle.text.specs.Places.{rest_at, StartsAt}
 use Rattle.text.specs.Promised.{kind_meant, filler, firsts, meant, spelling, record_at}
 use Rattle.text.specs.declared.lexer.Kind.{Kind as TokenKind}
@@ -42,9 +42,9 @@ use Rattle.image_line.proofs.Starts.{starts-here}
 
 -- ---- the tokens of a record
 
-pub recorded : {s : List ℕ} (from : ℕ) {l : Line} → Ok l ≡ record_at present s from → Recorded s l
-recorded {s} from {l} e =
-    let r = (line_read_lem present present-naming s from (Ok l) e).places in
+pub recorded : {names : List Name} → Naming names → {s : List ℕ} (from : ℕ) {l : Line} → Ok l ≡ record_at names s from → Recorded s l
+recorded {names} ok {s} from {l} e =
+    let r = (line_read_lem names ok s from (Ok l) e).places in
     record { kept = record { places = r.places; inside_text = r.inside_text }; solid = r.solid }
 
 -- What an array of tokens is read as past its end; the token that the code reads at one of the first two places.
@@ -216,61 +216,61 @@ two_tokens s {u} l e =
 
 -- ---- the line at a place
 
-module _ {s : List ℕ} {start : ℕ} (starts : StartsAt s start) where
+module _ {names : List Name} (ok : Naming names) {s : List ℕ} {start : ℕ} (starts : StartsAt s start) where
   -- A line with a bad token.
-  pub line_bad : {c : Context} {r : Refusal} → Err r ≡ record_at present s start → LineIs present s start c (record { start = start; label = None; effect = Err r; end = start })
+  pub line_bad : {c : Context} {r : Refusal} → Err r ≡ record_at names s start → LineIs names s start c (record { start = start; label = None; effect = Err r; end = start })
   unfolding read_on end_of
   line_bad {c} {r} e =
-      let h : LineRead present s start (Err r) = line_read_lem present present-naming s start (Err r) e in
-      let q : read_line present (rest_at s start) ≡ none = h.means in
-      answered present s start c (record { start = start; label = None; effect = Err r; end = start }) (rw q (rw h.places)) (starts-here starts)
+      let h : LineRead names s start (Err r) = line_read_lem names ok s start (Err r) e in
+      let q : read_line names (rest_at s start) ≡ none = h.means in
+      answered names s start c (record { start = start; label = None; effect = Err r; end = start }) (rw q (rw h.places)) (starts-here starts)
       (rw (end_of, q) (starts-here starts)) (omega (arith, starts.in_text)) tt
 
-  module _ {l : Line} (is : Ok l ≡ record_at present s start) where
-    h : LineRead present s start (Ok l)
-    h = line_read_lem present present-naming s start (Ok l) is
+  module _ {l : Line} (is : Ok l ≡ record_at names s start) where
+    h : LineRead names s start (Ok l)
+    h = line_read_lem names ok s start (Ok l) is
 
     module _ {c : Context} where
       -- A line of a kind, by what it does and by its label, if it has one.
       module _ {k : Kind} (kind-is : k ≡ kind_of (firsts s l.tokens l.count)) where
         line-kind : (n : Maybe ℕ) (e : Answer Effect Refusal) → record { label = label_meant s start n; effect = effect_meant e } ≡ read_kind c (record_meant s l) k
-            → start + label_length n ≤ length s → EffectSettled e → LineIs present s start c (record { start = start; label = n; effect = e; end = l.end })
+            → start + label_length n ≤ length s → EffectSettled e → LineIs names s start c (record { start = start; label = n; effect = e; end = l.end })
         unfolding read_on end_of
         line-kind n e q inside settled =
-            let means : read_line present (rest_at s start) ≡ some (record_meant s l) = h.means in
-            answered present s start c (record { start = start; label = n; effect = e; end = l.end }) (rw means (q ∙ ap (read_kind c (record_meant s l)) kind-is)) (starts-here starts)
+            let means : read_line names (rest_at s start) ≡ some (record_meant s l) = h.means in
+            answered names s start c (record { start = start; label = n; effect = e; end = l.end }) (rw means (q ∙ ap (read_kind c (record_meant s l)) kind-is)) (starts-here starts)
             (rw (end_of, means) h.places.ends) inside settled
 
         -- without one
         line-bare : {e : Answer Effect Refusal} {m : MeantEffect} → EffectIs e m → record { label = none; effect = m } ≡ read_kind c (record_meant s l) k
-            → LineIs present s start c (record { start = start; label = None; effect = e; end = l.end })
+            → LineIs names s start c (record { start = start; label = None; effect = e; end = l.end })
         line-bare {e} q b = line-kind None e (ap (λ (x : MeantEffect). record { label = none; effect = x }) q.means ∙ b) (omega (arith, starts.in_text)) q.settled
 
       -- An empty line, and a directive that does nothing.
-      pub line_empty : empty ≡ kind_of (firsts s l.tokens l.count) → LineIs present s start c (record { start = start; label = None; effect = Ok Nothing; end = l.end })
+      pub line_empty : empty ≡ kind_of (firsts s l.tokens l.count) → LineIs names s start c (record { start = start; label = None; effect = Ok Nothing; end = l.end })
       unfolding read_kind
       line_empty k = line-bare k (record { means = refl; settled = tt }) refl
 
-      pub line_ignored : ignored ≡ kind_of (firsts s l.tokens l.count) → LineIs present s start c (record { start = start; label = None; effect = Ok Nothing; end = l.end })
+      pub line_ignored : ignored ≡ kind_of (firsts s l.tokens l.count) → LineIs names s start c (record { start = start; label = None; effect = Ok Nothing; end = l.end })
       unfolding read_kind
       line_ignored k = line-bare k (record { means = refl; settled = tt }) refl
 
       -- A `.config` line.
       pub line_config : {e : Answer Effect Refusal} → config ≡ kind_of (firsts s l.tokens l.count) → EffectIs e (setting (configured c.setup (record_meant s l)))
-          → LineIs present s start c (record { start = start; label = None; effect = e; end = l.end })
+          → LineIs names s start c (record { start = start; label = None; effect = e; end = l.end })
       unfolding read_kind
       line_config k q = line-bare k q refl
 
       -- An instruction.
       pub line_plain : {e : Answer Effect Refusal} → plain ≡ kind_of (firsts s l.tokens l.count) → EffectIs e (coding (read_instruction (behind 0 (record_meant s l))))
-          → LineIs present s start c (record { start = start; label = None; effect = e; end = l.end })
+          → LineIs names s start c (record { start = start; label = None; effect = e; end = l.end })
       unfolding read_kind
       line_plain k q = line-bare k q (ap (λ (x : Result Instruction). record { label = none; effect = coding x }) (behind-none (record_meant s l)))
 
       -- A line that begins with a label: its first token stands where its content starts.
       pub line_labelled : {e : Answer Effect Refusal} → labelled (spelling s (get_or l.tokens 0 filler)) ≡ kind_of (firsts s l.tokens l.count)
           → EffectIs e (after_label (behind 2 (record_meant s l)))
-          → LineIs present s start c (record { start = start; label = Some (get_or l.tokens 0 past).length; effect = e; end = l.end })
+          → LineIs names s start c (record { start = start; label = Some (get_or l.tokens 0 past).length; effect = e; end = l.end })
       unfolding read_kind
       line_labelled {e} k q =
           let t = get_or l.tokens 0 filler in

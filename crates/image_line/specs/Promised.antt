@@ -1,23 +1,23 @@
 -- What the line at a place of a source reads as, and what the functions that read it promise. `LineIs` is the promise of the one public
 -- function; the other sections are about the two private ways to it, from the line's bytes at once and by the record of its tokens. Where
 -- the first finds something else at a place, nothing is promised of that answer: the record decides. Quotations are document 01's.
-use Rattle.std.specs.Prelude.{ℕ, ◌+◌, ◌-◌, ◌≤◌, ◌<◌, ◌≡◌, Bool, true, not, ◌&&◌, eqb, List, [], ◌∷◌, length, get_or, Some, None, Ok, Err}
+use Rattle.std.specs.Prelude.{ℕ, ◌+◌, ◌-◌, ◌≤◌, ◌<◌, ◌≡◌, Bool, true, false, not, ◌&&◌, eqb, ltb, List, [], ◌∷◌, length, get_or, Some, None, Ok, Err}
 use Rattle.std.specs.Prelude.{Option as Maybe, Result as Answer}
 use Rattle.std.proofs.Math.Option.{Option, none, some}
 use Rattle.text_lexical.specs.Bytes.{value, name_start, is_some}
 use Rattle.text_lexical.specs.Names.{Name, named}
 use Rattle.text_lexical.specs.Promised.{name_number}
 use Rattle.text_lexical.specs.Words.{part, WordIs}
+use Rattle.text_lexical.specs.declared.name.Word.{Word}
 use Rattle.text.specs.Tokens.{Token, identifier, colon, infront, tokens}
 use Rattle.text.specs.Lines.{indent, kept as most-kept, read_line}
 use Rattle.text.specs.Places.{rest_at, left_at, end_at}
-use Rattle.text.specs.Promised.{filler, spelling}
+use Rattle.text.specs.Promised.{filler, spelling, Kept}
 use Rattle.text.specs.declared.parser.Line.{Line as Record}
 use Rattle.instruction.specs.Table.{places, Form}
 use Rattle.instruction.specs.Operands.{read_operands}
 use Rattle.instruction.specs.Promised.{mnemonic_for, operands_meant, operands_for, SettledFor, parts_meant, Settled}
 use Rattle.instruction.specs.declared.instruction.Operands.{Operands}
-use Rattle.instruction_operands.specs.Promised.{Kept}
 use Rattle.instruction.specs.Kinds.{Kind, empty, labelled, config, ignored, plain}
 use Rattle.refusal.specs.Refusals.{number_of, refusal_at}
 use Rattle.refusal.specs.declared.refusal.Refusal.{Refusal}
@@ -91,26 +91,21 @@ abbrev pub OptionalLabel : List Name → List ℕ → ℕ → Maybe ℕ → ℕ 
 OptionalLabel names s start None at = at ≡ start
 OptionalLabel names s start (Some n) at = Labels names s start (start + n) at
 
--- The first word of a line, its label aside;
-pub record WordAfter (names : List Name) (s : List ℕ) (start : ℕ) (l : Maybe ℕ) (key end : ℕ) : Type 0 where
-  pub at : ℕ
-  pub label : OptionalLabel names s start l at
+-- A word begins at a place, and it is this one.
+pub record WordHere (s : List ℕ) (at : ℕ) (w : Word) : Type 0 where
   pub in_text : at < length s
   pub begins : name_start (get_or s at 0) ≡ true
-  pub word : WordIs s at (record { key = Some key; end = end })
+  pub word : WordIs s at w
 
--- or the place where none with a key begins.
-pub record NoWordAfter (names : List Name) (s : List ℕ) (start : ℕ) (l : Maybe ℕ) (at : ℕ) : Type 0 where
-  pub label : OptionalLabel names s start l at
-  pub in_text : at ≤ length s
+-- The word that is found at a place, if one is.
+abbrev pub WordIf : List ℕ → ℕ → Maybe Word → Type 0
+WordIf s at (Some w) = WordHere s at w
+WordIf s at None = at ≤ length s
 
--- By the key of a word, if one with a key begins there.
-abbrev pub WordIf : List Name → List ℕ → ℕ → Maybe ℕ → Maybe ℕ → ℕ → Type 0
-WordIf names s start l (Some key) end = WordAfter names s start l key end
-WordIf names s start l None at = NoWordAfter names s start l at
-
-abbrev pub FirstWordIs : List Name → List ℕ → ℕ → FirstWord → Type 0
-FirstWordIs names s start w = WordIf names s start w.label w.key w.end
+-- The label of a line, if it has one, and the first word after it.
+pub record FirstWordIs (names : List Name) (s : List ℕ) (start : ℕ) (w : FirstWord) : Type 0 where
+  pub label : OptionalLabel names s start w.label w.at
+  pub word : WordIf s w.at w.word
 
 -- ---- what a line reads as
 
@@ -152,6 +147,10 @@ read_meant s r = record { label = label_meant s r.start r.label; effect = effect
 -- Where the line at a place ends; a bad token leaves that open, and the start of its content is answered.
 unfoldable pub end_of : List Name → List ℕ → ℕ → ℕ
 end_of names s from = elim (read_line names (rest_at s from)) [ none ↦ from + indent (rest_at s from) | some l ↦ end_at s from ]
+
+-- Where the line after one that ends at a place begins, if one follows, in a source of so many bytes.
+abbrev pub next_line : ℕ → ℕ → Maybe ℕ
+next_line size end = elim (ltb end size) [ true ↦ Some (end + 1) | false ↦ None ]
 
 -- ---- the answer
 

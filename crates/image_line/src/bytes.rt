@@ -1,10 +1,10 @@
 // The bytes of a line as operands are read from them: a register, a number or a mark, past blanks. Anything else is left to the record of the
 // line's tokens.
-ghost use Rattle.std.specs.Prelude.{◌≤◌, length};
+ghost use Rattle.std.specs.Prelude.{◌≡◌, ◌+◌, ◌≤◌, length, drop};
+ghost use Rattle.text_lexical.specs.Bytes.{blank, run};
 
 use instruction::form::Mark;
 use instruction_operands::source::OperandSource;
-use text::lexer::Scan;
 use text_lexical::bytes::Blank;
 use text_lexical::number::Whole;
 use text_lexical::register::Register;
@@ -15,6 +15,15 @@ pub(crate) struct Bytes<'a> {
     pub(crate) text: &'a [u8],
     pub(crate) at: usize,
     ghost in_text: { at ≤ length text.now },
+}
+
+impl Bytes<'_> {
+    // Where the blanks that stand here end.
+    fn past_blanks(&self) -> usize
+        ensures { result ≡ self.now.at + run blank (drop self.now.at self.now.text.now) }
+    {
+        text_lexical::bytes::run_end::<Blank>(self.text, self.at)
+    }
 }
 
 // Something else stands at a place, which is left to the record.
@@ -34,29 +43,21 @@ impl OperandSource for Bytes<'_> {
     ghost Refuses = { λ s ps e. ⊤ };
 
     fn register(&mut self) -> Result<Register, Other> {
-        let at = text_lexical::bytes::run_end::<Blank>(self.text, self.at);
+        let at = self.past_blanks();
         let word = text_lexical::name::register_word(self.text, at).ok_or(Other)?;
         self.at = word.end;
         Ok(word.register)
     }
 
     fn number(&mut self) -> Result<Whole, Other> {
-        let at = text_lexical::bytes::run_end::<Blank>(self.text, self.at);
-        if self.text.len() <= at || !text::lexer::is_number_start(self.text[at]) {
-            return Err(Other);
-        }
-        let Scan::Found { token, next } = text::lexer::number(self.text, at) else {
-            return Err(Other);
-        };
-        let Ok(number) = text::parser::extract_number(token.kind) else {
-            return Err(Other);
-        };
-        self.at = next;
-        Ok(number)
+        let at = self.past_blanks();
+        let found = text::parser::number_at(self.text, at).ok_or(Other)?;
+        self.at = found.end;
+        Ok(found.number)
     }
 
     fn mark(&mut self, mark: Mark) -> Result<(), Other> {
-        let at = text_lexical::bytes::run_end::<Blank>(self.text, self.at);
+        let at = self.past_blanks();
         if self.text.len() <= at || self.text[at] != mark.byte {
             return Err(Other);
         }

@@ -12,15 +12,14 @@ use crate::line::{Effect, Read};
 use instruction::form::Form;
 use instruction::instruction::Operands;
 use text_lexical::bytes::Blank;
-use text_lexical::name::{LONGEST, RegisterName};
+use text_lexical::name::{RegisterName, Word};
 
-// The length of a line's label, if it has one; the key of the first word after it, if one with a key begins there; and the place after that
-// word, or where none begins.
+// The length of a line's label, if it has one; the place where what follows the label begins; and the word there, if one begins there.
 #[derive(Clone, Copy)]
 struct FirstWord {
     label: Option<usize>,
-    key: Option<u64>,
-    end: usize,
+    at: usize,
+    word: Option<Word>,
 }
 
 // The operands of an instruction, and the line's end after them.
@@ -44,9 +43,9 @@ fn read_tail(source: &[u8], from: usize, form: Form) -> Option<Tail>
     Some(Tail { operands, end })
 }
 
-// Whether the word from `at` to `end` is a label: a colon follows it at once, and it is no register's name, as no word is that is longer than
-// the longest of these. It is asked of two places and not of a slice, because the colon stands behind the word.
-#[tactic(auto, using(crate::proofs::Lines::no_byte, crate::proofs::Lines::no_colon, crate::proofs::Lines::long_word))]
+// Whether the word from `at` to `end` is a label: a colon follows it at once, and it is no register's name. It is asked of two places and not
+// of a slice, because the colon stands after the word.
+#[tactic(auto, using(crate::proofs::Lines::no_byte, crate::proofs::Lines::no_colon))]
 fn is_label(source: &[u8], at: usize, end: usize) -> bool
     requires not_empty { at < end }
     requires end_in_text { end ≤ length source.now }
@@ -55,18 +54,15 @@ fn is_label(source: &[u8], at: usize, end: usize) -> bool
     if source.len() <= end || source[end] != b':' {
         return false;
     }
-    if LONGEST < end - at {
-        return true;
-    }
     let name = text_lexical::name::parse_register(&source[at..end]);
     matches!(name, RegisterName::Other)
 }
 
-// The first word from `start` on, and the label before it if there is one: two turns at most. One loop, so that a word is read at one place; it
-// is no `for`, because what is read decides whether there is a second turn. As a call it takes ordinary lines 2 in 100 longer, and a source of
-// all `ecall` 17.
+// The first word from `start` on, and the label before it if there is one. It is one loop, which reads at most two words, so that a word is
+// read at one place; it is no `for`, because what is read decides whether a second word is. It is compiled in line: as a call it takes
+// ordinary lines 2 in 100 longer, and a source of all `ecall` 17.
 #[inline(always)]
-#[tactic(auto, using(crate::proofs::Lines::word_bounds, crate::proofs::Lines::label_bound))]
+#[tactic(auto, using(crate::proofs::Lines::word_bounds))]
 fn first_word(source: &[u8], start: usize) -> FirstWord
     requires { start ≤ length source.now }
     ensures { FirstWordIs present source.now start result }
@@ -77,24 +73,17 @@ fn first_word(source: &[u8], start: usize) -> FirstWord
         if source.len() <= at || !text_lexical::bytes::is_name_start(source[at]) {
             return FirstWord {
                 label,
-                key: None,
-                end: at,
+                at,
+                word: None,
             };
         }
         let word = text_lexical::name::lower_word(source, at);
         let end = word.end;
         if label.is_some() || !is_label(source, at, end) {
-            let Some(key) = word.key else {
-                return FirstWord {
-                    label,
-                    key: None,
-                    end: at,
-                };
-            };
             return FirstWord {
                 label,
-                key: Some(key),
-                end,
+                at,
+                word: Some(word),
             };
         }
         label = Some(end - at);
@@ -110,8 +99,8 @@ pub(crate) fn read_fast(source: &[u8], start: usize) -> Option<Read>
 {
     let first = first_word(source, start);
     let label = first.label;
-    let Some(key) = first.key else {
-        let end = text::lexer::ending_at(source, first.end)?;
+    let Some(word) = first.word else {
+        let end = text::lexer::ending_at(source, first.at)?;
         return Some(Read {
             start,
             label,
@@ -119,8 +108,8 @@ pub(crate) fn read_fast(source: &[u8], start: usize) -> Option<Read>
             end,
         });
     };
-    let mnemonic = instruction::opcode::find_mnemonic(key)?;
-    let tail = read_tail(source, first.end, mnemonic.form())?;
+    let mnemonic = instruction::opcode::find_mnemonic(word.key?)?;
+    let tail = read_tail(source, word.end, mnemonic.form())?;
     Some(Read {
         start,
         label,

@@ -1,7 +1,7 @@
 // The line at a place of a source: what it reads as. Both walks read their lines by it.
-ghost use Rattle.std.specs.Prelude.{◌≤◌, length};
+ghost use Rattle.std.specs.Prelude.{◌≡◌, ◌≤◌, length};
 ghost use Rattle.text_lexical.specs.Names.{present};
-ghost use Rattle.image_line.specs.Promised.{context_for, LineIs};
+ghost use Rattle.image_line.specs.Promised.{context_for, LineIs, next_line};
 
 use image::config::Config;
 use instruction::instruction::Operands;
@@ -43,4 +43,14 @@ pub fn read_line(source: &[u8], at: usize, config: Config) -> Read
         Some(read) => read,
         None => crate::record::read_record(source, start, config),
     }
+}
+
+// Where the line after one that ends at `end` begins, if one follows, in a source of so many bytes: after the byte 10 that ends the line.
+pub fn next_line(size: usize, end: usize) -> Option<usize>
+    ensures { result ≡ next_line size end }
+{
+    if size <= end {
+        return None;
+    }
+    Some(end + 1)
 }

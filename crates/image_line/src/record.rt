@@ -98,7 +98,7 @@ fn after_label(source: &[u8], line: &Line) -> Result<Effect, Refusal>
 }
 
 // The line whose content starts at `start`, by the record of its tokens.
-#[tactic(auto, using(crate::proofs::Records::recorded, crate::proofs::Records::two_tokens))]
+#[tactic(auto, using(crate::proofs::Records::two_tokens))]
 pub(crate) fn read_record(source: &[u8], start: usize, config: Config) -> Read
     requires { StartsAt source.now start }
     ensures { LineIs present source.now start (context_for config) result }

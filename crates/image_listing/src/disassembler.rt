@@ -7,7 +7,7 @@ ghost use Rattle.image.specs.Promised.{settings_meant, header_meant};
 ghost use Rattle.image_listing.specs.Promised.{PutsWords, Lists};
 
 use image::config::Config;
-use image::limits::{ENTRY, HEADER_SIZE, MOST_CODE, STACK_SIZE};
+use image::limits::{ENTRY, HEADER_SIZE, MOST_CODE, STACK_SIZE, WORD_SIZE};
 use image::program::ProgramHeader;
 use refusal::refusal::Refusal;
 use text_writer::sink::{Length, Sink, Writer};
@@ -60,7 +60,7 @@ fn put_words<S: Sink>(sink: &mut S, code: &[u8]) -> Result<(), ListError>
     requires { S.Fits sink.old (flat_map word_text (words_of code.now)) }
     ensures { PutsWords (words_of code.now) result (S.Took sink.old (flat_map word_text (words_of code.now)) sink.new) }
 {
-    let (words, _) = code.as_chunks::<4>();
+    let (words, _) = code.as_chunks::<WORD_SIZE>();
     for (index, word) in words.iter().enumerate() {
         match instruction_codec::encoder::decode(u32::from_le_bytes(*word)) {
             // a closure for `map_err` would hold `index` only to hand it on, and is no shorter than this arm

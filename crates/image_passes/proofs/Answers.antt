@@ -5,7 +5,7 @@ use native.Mathlib.Omega.{arith}
 use mathlib.Core.Bool.{Bool, true, false}
 use mathlib.Core.Option.{Option, none, some}
 use mathlib.Core.List.{List, [], ◌∷◌, ◌++◌, map, flat_map, append-nil}
-use lib.ListN.{length, take, length-map}
+use lib.ListN.{length, take, length-map, length-append}
 use lib.Seq.{take_all}
 use lib.Dec.{leb}
 use borrow.Author.Tests.{le-leb, lt-leb}
@@ -16,7 +16,10 @@ use Rattle.text_lexical.specs.Numbers.{little}
 use Rattle.text_lexical.specs.Names.{Name}
 use Rattle.text_lexical.proofs.Strings.{take-run, every-run, past-run}
 use Rattle.text_writer.specs.Promised.{Written}
-use Rattle.text_writer.proofs.Writing.{written-append}
+use Rattle.text_writer.specs.Laws.{writer_laws}
+use Rattle.text_writer.specs.Sinks.{HasRoom, WrittenOn}
+use Rattle.text_writer.specs.declared.sink.Writer.{Writer}
+use Rattle.text_writer.proofs.Sinks.{PutTwo, put_two}
 use Rattle.text.specs.Lines.{lines, indent, read_line}
 use Rattle.text.specs.Lines.{Line as Record}
 use Rattle.instruction.specs.Words.{word_of}
@@ -58,7 +61,7 @@ walk-reads names room line at st (l ∷ ls) h = go (read_line names l) h (λ st'
 -- ---- the bytes of the image
 
 module _ {names : List Name} {s : List ℕ} {words : ℕ} {setup : Settings} (r : Ready names s words setup) where
-  pub code-long : length (code_bytes names s) ≡ 4 * words
+  code-long : length (code_bytes names s) ≡ 4 * words
   unfolding code_bytes
   code-long = code-length (map word_of (instructions_of names s)) ∙ ap (λ n. 4 * n) (length-map (instructions_of names s) word_of ∙ r.words_are)
 
@@ -68,24 +71,35 @@ module _ {names : List Name} {s : List ℕ} {words : ℕ} {setup : Settings} (r 
       rw (← r.setup_is, ← r.words_are, ← length-map (instructions_of names s) word_of)
       (ap (λ (x : List ℕ). header_bytes (header_for (settings_of names s) (4 * length (map word_of (instructions_of names s))) 0) ++ x) (sym (append-nil (flat_map (little 4) (map word_of (instructions_of names s))))))
 
-  -- The header, and the words behind it, are the image.
-  pub fills_image : {old m new : List ℕ} {p q : ℕ} → 32 + 4 * words ≤ length old → Written old 0 (header_bytes (header_for setup (4 * words) 0)) p m → Written m 32 (code_bytes names s) q new
-      → Fills names s words old new (Ok tt)
+  abbrev header : List ℕ
+  header = header_bytes (header_for setup (4 * words) 0)
+
+  -- A buffer that is long enough has room for the header,
+  pub header_fits : (old : List ℕ) → image_length words ≤ length old → 0 + length header ≤ length old
   unfolding image_length header_size
-  fills_image {old} {m} {new} {p} {q} h a b =
-      let l : leb (32 + 4 * words) (length old) ≡ true = le-leb (32 + 4 * words) (length old) h in
-      let behind : 32 ≡ p = omega (arith, a.ends, header-length (header_for setup (4 * words) 0)) in
-      record {
-        answer = rw (image_length, l);
-        holds = rw (image_length, l, ← image_is) (written_over (written-append a (omega arith) (subst (λ (n : ℕ). Written m n (code_bytes names s) q new) behind b)));
-      }
+  header_fits old h = omega (arith, header-length (header_for setup (4 * words) 0), h)
+
+  -- and for the words after it,
+  pub puts_image : (w : Writer) → w.at ≡ 0 → image_length words ≤ length w.out.now → PutTwo HasRoom WrittenOn w (header ++ code_bytes names s) header (code_bytes names s)
+  unfolding image_length header_size
+  puts_image w first h =
+      put_two writer_laws (record { are = refl })
+      (omega (arith, length-append header (code_bytes names s), header-length (header_for setup (4 * words) 0), code-long, first, h))
+
+  -- which are the image.
+  pub fills_image : {w t : Writer} {new : List ℕ} → WrittenOn w (header ++ code_bytes names s) t → w.at ≡ 0 → image_length words ≤ length w.out.now → new ≡ t.out.now
+      → Fills names s words w.out.now new (Ok tt)
+  fills_image {w} {t} {new} k first h e =
+      let l : leb (image_length words) (length w.out.now) ≡ true = le-leb (image_length words) (length w.out.now) h in
+      let z : Written w.out.now 0 (header ++ code_bytes names s) t.at new =
+      rw e (subst (λ (at : ℕ). Written w.out.now at (header ++ code_bytes names s) t.at t.out.now) first k.written) in
+      record { answer = rw l; holds = rw (l, ← image_is) (written_over z) }
 
   -- The buffer is too short.
-  pub fills-not : (old : List ℕ) → length old < 32 + 4 * words → Fills names s words old old (Err (record { needed = 32 + 4 * words }))
-  unfolding image_length header_size
+  pub fills-not : (old : List ℕ) → length old < image_length words → Fills names s words old old (Err (record { needed = image_length words }))
   fills-not old h =
-      let l : leb (32 + 4 * words) (length old) ≡ false = lt-leb (32 + 4 * words) (length old) h in
-      record { answer = rw (image_length, l); holds = rw (image_length, l) }
+      let l : leb (image_length words) (length old) ≡ false = lt-leb (image_length words) (length old) h in
+      record { answer = rw l; holds = rw l }
 
 -- ---- before any line
 
@@ -98,16 +112,16 @@ module _ (s : List ℕ) where
 
 -- What the walk begins with.
 module _ {s : List ℕ} (short : length s ≤ most_bytes) where
-  pub begins-high : {line : ℕ} → run ascii s < length s → line ≡ length (lines (take (run ascii s) s)) → Begins s (NextEnded (refused_at NotAscii 0 line 0))
+  pub begins-high : {line : ℕ} → run ascii s < length s → line ≡ length (lines (take (run ascii s) s)) → Begins s (NextEnded (refused_at NotAscii 0 line))
   unfolding begun
   begins-high h e = record { answer = rw (begun, not-every s h, e, take-run ascii s); sound = tt }
 
-  pub begins-first : (c : Config) → settings_meant c ≡ begin → length s ≤ run ascii s → Begins s (From (record { at = 0; line = 1; labels = 0; words = 0; config = c }))
+  pub begins-first : (c : Config) → settings_meant c ≡ begin → length s ≤ run ascii s → Begins s (From (record { at = 0; line = 1; words = 0; config = c }))
   unfolding begun settings
   begins-first c e clean =
       record {
-        answer = ap (λ (x : Settings). From (record { at = 0; line = 1; labels = 0; words = 0; config = config_for x })) e ∙ rw (begun, all_ascii s clean);
-        sound = record { short = short; in_text = omega arith; few_lines = omega arith; few_labels = omega arith; few_words = omega arith };
+        answer = ap (λ (x : Settings). From (record { at = 0; line = 1; words = 0; config = config_for x })) e ∙ rw (begun, all_ascii s clean);
+        sound = record { short = short; in_text = omega arith; few_lines = omega arith; few_words = omega arith };
       }
 
   -- It is what document 01's walk begins with.
@@ -115,13 +129,10 @@ module _ {s : List ℕ} (short : length s ≤ most_bytes) where
   unfolding begun reading start settings
   begins-stand names b room = rw b.answer (go (every ascii s) refl)
     where
-      go : (v : Bool) → every ascii s ≡ v → Resumes names s room [] (elim v [ true ↦ From first_line | false ↦ NextEnded (refused_at NotAscii 0 (length (lines (before ascii s))) 0) ])
+      go : (v : Bool) → every ascii s ≡ v → Resumes names s room [] (elim v [ true ↦ From first_line | false ↦ NextEnded (refused_at NotAscii 0 (length (lines (before ascii s)))) ])
       go true e =
-          record {
-            count = refl;
-            reached = record { clean = rw (reading, le-leb (length s) most_bytes short, e); state = start; on = refl; labels_are = refl; words_are = refl; setup_is = refl };
-          }
-      go false e = record { count = refl; judges = rw (reading, le-leb (length s) most_bytes short, e) }
+          record { clean = rw (reading, le-leb (length s) most_bytes short, e); state = start; on = refl; labels_are = refl; words_are = refl; setup_is = refl }
+      go false e = rw (reading, le-leb (length s) most_bytes short, e)
 
 -- ---- the end
 

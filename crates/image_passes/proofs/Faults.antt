@@ -1,9 +1,11 @@
 -- Whatever a line is refused for is one of the thirty-two refusals: the walk's numbers are those of the code's refusals.
-use Rattle.std.specs.Prelude.{ℕ, ◌≡◌, refl}
+use borrow.Author.Tests.{eqb-true}
+use Rattle.std.specs.Prelude.{ℕ, ◌≡◌, refl, Bool, true, eqb}
 use Rattle.std.proofs.Math.Option.{Option}
+use Rattle.text_lexical.specs.Bytes.{each}
 use Rattle.refusal.specs.Refusals.{number_of, refusal_at, refusals}
 use Rattle.text.specs.Lines.{Line}
-use Rattle.image.specs.Assembling.{Context, Effect, read_on}
+use Rattle.image.specs.Assembling.{Context, Effect, nothing, sets, codes, faulty, read_on}
 use Rattle.image.proofs.Refused.{OfEffect, of-line}
 
 -- A number is that of a refusal.
@@ -13,6 +15,16 @@ Numbered n = number_of (refusal_at n) ≡ n
 abbrev pub Named : Effect → Type 0
 Named = OfEffect Numbered
 
+-- It is found out by computing it.
+abbrev is_numbered : ℕ → Bool
+is_numbered n = eqb (number_of (refusal_at n)) n
+
+named : (e : Effect) → OfEffect (λ n. is_numbered n ≡ true) e → Named e
+named nothing h = tt
+named (sets s) h = tt
+named (codes i) h = tt
+named (faulty n) h = eqb-true (number_of (refusal_at n)) n h
+
 pub effect-named : (c : Context) (o : Option Line) → Named (read_on c o).effect
-unfolding refusals
-effect-named = of-line Numbered refl refl refl refl refl refl refl refl refl refl refl refl refl refl refl refl refl
+unfolding refusals each
+effect-named c o = named (read_on c o).effect (of-line is_numbered refl c o)

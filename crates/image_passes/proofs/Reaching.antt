@@ -16,7 +16,6 @@ use Rattle.image_labels.specs.Promised.{spelled}
 use Rattle.image_passes.specs.Promised.{read_at, effect_at, Rest, rest_for, Entry, WalkEnds}
 use Rattle.image_passes.specs.declared.first_pass.Next.{Next}
 use Rattle.image_passes.specs.declared.first_pass.Next.TheVariants.{From, Ended as NextEnded}
-use Rattle.image_passes.specs.declared.first_pass.Cursor.{Cursor}
 use Rattle.image_passes.specs.declared.first_pass.Pass.{Pass}
 use Rattle.image_passes.specs.declared.first_pass.Pass.TheVariants.{AtLabel, Ended as PassEnded}
 use Rattle.image_passes.specs.declared.first_pass.LabelLine.{LabelLine}
@@ -43,7 +42,6 @@ pub record Reached (names : List Name) (s : List ℕ) (room line at : ℕ) (labe
 
 -- The walk stands at a line whose label is to be entered after others.
 pub record LabelNext (names : List Name) (s : List ℕ) (room : ℕ) (labels : List Meant) (p : LabelLine) : Type 0 where
-  pub count : p.labels ≡ length labels
   pub at : ℕ
   pub in_text : at ≤ length s
   pub words : ℕ
@@ -57,17 +55,12 @@ pub record LabelNext (names : List Name) (s : List ℕ) (room : ℕ) (labels : L
 -- Where the first walk stands, with labels entered.
 abbrev pub Progress : List Name → List ℕ → ℕ → List Meant → Pass → Type 0
 Progress names s room labels (AtLabel p) = LabelNext names s room labels p
-Progress names s room labels (PassEnded o) = WalkEnds names s room labels o
-
--- A line is to be read, with labels entered.
-pub record LineNext (names : List Name) (s : List ℕ) (room : ℕ) (labels : List Meant) (c : Cursor) : Type 0 where
-  pub count : c.labels ≡ length labels
-  pub reached : Reached names s room c.line c.at labels c.words c.config
+Progress names s room labels (PassEnded v) = WalkEnds names s room labels v
 
 -- What the first walk does next, with labels entered.
 abbrev pub Resumes : List Name → List ℕ → ℕ → List Meant → Next → Type 0
-Resumes names s room labels (From c) = LineNext names s room labels c
-Resumes names s room labels (NextEnded o) = WalkEnds names s room labels o
+Resumes names s room labels (From c) = Reached names s room c.line c.at labels c.words c.config
+Resumes names s room labels (NextEnded v) = WalkEnds names s room labels v
 
 -- The labels after an attempt to enter one.
 abbrev pub with_entry : Entry → List Meant → Meant → List Meant

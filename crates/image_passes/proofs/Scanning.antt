@@ -30,13 +30,12 @@ use Rattle.image.specs.declared.config.Config.{Config}
 use Rattle.image_labels.specs.Promised.{spelled, entry_fault}
 use Rattle.image_line.specs.Promised.{context_for, effect_meant, label_meant, LineIs}
 use Rattle.image_line.specs.declared.line.Read.{Read}
-use Rattle.image_passes.specs.Promised.{read_at, effect_at, Rest, rest_for, Entry, WalkEnds, line_refused, finished_with, label_pass, scanned, scanned_from, resumed, line_after, followed, RestFits, Sound, ScannableNext, Scannable, ReadsOn, Follows, GoesOn}
+use Rattle.image_passes.specs.Promised.{read_at, effect_at, Rest, rest_for, Entry, Verdict, WalkEnds, line_refused, finished_with, label_pass, scanned, scanned_from, resumed, line_after, followed, RestFits, Sound, ScannableNext, Scannable, ReadsOn, Follows, GoesOn}
 use Rattle.image_passes.specs.declared.first_pass.Next.{Next}
 use Rattle.image_passes.specs.declared.first_pass.Next.TheVariants.{From, Ended as NextEnded}
 use Rattle.image_passes.specs.declared.first_pass.Cursor.{Cursor}
 use Rattle.image_passes.specs.declared.first_pass.Pass.{Pass}
 use Rattle.image_passes.specs.declared.first_pass.Pass.TheVariants.{Ended as PassEnded}
-use Rattle.image_passes.specs.declared.first_pass.Outcome.{Outcome}
 use Rattle.image_passes.specs.declared.first_pass.LabelLine.{LabelLine}
 use Rattle.image_passes.specs.declared.first_pass.Done.{Done}
 use Rattle.image_passes.proofs.Reaching.{comes_to, whole, Clean, Reached, LabelNext, Progress, Resumes, with_entry, label_at}
@@ -62,19 +61,19 @@ record Doing (names : List Name) (s : List ℕ) (room line at : ℕ) (labels : L
   pub setup_is : state.setup ≡ settings_meant c
 
 -- The walk has ended with the refusal of a line.
-ends-refused : {names : List Name} {s : List ℕ} {room line labels : ℕ} {r : Refusal} {ls : List Meant} → labels ≡ length ls → Clean names s room → (st : State)
-    → whole names s room ≡ stopped (number_of r) line st → st.labels ≡ ls → WalkEnds names s room ls (line_refused r line labels)
+ends-refused : (names : List Name) (s : List ℕ) (room line : ℕ) (r : Refusal) {ls : List Meant} → Clean names s room → (st : State)
+    → whole names s room ≡ stopped (number_of r) line st → st.labels ≡ ls → WalkEnds names s room ls (line_refused r line)
 unfolding read_to
-ends-refused {line = line} {r = r} count c st e l =
-    record { count = count; judges = c ∙ ap read_to e ∙ ap (λ (x : List Meant). refusing (number_of r) (rust_line_of (number_of r) line) line x none) l }
+ends-refused names s room line r c st e l =
+    c ∙ ap read_to e ∙ ap (λ (x : List Meant). refusing (number_of r) (rust_line_of (number_of r) line) line x none) l
 
 module _ {names : List Name} {s : List ℕ} {room line at : ℕ} {ls : List Meant} {words : ℕ} {c : Config} (d : Doing names s room line at ls words c) where
   -- The line is refused.
-  doing-refused : {r : Refusal} {labels : ℕ} → comes_to names s at words c ≡ Err r → labels ≡ length ls → WalkEnds names s room ls (line_refused r line labels)
+  doing-refused : {r : Refusal} → comes_to names s at words c ≡ Err r → WalkEnds names s room ls (line_refused r line)
   unfolding after_line
-  doing-refused e count =
+  doing-refused {r} e =
       let h = rw e at (line-is names s at words c) in
-      ends-refused count d.clean d.state (d.comes ∙ ap (after_line names s room line (end_at s at)) (h d.state d.words_are)) d.labels_are
+      ends-refused names s room line r d.clean d.state (d.comes ∙ ap (after_line names s room line (end_at s at)) (h d.state d.words_are)) d.labels_are
 
   -- It is not.
   module _ {d' : Done} (e : comes_to names s at words c ≡ Ok d') where
@@ -99,20 +98,16 @@ module _ {names : List Name} {s : List ℕ} {room line at : ℕ} {ls : List Mean
     after-setup = ap (λ (x : Settings). changed_by x effect) d.setup_is ∙ sym done.settings
 
     -- It is the last line,
-    doing-last : {labels : ℕ} → length s ≤ d'.end → labels ≡ length ls → WalkEnds names s room ls (finished_with labels d'.words d'.config)
+    doing-last : length s ≤ d'.end → WalkEnds names s room ls (finished_with d'.words d'.config)
     unfolding after_line read_to
-    doing-last z count =
+    doing-last z =
         let q : whole names s room ≡ finished after = comes-after ∙ rw (after_line, le-ltb d'.end (length s) z) in
         record {
-          count = count;
-          judges =
-              record {
-                state = after;
-                accepts = d.clean ∙ ap read_to q;
-                labels_are = d.labels_are;
-                words_are = after-words;
-                setup_is = after-setup;
-              };
+          state = after;
+          accepts = d.clean ∙ ap read_to q;
+          labels_are = d.labels_are;
+          words_are = after-words;
+          setup_is = after-setup;
         }
 
     -- or there is another after it.
@@ -181,10 +176,10 @@ module _ {names : List Name} {s : List ℕ} {room line at : ℕ} {ls : List Mean
 
 -- ---- reading on
 
-module _ {names : List Name} (s : List ℕ) (ok : Naming names) (room : ℕ) (ls : List Meant) (labels : ℕ) (count : labels ≡ length ls) where
+module _ {names : List Name} (s : List ℕ) (ok : Naming names) (room : ℕ) (ls : List Meant) where
   -- Where reading on from a line comes to is where document 01's walk stands.
   abbrev Stands : ℕ → ℕ → Config → ℕ → List (List ℕ) → Type 0
-  Stands line words c at ls' = Progress names s room ls (scanned names labels line words c at ls')
+  Stands line words c at ls' = Progress names s room ls (scanned names line words c at ls')
 
   module _ (line words : ℕ) (c : Config) (at : ℕ) (inside : at ≤ length s) (q : Reached names s room line at ls words c) where
     abbrev comes : Rest
@@ -198,12 +193,11 @@ module _ {names : List Name} (s : List ℕ) (ok : Naming names) (room : ℕ) (ls
       where
         go : (o : Option (List ℕ)) → (read_at names s at (settings_meant c)).label ≡ o
             → Progress names s room ls (elim o [
-              | some u ↦ label_pass (at + indent (rest_at s at)) (length u) words line labels comes
-              | none ↦ elim comes [ Err r ↦ PassEnded (line_refused r line labels) | Ok d ↦ scanned names labels (suc line) d.words d.config (suc d.end) ls' ]
+              | some u ↦ label_pass (at + indent (rest_at s at)) (length u) words line comes
+              | none ↦ elim comes [ Err r ↦ PassEnded (line_refused r line) | Ok d ↦ scanned names (suc line) d.words d.config (suc d.end) ls' ]
             ])
         go (some u) e =
             record {
-              count = count;
               at = at;
               in_text = inside;
               words = words;
@@ -216,8 +210,8 @@ module _ {names : List Name} (s : List ℕ) (ok : Naming names) (room : ℕ) (ls
             }
         go none e = on comes refl
           where
-            on : (x : Rest) → comes ≡ x → Progress names s room ls (elim x [ Err r ↦ PassEnded (line_refused r line labels) | Ok d ↦ scanned names labels (suc line) d.words d.config (suc d.end) ls' ])
-            on (Err r) k = doing-refused (plain-doing q inside e) k count
+            on : (x : Rest) → comes ≡ x → Progress names s room ls (elim x [ Err r ↦ PassEnded (line_refused r line) | Ok d ↦ scanned names (suc line) d.words d.config (suc d.end) ls' ])
+            on (Err r) k = doing-refused (plain-doing q inside e) k
             on (Ok d) k = more e d k
 
     ended : {d : Done} → comes ≡ Ok d → end_at s at ≡ d.end
@@ -230,7 +224,7 @@ module _ {names : List Name} (s : List ℕ) (ok : Naming names) (room : ℕ) (ls
     lines-stand more = split (end_at s at) (length s) another last
       where
         last : length s ≤ end_at s at → Stands line words c at (lines (drop at s))
-        last b = rw (last_line s at inside b) (line-stands [] (λ e d k. doing-last (plain-doing q inside e) k (omega (arith, ended k, b)) count))
+        last b = rw (last_line s at inside b) (line-stands [] (λ e d k. doing-last (plain-doing q inside e) k (omega (arith, ended k, b))))
 
         another : end_at s at < length s → Stands line words c at (lines (drop at s))
         another b =
@@ -252,8 +246,8 @@ pub reads-stand : {names : List Name} {s : List ℕ} {n : Next} {p : Pass} → N
 reads-stand {names} {s} {n} {p} ok r safe room ls h = rw r.answer (go n safe h)
   where
     go : (n : Next) → ScannableNext s n → Resumes names s room ls n → Progress names s room ls (resumed names s n)
-    go (NextEnded o) z k = k
-    go (From c) z k = stands_from s ok room ls c.labels k.count (length s) c.line c.words c.config c.at (omega arith) z.in_text k.reached
+    go (NextEnded v) z k = k
+    go (From c) z k = stands_from s ok room ls (length s) c.line c.words c.config c.at (omega arith) z.in_text k
 
 -- ---- after a label
 
@@ -297,19 +291,16 @@ module _ {names : List Name} {s : List ℕ} {p : LabelLine} {room : ℕ} {ls : L
       ∙ ap (λ (n : ℕ). after_line names s room p.line (end_at s a.at) (doing does (enter room st n name))) (sym a.starts)
 
   -- The label is refused.
-  label-refused : {r : Refusal} → some (number_of r) ≡ entry_fault known (ltb (length ls) room) → WalkEnds names s room ls (line_refused r p.line p.labels)
+  label-refused : (r : Refusal) → some (number_of r) ≡ entry_fault known (ltb (length ls) room) → WalkEnds names s room ls (line_refused r p.line)
   unfolding after_line doing
-  label-refused {r} e =
+  label-refused r e =
       let x : enter room st p.label.start name ≡ stop (number_of r) st = enter-refused room st p.label.start name (number_of r) (rw a.reached.labels_are e) in
-      ends-refused a.count a.reached.clean st (comes-there ∙ rw x) a.reached.labels_are
+      ends-refused names s room p.line r a.reached.clean st (comes-there ∙ rw x) a.reached.labels_are
 
   -- It is entered.
   module _ (e : none ≡ entry_fault known (ltb (length ls) room)) where
     abbrev named : State
     named = with_label st p.label.start name
-
-    named_count : p.labels + 1 ≡ length (ls ++ (label_at s p ∷ []))
-    named_count = sym (length-append ls (label_at s p ∷ []) ∙ ap (λ (n : ℕ). n + 1) (sym a.count))
 
     label-doing : Doing names s room p.line a.at (ls ++ (label_at s p ∷ [])) a.words a.config
     unfolding with_label
@@ -326,16 +317,16 @@ module _ {names : List Name} {s : List ℕ} {p : LabelLine} {room : ℕ} {ls : L
         }
 
     -- What follows the line.
-    label-on : Resumes names s room (ls ++ (label_at s p ∷ [])) (line_after (length s) p.line (p.labels + 1) p.rest)
+    label-on : Resumes names s room (ls ++ (label_at s p ∷ [])) (line_after (length s) p.line p.rest)
     unfolding line_after
     label-on = go p.rest (sym a.rest-is)
       where
-        go : (x : Rest) → comes_to names s a.at a.words a.config ≡ x → Resumes names s room (ls ++ (label_at s p ∷ [])) (line_after (length s) p.line (p.labels + 1) x)
-        go (Err r) k = doing-refused label-doing k named_count
+        go : (x : Rest) → comes_to names s a.at a.words a.config ≡ x → Resumes names s room (ls ++ (label_at s p ∷ [])) (line_after (length s) p.line x)
+        go (Err r) k = doing-refused label-doing k
         go (Ok d) k =
             split d.end (length s)
-            (λ b. rw (line_after, lt-ltb d.end (length s) b) (record { count = named_count; reached = rw (add-one p.line, add-one d.end) (doing-on label-doing k b) }))
-            (λ b. rw (line_after, le-ltb d.end (length s) b) (doing-last label-doing k b named_count))
+            (λ b. rw (line_after, lt-ltb d.end (length s) b) (rw (add-one p.line, add-one d.end) (doing-on label-doing k b)))
+            (λ b. rw (line_after, le-ltb d.end (length s) b) (doing-last label-doing k b))
 
 -- What follows a label that has been entered, or refused, as document 01 has it.
 pub goes-stand : {names : List Name} {s : List ℕ} {p : LabelLine} {e : Entry} {n : Next} → GoesOn s p e n → (room : ℕ) (ls : List Meant) → LabelNext names s room ls p
@@ -344,7 +335,7 @@ goes-stand {names} {s} {p} {e} {n} g room ls a k = rw g.answer (go e k)
   where
     go : (e : Entry) → fault_of e ≡ entry_fault (is_known ls (spelled s p.label)) (ltb (length ls) room) → Resumes names s room (with_entry e ls (label_at s p)) (followed s p e)
     go (Ok u) k = label-on a k
-    go (Err r) k = label-refused a k
+    go (Err r) k = label-refused a r k
 
 -- ---- the code's loop
 
@@ -354,7 +345,7 @@ module _ (names : List Name) (s : List ℕ) (c : Cursor) (inside : c.at ≤ leng
   comes-from = comes_to names s c.at c.words c.config
 
   from-label : (u : List ℕ) → (read_at names s c.at (settings_meant c.config)).label ≡ some u
-      → scanned_from names s c ≡ label_pass (c.at + indent (rest_at s c.at)) (length u) c.words c.line c.labels comes-from
+      → scanned_from names s c ≡ label_pass (c.at + indent (rest_at s c.at)) (length u) c.words c.line comes-from
   unfolding scanned end_at
   from-label u e = let (rest, q) = line-split s c.at inside in rw (q, scanned, e)
 
@@ -365,20 +356,20 @@ module _ (names : List Name) (s : List ℕ) (c : Cursor) (inside : c.at ≤ leng
   none_after : (rest : List (List ℕ)) → lines (drop c.at s) ≡ rest_at s c.at ∷ rest → length s ≤ end_at s c.at → rest ≡ []
   none_after rest q b = ap (drop 1) (sym q ∙ last_line s c.at inside b)
 
-  from-line : (read_at names s c.at (settings_meant c.config)).label ≡ none → scanned_from names s c ≡ resumed names s (line_after (length s) c.line c.labels comes-from)
+  from-line : (read_at names s c.at (settings_meant c.config)).label ≡ none → scanned_from names s c ≡ resumed names s (line_after (length s) c.line comes-from)
   unfolding scanned end_at line_after
   from-line e = let (rest, q) = line-split s c.at inside in rw (q, scanned, e) (go rest q comes-from refl)
     where
       go : (rest : List (List ℕ)) → lines (drop c.at s) ≡ rest_at s c.at ∷ rest → (x : Rest) → comes-from ≡ x
-          → elim x [ Err r ↦ PassEnded (line_refused r c.line c.labels) | Ok d ↦ scanned names c.labels (suc c.line) d.words d.config (suc d.end) rest ]
-          ≡ resumed names s (line_after (length s) c.line c.labels x)
+          → elim x [ Err r ↦ PassEnded (line_refused r c.line) | Ok d ↦ scanned names (suc c.line) d.words d.config (suc d.end) rest ]
+          ≡ resumed names s (line_after (length s) c.line x)
       go rest q (Err r) k = refl
       go rest q (Ok d) k =
           let z : d.end ≡ end_at s c.at = (rw k at (line-is names s c.at c.words c.config)).ends in
           split d.end (length s)
           (λ b. rw (line_after, lt-ltb d.end (length s) b, add-one c.line, add-one d.end)
-          (ap (scanned names c.labels (suc c.line) d.words d.config (suc d.end)) (rest-is-after rest q (subst (λ (n : ℕ). n < length s) z b) ∙ ap (λ (n : ℕ). lines (drop (suc n) s)) (sym z))))
-          (λ b. rw (line_after, le-ltb d.end (length s) b) (ap (scanned names c.labels (suc c.line) d.words d.config (suc d.end)) (none_after rest q (subst (λ (n : ℕ). length s ≤ n) z b))))
+          (ap (scanned names (suc c.line) d.words d.config (suc d.end)) (rest-is-after rest q (subst (λ (n : ℕ). n < length s) z b) ∙ ap (λ (n : ℕ). lines (drop (suc n) s)) (sym z))))
+          (λ b. rw (line_after, le-ltb d.end (length s) b) (ap (scanned names (suc c.line) d.words d.config (suc d.end)) (none_after rest q (subst (λ (n : ℕ). length s ≤ n) z b))))
 
 -- A line that is not refused ends at a place or after it.
 abbrev EndsAfter : ℕ → Rest → Type 0
@@ -396,15 +387,15 @@ done-after names s at words c = go (comes_to names s at words c) refl
 -- What is read next is a line after this one, from where the walk may read on; or the walk has ended.
 abbrev Next-line : List ℕ → ℕ → ℕ → Next → Type 0
 Next-line s at line (From d) = Scannable s d × (line < d.line) × (at < d.at)
-Next-line s at line (NextEnded o) = Unit {0}
+Next-line s at line (NextEnded v) = Unit {0}
 
-next-line-after : (s : List ℕ) (at line labels : ℕ) → length s ≤ most_bytes → labels ≤ line → (x : Rest) → RestFits line x → EndsAfter at x → Next-line s at line (line_after (length s) line labels x)
+next-line-after : (s : List ℕ) (at line : ℕ) → length s ≤ most_bytes → (x : Rest) → RestFits line x → EndsAfter at x → Next-line s at line (line_after (length s) line x)
 unfolding line_after
-next-line-after s at line labels short few (Err r) f a = tt
-next-line-after s at line labels short few (Ok d) f a =
+next-line-after s at line short (Err r) f a = tt
+next-line-after s at line short (Ok d) f a =
     split d.end (length s)
     (λ b. rw (line_after, lt-ltb d.end (length s) b)
-    (record { short = short; in_text = omega arith; few_lines = omega (arith, f.0); few_labels = omega (arith, few); few_words = f.1 }, omega arith, omega (arith, a)))
+    (record { short = short; in_text = omega arith; few_lines = omega (arith, f.0); few_words = f.1 }, omega arith, omega (arith, a)))
     (λ b. rw (line_after, le-ltb d.end (length s) b) tt)
 
 -- Where the loop stands: what reading on from there comes to is what it comes to from the first cursor on.
@@ -435,14 +426,14 @@ module _ {names : List Name} {s : List ℕ} {from c : Cursor} (w : Scanning name
     stands = z ∙ came
 
     -- A label.
-    pub scans_label : {n : ℕ} {q : Pass} → r.label ≡ Some n → q ≡ label_pass r.start n c.words c.line c.labels x → ReadsOn names s (From from) q
+    pub scans_label : {n : ℕ} {q : Pass} → r.label ≡ Some n → q ≡ label_pass r.start n c.words c.line x → ReadsOn names s (From from) q
     scans_label {n} b e =
         let inside_text : r.start + n ≤ length s = rw b at h.in_text in
         let long : length (take n (drop r.start s)) ≡ n = length-take n (drop r.start s) ∙ omega (arith, length-drop r.start s, inside_text) in
         rw e (record {
           answer =
-              ap₂ (λ (m : ℕ) (y : Rest). label_pass m n c.words c.line c.labels y) h.starts stands
-              ∙ ap (λ (m : ℕ). label_pass (c.at + indent (rest_at s c.at)) m c.words c.line c.labels (comes_to names s c.at c.words c.config)) (sym long)
+              ap₂ (λ (m : ℕ) (y : Rest). label_pass m n c.words c.line y) h.starts stands
+              ∙ ap (λ (m : ℕ). label_pass (c.at + indent (rest_at s c.at)) m c.words c.line (comes_to names s c.at c.words c.config)) (sym long)
               ∙ sym (from-label names s c w.safe.in_text (take n (drop r.start s)) (label_is b)) ∙ w.same;
           sound =
               record {
@@ -450,25 +441,24 @@ module _ {names : List Name} {s : List ℕ} {from c : Cursor} (w : Scanning name
                 in_text = inside_text;
                 near = omega (arith, w.safe.few_words);
                 line_fits = omega (arith, w.safe.few_lines, w.safe.in_text);
-                few_labels = w.safe.few_labels;
                 rest_fits = rw z fits;
               };
           after = w.after;
         })
 
     -- What follows the line.
-    module _ (b : r.label ≡ None) {n : Next} (e : n ≡ line_after (length s) c.line c.labels x) where
+    module _ (b : r.label ≡ None) {n : Next} (e : n ≡ line_after (length s) c.line x) where
       follows-line : resumed names s n ≡ scanned_from names s from
-      follows-line = ap (resumed names s) (e ∙ ap (line_after (length s) c.line c.labels) stands) ∙ sym (from-line names s c w.safe.in_text (label_is b)) ∙ w.same
+      follows-line = ap (resumed names s) (e ∙ ap (line_after (length s) c.line) stands) ∙ sym (from-line names s c w.safe.in_text (label_is b)) ∙ w.same
 
-      pub scans_end : {o : Outcome} → n ≡ NextEnded o → ReadsOn names s (From from) (PassEnded o)
+      pub scans_end : {v : Verdict} → n ≡ NextEnded v → ReadsOn names s (From from) (PassEnded v)
       scans_end k = record { answer = rw k at follows-line; sound = tt; after = tt }
 
       -- The next line is after this one.
       next-after : {d : Cursor} → n ≡ From d → Next-line s c.at c.line (From d)
       unfolding end_at
       next-after k =
-          let z = next-line-after s c.at c.line c.labels w.safe.short (omega (arith, w.safe.few_labels)) x (rw z fits) ends-after in
+          let z = next-line-after s c.at c.line w.safe.short x (rw z fits) ends-after in
           subst (Next-line s c.at c.line) (sym e ∙ k) z
         where
           ends-after : EndsAfter c.at x
@@ -483,7 +473,7 @@ module _ {names : List Name} {s : List ℕ} {from c : Cursor} (w : Scanning name
 -- ---- going on
 
 -- What follows the line of a label that is entered.
-pub goes_line : {s : List ℕ} {p : LabelLine} {n : Next} → Sound s p → n ≡ line_after (length s) p.line (p.labels + 1) p.rest → GoesOn s p (Ok tt) n
+pub goes_line : {s : List ℕ} {p : LabelLine} {n : Next} → Sound s p → n ≡ line_after (length s) p.line p.rest → GoesOn s p (Ok tt) n
 goes_line {s} {p} {n} d e = record { answer = e; sound = safe n on; follows = later n on }
   where
     any : (x : Rest) → EndsAfter 0 x
@@ -491,12 +481,12 @@ goes_line {s} {p} {n} d e = record { answer = e; sound = safe n on; follows = la
     any (Ok d) = omega arith
 
     on : Next-line s 0 p.line n
-    on = rw e (next-line-after s 0 p.line (p.labels + 1) d.short d.few_labels p.rest d.rest_fits (any p.rest))
+    on = rw e (next-line-after s 0 p.line d.short p.rest d.rest_fits (any p.rest))
 
     safe : (n : Next) → Next-line s 0 p.line n → ScannableNext s n
     safe (From c) z = z.0
-    safe (NextEnded o) z = tt
+    safe (NextEnded v) z = tt
 
     later : (n : Next) → Next-line s 0 p.line n → Follows p (Ok tt) n
     later (From c) z = (z.1, refl)
-    later (NextEnded o) z = tt
+    later (NextEnded v) z = tt

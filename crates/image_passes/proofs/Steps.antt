@@ -1,15 +1,14 @@
 -- What a line comes to, by what it reads as.
 use Prim.Native.Nat.{ℕ, ◌+◌, ◌≤◌}
-use mathlib.Core.Path.{◌≡◌, refl, sym, ap, ◌∙◌}
+use mathlib.Core.Path.{◌≡◌, refl, sym, ap}
 use native.Mathlib.Omega.{arith}
 use mathlib.Core.Bool.{Bool, true, false}
 use mathlib.Core.Option.{Option, none, some}
-use mathlib.Core.List.{List, [], ◌∷◌, ◌++◌, map, append-nil}
+use mathlib.Core.List.{List, [], ◌++◌, append-nil}
 use lib.ListN.{length}
 use lib.Dec.{ltb}
-use borrow.Author.Tests.{ltb-true, le-ltb}
-use Rattle.std.specs.Prelude.{Option as Maybe, Some, None, Result, Ok, Err}
-use Rattle.std.specs.Result.{result_unwrap_or}
+use borrow.Author.Tests.{ltb-true}
+use Rattle.std.specs.Prelude.{Ok, Err}
 use Rattle.refusal.specs.Refusals.{number_of, refusal_at}
 use Rattle.refusal.specs.declared.refusal.Refusal.{Refusal}
 use Rattle.refusal.specs.declared.refusal.Refusal.TheVariants.{TooManyWords}
@@ -22,26 +21,15 @@ use Rattle.image.specs.Settings.{Settings, settings}
 use Rattle.image.specs.Assembling.{State, next, stop, nothing, codes, sets, faulty, read_on, changed_by, with_settings, most_words, with_instruction, doing, Effect as MeantEffect, Read as MeantRead}
 use Rattle.image.specs.Meaning.{coded_by}
 use Rattle.image.specs.Promised.{settings_meant}
-use Rattle.instruction.specs.Words.{word_of}
-use Rattle.instruction.specs.Promised.{parts_meant}
-use Rattle.instruction.specs.declared.instruction.Operands.{Operands}
-use Rattle.instruction.specs.declared.opcode.Mnemonic.{Mnemonic}
 use Rattle.image_line.specs.Promised.{context_for, effect_meant, end_of, LineIs}
-use Rattle.image_passes.specs.Promised.{effect_at, Rest, done, one_more, rest_for, RestFits, coded_meant, CodesLine}
+use Rattle.image_passes.specs.Promised.{effect_at, Rest, done, one_more, rest_for, RestFits}
 use Rattle.image.specs.declared.config.Config.{Config}
-use Rattle.image_line.specs.declared.line.Effect.{Effect}
-use Rattle.image_line.specs.declared.line.Effect.TheVariants.{Nothing, Sets, Codes}
 use Rattle.image_line.specs.declared.line.Read.{Read}
 use Rattle.image_passes.specs.declared.first_pass.Done.{Done}
 use Rattle.image_passes.proofs.Faults.{Named, effect-named}
 use Rattle.image_passes.proofs.Reaching.{comes_to}
 
 -- ---- what a line comes to
-
--- One instruction too many.
-pub word-many : (words : ℕ) (c : Config) (end : ℕ) → 32768 ≤ words → Err TooManyWords ≡ one_more words c end
-unfolding one_more most_words
-word-many words c end h = rw (one_more, le-ltb words 32768 h)
 
 -- A refusal is the one with its number.
 pub refusal_back : (r : Refusal) → refusal_at (number_of r) ≡ r
@@ -110,27 +98,3 @@ module _ {names : List Name} {s : List ℕ} {from : ℕ} (c : Config) {r : Read}
       go : (o : Option Record) → rest_for (read_on (context_for c) o).effect words c (elim o [ none ↦ from + indent (rest_at s from) | some x ↦ end_at s from ]) ≡ rest_for (read_on (context_for c) o).effect words c (end_at s from)
       go (some x) = refl
       go none = refl
-
-  -- Its word and the settings after it are those of what it does, where a refused line does nothing.
-  coded_as : (e : Effect) → result_unwrap_or r.effect Nothing ≡ e → (w : Maybe ℕ) (d : Config) → coded_meant w ≡ map word_of (coded_by (effect_meant (Ok e)))
-      → settings_meant d ≡ changed_by (settings_meant c) (effect_meant (Ok e)) → CodesLine names s from (settings_meant c) (record { coded = w; config = d; end = r.end })
-  unfolding coded_by changed_by
-  coded_as e u w d x y = go r.effect u effect_is
-    where
-      go : (a : Result Effect Refusal) → result_unwrap_or a Nothing ≡ e → effect_meant a ≡ effect_at names s from (settings_meant c)
-          → CodesLine names s from (settings_meant c) (record { coded = w; config = d; end = r.end })
-      go (Ok f) u q = record { words = x ∙ rw (← q, u); settings = y ∙ rw (← q, u); ends = h.ends }
-      go (Err f) u q = record { words = x ∙ rw (← q, ← u); settings = y ∙ rw (← q, ← u); ends = h.ends }
-
-  pub codes_word : {m : Mnemonic} {word : ℕ} {o : Operands} → result_unwrap_or r.effect Nothing ≡ Codes m o → word ≡ word_of (parts_meant (record { mnemonic = m; operands = o }))
-      → CodesLine names s from (settings_meant c) (record { coded = Some word; config = c; end = r.end })
-  unfolding coded_by changed_by
-  codes_word {m} {word} {o} u w = coded_as (Codes m o) u (Some word) c (ap (λ (x : ℕ). x ∷ []) w) refl
-
-  pub codes_settings : {d : Config} → result_unwrap_or r.effect Nothing ≡ Sets d → CodesLine names s from (settings_meant c) (record { coded = None; config = d; end = r.end })
-  unfolding coded_by changed_by
-  codes_settings {d} u = coded_as (Sets d) u None d refl refl
-
-  pub codes_nothing : result_unwrap_or r.effect Nothing ≡ Nothing → CodesLine names s from (settings_meant c) (record { coded = None; config = c; end = r.end })
-  unfolding coded_by changed_by
-  codes_nothing u = coded_as Nothing u None c refl refl

@@ -1,6 +1,6 @@
 -- What the functions of the two walks answer. The first walk's are equations with definitions of their own, by which the walk of document 01
 -- is done in pieces, from label to label; what the pieces come to together is `WalkEnds`. Quotations are document 01's.
-use Rattle.std.specs.Prelude.{ℕ, suc, ◌+◌, ◌*◌, ◌≤◌, ◌<◌, ◌≡◌, Bool, true, false, length, drop, leb, ltb, ⊤, Option, Some, None, Result, Ok, Err}
+use Rattle.std.specs.Prelude.{ℕ, suc, ◌+◌, ◌*◌, ◌≤◌, ◌<◌, ◌≡◌, Bool, true, false, length, drop, leb, ltb, ⊤, Some, None, Result, Ok, Err}
 use Rattle.std.proofs.Math.Option.{none, some}
 use mathlib.Core.List.{List, [], ◌∷◌, map, flat_map}
 use Rattle.refusal.specs.Refusals.{number_of, refusal_at}
@@ -14,13 +14,13 @@ use Rattle.text.specs.Places.{rest_at}
 use Rattle.instruction.specs.Words.{word_of}
 use Rattle.image.specs.Settings.{Settings, begin}
 use Rattle.image.specs.Program.{image_length}
-use Rattle.image.specs.Assembling.{Label as Meant, State, Effect as MeantEffect, nothing, sets, codes, faulty, Read as MeantRead, read_on, changed_by, most_words, rust_line_of, refusing, most_bytes, reading, accepted}
+use Rattle.image.specs.Assembling.{Label as Meant, State, Effect as MeantEffect, nothing, sets, codes, faulty, Read as MeantRead, read_on, most_words, rust_line_of, refusing, most_bytes, reading, accepted}
 use Rattle.image.specs.Lent.{over}
-use Rattle.image.specs.Meaning.{coded_by, instructions_of, settings_of, image_of}
+use Rattle.image.specs.Meaning.{instructions_of, settings_of, image_of}
 use Rattle.image.specs.Promised.{settings_meant, config_for}
 use Rattle.image.specs.declared.config.Config.{Config}
 use Rattle.image_labels.specs.Promised.{InText}
-use Rattle.image_line.specs.Promised.{context_for, end_of}
+use Rattle.image_line.specs.Promised.{context_for, next_line}
 use Rattle.image_passes.specs.declared.first_pass.Next.{Next}
 use Rattle.image_passes.specs.declared.first_pass.Next.TheVariants.{From, Ended as NextEnded}
 use Rattle.image_passes.specs.declared.first_pass.Cursor.{Cursor}
@@ -28,11 +28,9 @@ use Rattle.image_passes.specs.declared.first_pass.Pass.{Pass}
 use Rattle.image_passes.specs.declared.first_pass.Pass.TheVariants.{AtLabel, Ended as PassEnded}
 use Rattle.image_passes.specs.declared.first_pass.LabelLine.{LabelLine}
 use Rattle.image_passes.specs.declared.first_pass.Done.{Done}
-use Rattle.image_passes.specs.declared.first_pass.Outcome.{Outcome}
 use Rattle.image_passes.specs.declared.first_pass.Finished.{Finished}
 use Rattle.image_passes.specs.declared.first_pass.Stopped.{Stopped}
 use Rattle.image_passes.specs.declared.second_pass.TooShort.{TooShort}
-use Rattle.image_passes.specs.declared.second_pass.CodedLine.{CodedLine}
 
 -- ---- what a line comes to
 
@@ -63,58 +61,62 @@ rest_for (faulty n) words c end = Err (refusal_at n)
 
 -- ---- the first walk
 
--- The walk ends with a refusal,
-abbrev pub refused_at : Refusal → ℕ → ℕ → ℕ → Outcome
-refused_at r rust line labels = record { labels = labels; verdict = Err (record { refusal = r; rust_line = rust; line = line }) }
+-- How it ends: with what it has found, or with why the source is refused.
+abbrev pub Verdict : Type 0
+Verdict = Result Finished Stopped
+
+-- It ends with a refusal,
+abbrev pub refused_at : Refusal → ℕ → ℕ → Verdict
+refused_at r rust line = Err (record { refusal = r; rust_line = rust; line = line })
 
 -- that of a line,
-abbrev pub line_refused : Refusal → ℕ → ℕ → Outcome
-line_refused r line labels = refused_at r (rust_line_of (number_of r) line) line labels
+abbrev pub line_refused : Refusal → ℕ → Verdict
+line_refused r line = refused_at r (rust_line_of (number_of r) line) line
 
 -- or after the last line.
-abbrev pub finished_with : ℕ → ℕ → Config → Outcome
-finished_with labels words c = record { labels = labels; verdict = Ok (record { words = words; config = c }) }
+abbrev pub finished_with : ℕ → Config → Verdict
+finished_with words c = Ok (record { words = words; config = c })
 
 -- A label is to be entered, after so many words.
-abbrev pub label_pass : ℕ → ℕ → ℕ → ℕ → ℕ → Rest → Pass
-label_pass start length words line labels rest =
-    AtLabel (record { label = record { start = start; length = length; address = 0x1000 + 4 * words }; labels = labels; line = line; rest = rest })
+abbrev pub label_pass : ℕ → ℕ → ℕ → ℕ → Rest → Pass
+label_pass start length words line rest =
+    AtLabel (record { label = record { start = start; length = length; address = 0x1000 + 4 * words }; line = line; rest = rest })
 
 -- Reading on from a line with a number, the first of those given, whose first byte stands at a place: to the next label or the end.
-unfoldable pub scanned : List Name → (labels line words : ℕ) → Config → ℕ → List (List ℕ) → Pass
-scanned names labels line words c at [] = PassEnded (finished_with labels words c)
-scanned names labels line words c at (l ∷ ls) =
+unfoldable pub scanned : List Name → (line words : ℕ) → Config → ℕ → List (List ℕ) → Pass
+scanned names line words c at [] = PassEnded (finished_with words c)
+scanned names line words c at (l ∷ ls) =
     elim (read_on (context_for c) (read_line names l)).label [
-      | some u ↦ label_pass (at + indent l) (length u) words line labels (rest_for (read_on (context_for c) (read_line names l)).effect words c (at + length l))
+      | some u ↦ label_pass (at + indent l) (length u) words line (rest_for (read_on (context_for c) (read_line names l)).effect words c (at + length l))
       | none ↦ elim (rest_for (read_on (context_for c) (read_line names l)).effect words c (at + length l)) [
-        | Err r ↦ PassEnded (line_refused r line labels)
-        | Ok d ↦ scanned names labels (suc line) d.words d.config (suc d.end) ls
+        | Err r ↦ PassEnded (line_refused r line)
+        | Ok d ↦ scanned names (suc line) d.words d.config (suc d.end) ls
       ]
     ]
 
 abbrev pub scanned_from : List Name → List ℕ → Cursor → Pass
-scanned_from names s c = scanned names c.labels c.line c.words c.config c.at (lines (drop c.at s))
+scanned_from names s c = scanned names c.line c.words c.config c.at (lines (drop c.at s))
 
 -- Where the walk comes to as it reads on; once it has ended it stays so.
 abbrev pub resumed : List Name → List ℕ → Next → Pass
 resumed names s (From c) = scanned_from names s c
-resumed names s (NextEnded o) = PassEnded o
+resumed names s (NextEnded v) = PassEnded v
 
 -- The first line, with the settings that a source begins with.
 abbrev pub first_line : Cursor
-first_line = record { at = 0; line = 1; labels = 0; words = 0; config = config_for begin }
+first_line = record { at = 0; line = 1; words = 0; config = config_for begin }
 
 -- What the walk begins with: "2 a byte above 127 (added; true line of the first)", or the first line.
 unfoldable pub begun : List ℕ → Next
-begun s = elim (every ascii s) [ true ↦ From first_line | false ↦ NextEnded (refused_at NotAscii 0 (length (lines (before ascii s))) 0) ]
+begun s = elim (every ascii s) [ true ↦ From first_line | false ↦ NextEnded (refused_at NotAscii 0 (length (lines (before ascii s)))) ]
 
--- What follows a line that comes to something, in a source of so many bytes, with labels: its refusal, the end, or the next line.
-unfoldable pub line_after : ℕ → (line labels : ℕ) → Rest → Next
-line_after size line labels (Err r) = NextEnded (line_refused r line labels)
-line_after size line labels (Ok d) =
-    elim (ltb d.end size) [
-      | true ↦ From (record { at = d.end + 1; line = line + 1; labels = labels; words = d.words; config = d.config })
-      | false ↦ NextEnded (finished_with labels d.words d.config)
+-- What follows a line that comes to something, in a source of so many bytes: its refusal, the end, or the next line.
+unfoldable pub line_after : ℕ → (line : ℕ) → Rest → Next
+line_after size line (Err r) = NextEnded (line_refused r line)
+line_after size line (Ok d) =
+    elim (next_line size d.end) [
+      | Some at ↦ From (record { at = at; line = line + 1; words = d.words; config = d.config })
+      | None ↦ NextEnded (finished_with d.words d.config)
     ]
 
 -- Whether a label is entered, or why it is refused.
@@ -123,8 +125,8 @@ Entry = Result ⊤ Refusal
 
 -- What follows a label: "4 duplicate label; 5 new label, table full"; or it is entered.
 abbrev pub followed : List ℕ → LabelLine → Entry → Next
-followed s p (Ok _) = line_after (length s) p.line (p.labels + 1) p.rest
-followed s p (Err r) = NextEnded (line_refused r p.line p.labels)
+followed s p (Ok _) = line_after (length s) p.line p.rest
+followed s p (Err r) = NextEnded (line_refused r p.line)
 
 -- ---- what the functions of the first walk promise: an equation with the definitions above, and what their callers need to call on
 
@@ -133,37 +135,35 @@ abbrev pub RestFits : ℕ → Rest → Type 0
 RestFits line (Err r) = Unit {0}
 RestFits line (Ok d) = (line ≤ d.end + 1) × (d.words ≤ 32768)
 
--- What is known of a label that is to be entered: it is a part of the source, at an address below 2^21; each line has a label at most.
+-- What is known of a label that is to be entered: it is a part of the source, at an address below 2^21.
 pub record Sound (s : List ℕ) (p : LabelLine) : Type 0 where
   pub short : length s ≤ most_bytes
   pub in_text : InText s p.label
   pub near : p.label.address < 2097152
   pub line_fits : p.line ≤ length s + 1
-  pub few_labels : p.labels + 1 ≤ p.line
   pub rest_fits : RestFits p.line p.rest
 
 abbrev pub SoundPass : List ℕ → Pass → Type 0
 SoundPass s (AtLabel p) = Sound s p
-SoundPass s (PassEnded o) = Unit {0}
+SoundPass s (PassEnded v) = Unit {0}
 
 -- From where the walk may read on.
 pub record Scannable (s : List ℕ) (c : Cursor) : Type 0 where
   pub short : length s ≤ most_bytes
   pub in_text : c.at ≤ length s
   pub few_lines : c.line ≤ c.at + 1
-  pub few_labels : c.labels + 1 ≤ c.line
   pub few_words : c.words ≤ 32768
 
 abbrev pub ScannableNext : List ℕ → Next → Type 0
 ScannableNext s (From c) = Scannable s c
-ScannableNext s (NextEnded o) = Unit {0}
+ScannableNext s (NextEnded v) = Unit {0}
 
 -- A label is reached from a line before it, or its own; none is reached from the end.
 abbrev pub After : Next → Pass → Type 0
 After (From c) (AtLabel p) = c.line ≤ p.line
-After (From c) (PassEnded o) = Unit {0}
-After (NextEnded o) (AtLabel p) = ⊥
-After (NextEnded o) (PassEnded o') = Unit {0}
+After (From c) (PassEnded v) = Unit {0}
+After (NextEnded v) (AtLabel p) = ⊥
+After (NextEnded v) (PassEnded v') = Unit {0}
 
 -- The walk reads on: to the next label, or to its end.
 pub record ReadsOn (names : List Name) (s : List ℕ) (n : Next) (p : Pass) : Type 0 where
@@ -179,7 +179,7 @@ pub record Begins (s : List ℕ) (n : Next) : Type 0 where
 -- A line that is read next is after that of the label, which has been entered.
 abbrev pub Follows : LabelLine → Entry → Next → Type 0
 Follows p e (From c) = (p.line < c.line) × (e ≡ Ok tt)
-Follows p e (NextEnded o) = Unit {0}
+Follows p e (NextEnded v) = Unit {0}
 
 -- What follows a label that has been entered, or refused.
 pub record GoesOn (s : List ℕ) (p : LabelLine) (e : Entry) (n : Next) : Type 0 where
@@ -197,28 +197,12 @@ pub record Accepts (names : List Name) (s : List ℕ) (room : ℕ) (labels : Lis
   pub words_are : length state.instructions ≡ words
   pub setup_is : state.setup ≡ setup
 
--- A verdict is what reading the source comes to, with labels entered.
-abbrev pub Judges : List Name → List ℕ → ℕ → List Meant → Result Finished Stopped → Type 0
-Judges names s room labels (Err t) = reading names s room ≡ refusing (number_of t.refusal) t.rust_line t.line labels none
-Judges names s room labels (Ok f) = Accepts names s room labels f.words (settings_meant f.config)
-
--- The walk has ended with labels entered.
-pub record WalkEnds (names : List Name) (s : List ℕ) (room : ℕ) (labels : List Meant) (o : Outcome) : Type 0 where
-  pub count : o.labels ≡ length labels
-  pub judges : Judges names s room labels o.verdict
+-- The walk has ended with labels entered: its verdict is what reading the source comes to.
+abbrev pub WalkEnds : List Name → List ℕ → ℕ → List Meant → Verdict → Type 0
+WalkEnds names s room labels (Err t) = reading names s room ≡ refusing (number_of t.refusal) t.rust_line t.line labels none
+WalkEnds names s room labels (Ok f) = Accepts names s room labels f.words (settings_meant f.config)
 
 -- ---- the second walk
-
--- The word of a line, if it has one.
-abbrev pub coded_meant : Option ℕ → List ℕ
-coded_meant (Some w) = w ∷ []
-coded_meant None = []
-
--- The word of the line at a place, the settings after the line, and where it ends.
-pub record CodesLine (names : List Name) (s : List ℕ) (at : ℕ) (setup : Settings) (r : CodedLine) : Type 0 where
-  pub words : coded_meant r.coded ≡ map word_of (coded_by (effect_at names s at setup))
-  pub settings : settings_meant r.config ≡ changed_by setup (effect_at names s at setup)
-  pub ends : r.end ≡ end_of names s at
 
 -- No line has a bad token.
 unfoldable pub all_read : List Name → List (List ℕ) → Bool

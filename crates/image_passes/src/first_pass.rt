@@ -6,29 +6,29 @@ ghost use Rattle.text.specs.Lines.{lines};
 ghost use Rattle.image.specs.Assembling.{rust_line_of, most_bytes};
 ghost use Rattle.text_lexical.specs.Names.{present};
 ghost use Rattle.image_line.specs.Promised.{effect_meant};
-ghost use Rattle.image_passes.specs.Promised.{refused_at, line_refused, finished_with, one_more, rest_for, label_pass, line_after, Sound, Scannable, ScannableNext, ReadsOn, Begins, GoesOn};
+ghost use Rattle.image_passes.specs.Promised.{refused_at, line_refused, one_more, rest_for, label_pass, line_after, Sound, Scannable, ScannableNext, ReadsOn, Begins, GoesOn};
 ghost use Rattle.image_passes.specs.declared.first_pass.Next.TheVariants.{From};
 
 use image::config::Config;
-use image::limits::{ENTRY, MOST_BYTES, MOST_WORDS};
+use image::limits::{ENTRY, MOST_BYTES, MOST_WORDS, WORD_SIZE};
 use image_labels::label::Label;
 use image_line::line::Effect;
 use refusal::refusal::Refusal;
+use text_lexical::bytes::{Class, Inside};
 
 // What the first walk does next: it reads on from a line, or it has ended. The end is no error, so this is no `Result`, and a
 // `ControlFlow` would call the two Continue and Break, which no `?` hands on.
 #[derive(Clone, Copy)]
 pub enum Next {
     From(Cursor),
-    Ended(Outcome),
+    Ended(Verdict),
 }
 
-// A line that is to be read: where it begins, its number, and the labels, words and settings before it.
+// A line that is to be read: where it begins, its number, and the words and settings before it.
 #[derive(Clone, Copy)]
 pub struct Cursor {
     pub at: usize,
     pub line: usize,
-    pub labels: usize,
     pub words: usize,
     pub config: Config,
 }
@@ -38,14 +38,13 @@ pub struct Cursor {
 #[derive(Clone, Copy)]
 pub enum Pass {
     AtLabel(LabelLine),
-    Ended(Outcome),
+    Ended(Verdict),
 }
 
-// A line whose label is to be entered, after `labels` others, and what the rest of the line comes to.
+// A line whose label is to be entered, and what the rest of the line comes to.
 #[derive(Clone, Copy)]
 pub struct LabelLine {
     pub label: Label,
-    pub labels: usize,
     pub line: usize,
     pub rest: Result<Done, Refusal>,
 }
@@ -58,12 +57,8 @@ pub struct Done {
     pub end: usize,
 }
 
-// How the first walk has ended, and how many labels have been entered: there are as many in either case, so they stand beside the verdict.
-#[derive(Clone, Copy)]
-pub struct Outcome {
-    pub labels: usize,
-    pub verdict: Result<Finished, Stopped>,
-}
+// How the first walk has ended: it has read the source to its end, or the source is refused.
+pub type Verdict = Result<Finished, Stopped>;
 
 // The words and settings of a source that has been read to its end.
 #[derive(Clone, Copy)]
@@ -86,7 +81,7 @@ fn line_number(source: &[u8], place: usize) -> usize
     requires { place ≤ length source.now }
     ensures { result ≡ length (lines (take place source.now)) }
 {
-    1 + source[..place].iter().filter(|b| **b == b'\n').count()
+    1 + source[..place].iter().filter(|b| !Inside::has(**b)).count()
 }
 
 // The Rust's line of a refusal at a line: 0 where it gives none, as document 01 has it.
@@ -101,34 +96,21 @@ fn rust_line(refusal: Refusal, line: usize) -> usize
 }
 
 // The walk ends with a refusal.
-fn refused_at(refusal: Refusal, rust_line: usize, line: usize, labels: usize) -> Outcome
-    ensures { result ≡ refused_at refusal rust_line line labels }
+fn refused_at(refusal: Refusal, rust_line: usize, line: usize) -> Verdict
+    ensures { result ≡ refused_at refusal rust_line line }
 {
-    Outcome {
-        labels,
-        verdict: Err(Stopped {
-            refusal,
-            rust_line,
-            line,
-        }),
-    }
+    Err(Stopped {
+        refusal,
+        rust_line,
+        line,
+    })
 }
 
 // The walk ends with the refusal of a line.
-fn line_refused(refusal: Refusal, line: usize, labels: usize) -> Outcome
-    ensures { result ≡ line_refused refusal line labels }
+fn line_refused(refusal: Refusal, line: usize) -> Verdict
+    ensures { result ≡ line_refused refusal line }
 {
-    refused_at(refusal, rust_line(refusal, line), line, labels)
-}
-
-// The walk ends after the last line.
-fn finished_with(labels: usize, words: usize, config: Config) -> Outcome
-    ensures { result ≡ finished_with labels words config }
-{
-    Outcome {
-        labels,
-        verdict: Ok(Finished { words, config }),
-    }
+    refused_at(refusal, rust_line(refusal, line), line)
 }
 
 // A line with an instruction, which is refused if it is the 32,769th.
@@ -160,16 +142,15 @@ fn rest_of(effect: Result<Effect, Refusal>, done: Done) -> Result<Done, Refusal>
 // The label of a cursor's line is to be entered, which begins at `start`.
 fn at_label(start: usize, length: usize, cursor: Cursor, rest: Result<Done, Refusal>) -> Pass
     requires { cursor.words ≤ 32768 }
-    ensures { result ≡ label_pass start length cursor.words cursor.line cursor.labels rest }
+    ensures { result ≡ label_pass start length cursor.words cursor.line rest }
 {
     let label = Label {
         start,
         length,
-        address: u64::from(ENTRY) + 4 * (cursor.words as u64),
+        address: u64::from(ENTRY) + (WORD_SIZE * cursor.words) as u64,
     };
     Pass::AtLabel(LabelLine {
         label,
-        labels: cursor.labels,
         line: cursor.line,
         rest,
     })
@@ -177,25 +158,25 @@ fn at_label(start: usize, length: usize, cursor: Cursor, rest: Result<Done, Refu
 
 // What follows a line, by what it comes to, in a source of so many bytes: its refusal, the end, or the next line.
 #[tactic(auto, unfolding(crate::specs::Promised::line_after, image::specs::Assembling::most_bytes))]
-fn after_line(size: usize, line: usize, labels: usize, rest: Result<Done, Refusal>) -> Next
+fn after_line(size: usize, line: usize, rest: Result<Done, Refusal>) -> Next
     requires size_fits { size ≤ most_bytes }
     requires line_fits { line ≤ size + 1 }
-    ensures { result ≡ line_after size line labels rest }
+    ensures { result ≡ line_after size line rest }
 {
     match rest {
-        Err(refusal) => Next::Ended(line_refused(refusal, line, labels)),
-        Ok(done) => {
-            if size <= done.end {
-                return Next::Ended(finished_with(labels, done.words, done.config));
-            }
-            Next::From(Cursor {
-                at: done.end + 1,
-                line: line + 1,
-                labels,
+        Err(refusal) => Next::Ended(line_refused(refusal, line)),
+        Ok(done) => match image_line::line::next_line(size, done.end) {
+            None => Next::Ended(Ok(Finished {
                 words: done.words,
                 config: done.config,
-            })
-        }
+            })),
+            Some(at) => Next::From(Cursor {
+                at,
+                line: line + 1,
+                words: done.words,
+                config: done.config,
+            }),
+        },
     }
 }
 
@@ -218,8 +199,8 @@ fn scan(source: &[u8], from: Cursor) -> Pass
         if let Some(length) = read.label {
             return at_label(read.start, length, cursor, rest);
         }
-        match after_line(source.len(), cursor.line, cursor.labels, rest) {
-            Next::Ended(outcome) => return Pass::Ended(outcome),
+        match after_line(source.len(), cursor.line, rest) {
+            Next::Ended(verdict) => return Pass::Ended(verdict),
             Next::From(next) => cursor = next,
         }
     }
@@ -232,7 +213,7 @@ pub fn read_on(source: &[u8], next: Next) -> Pass
     ensures { ReadsOn present source.now next result }
 {
     match next {
-        Next::Ended(outcome) => Pass::Ended(outcome),
+        Next::Ended(verdict) => Pass::Ended(verdict),
         Next::From(from) => scan(source, from),
     }
 }
@@ -253,12 +234,11 @@ pub fn begin(source: &[u8]) -> Next
     let clean = text_lexical::bytes::ascii_end(source, 0);
     if clean < source.len() {
         let line = line_number(source, clean);
-        return Next::Ended(refused_at(Refusal::NotAscii, 0, line, 0));
+        return Next::Ended(refused_at(Refusal::NotAscii, 0, line));
     }
     Next::From(Cursor {
         at: 0,
         line: 1,
-        labels: 0,
         words: 0,
         config: Config::begin(),
     })
@@ -271,7 +251,7 @@ pub fn go_on(source: &[u8], at: LabelLine, entered: Result<(), Refusal>) -> Next
     ensures { GoesOn source.now at entered result }
 {
     match entered {
-        Err(refusal) => Next::Ended(line_refused(refusal, at.line, at.labels)),
-        Ok(()) => after_line(source.len(), at.line, at.labels + 1, at.rest),
+        Err(refusal) => Next::Ended(line_refused(refusal, at.line)),
+        Ok(()) => after_line(source.len(), at.line, at.rest),
     }
 }

@@ -1,16 +1,13 @@
-// The second walk writes the words.
-ghost use Rattle.std.specs.Prelude.{◌≡◌, ◌+◌, ◌≤◌, length};
-ghost use mathlib.Core.List.{flat_map};
-ghost use Rattle.text_lexical.specs.Numbers.{little};
-ghost use Rattle.text_writer.specs.Promised.{Written};
+// The second walk writes the words, after the header.
+ghost use Rattle.std.specs.Prelude.{◌≡◌};
 ghost use Rattle.instruction.specs.Words.{word_of};
 ghost use Rattle.instruction.specs.Promised.{parts_meant};
 ghost use Rattle.image.specs.Promised.{settings_meant};
 ghost use Rattle.text_lexical.specs.Names.{present};
-ghost use Rattle.image_passes.specs.Promised.{coded_meant, CodesLine, Readable, code_bytes, Ready, Fills};
+ghost use Rattle.image_passes.specs.Promised.{Readable, code_bytes, Ready, Fills};
 
 use image::config::Config;
-use image::limits::HEADER_SIZE;
+use image::limits::WORD_SIZE;
 use image_line::line::Effect;
 use instruction::instruction::{Instruction, Operands};
 use instruction::opcode::Mnemonic;
@@ -22,14 +19,6 @@ pub struct TooShort {
     pub needed: usize,
 }
 
-// A line's word, if it has one, the settings after the line, and where it ends.
-#[derive(Clone, Copy)]
-struct CodedLine {
-    coded: Option<u32>,
-    config: Config,
-    end: usize,
-}
-
 // The word of an instruction by its mnemonic and operands.
 fn word_of(mnemonic: Mnemonic, operands: Operands) -> u32
     ensures { result ≡ word_of (parts_meant (record { mnemonic = mnemonic; operands = operands })) }
@@ -37,65 +26,31 @@ fn word_of(mnemonic: Mnemonic, operands: Operands) -> u32
     instruction_encoder::encoder::encode(Instruction::from_parts(mnemonic, operands))
 }
 
-// The line that begins at `at`, where the settings are these. A line that is refused does nothing here.
-fn code_line(source: &[u8], at: usize, config: Config) -> CodedLine
-    requires { at ≤ length source.now }
-    ensures { CodesLine present source.now at (settings_meant config) result }
-{
-    let read = image_line::line::read_line(source, at, config);
-    let end = read.end;
-    match read.effect.unwrap_or(Effect::Nothing) {
-        Effect::Nothing => CodedLine {
-            coded: None,
-            config,
-            end,
-        },
-        Effect::Sets(changed) => CodedLine {
-            coded: None,
-            config: changed,
-            end,
-        },
-        Effect::Codes { mnemonic, operands } => CodedLine {
-            coded: Some(word_of(mnemonic, operands)),
-            config,
-            end,
-        },
-    }
-}
-
-// A line's word, if it has one.
-fn put_coded<S: Sink>(sink: &mut S, coded: Option<u32>)
-    requires { S.Fits sink.old (flat_map (little 4) (coded_meant coded)) }
-    ensures { S.Took sink.old (flat_map (little 4) (coded_meant coded)) sink.new }
-{
-    if let Some(word) = coded {
-        sink.put_bytes(&word.to_le_bytes());
-    }
-}
-
-// The words of all lines, after the header.
-#[tactic(auto, using(crate::proofs::Passes::worded_none, crate::proofs::Passes::worded_more))]
-fn second_pass(source: &[u8], image: &mut [u8]) -> usize
+// The words of all lines are put.
+fn second_pass<S: Sink>(source: &[u8], sink: &mut S)
     requires readable { Readable present source.now }
-    requires room { 32 + length (code_bytes present source.now) ≤ length image.old }
-    ensures { Written image.old 32 (code_bytes present source.now) result image.new }
+    requires room { S.Fits sink.old (code_bytes present source.now) }
+    ensures { S.Took sink.old (code_bytes present source.now) sink.new }
 {
-    let mut writer = Writer {
-        out: image,
-        at: HEADER_SIZE,
-    };
     let mut at: usize = 0;
     let mut config = Config::begin();
     // where a line ends is found by reading it, so there is no list of lines to walk
     loop {
-        let line = code_line(source, at, config);
-        config = line.config;
-        put_coded(&mut writer, line.coded);
-        let end = line.end;
-        if source.len() <= end {
-            return writer.at;
+        let read = image_line::line::read_line(source, at, config);
+        match read.effect {
+            Ok(Effect::Codes { mnemonic, operands }) => {
+                let word = word_of(mnemonic, operands);
+                sink.put_bytes(&word.to_le_bytes());
+            }
+            Ok(Effect::Sets(changed)) => config = changed,
+            Ok(Effect::Nothing) => {}
+            // the first walk has refused no line
+            Err(_) => {}
         }
-        at = end + 1;
+        match image_line::line::next_line(source.len(), read.end) {
+            None => return,
+            Some(next) => at = next,
+        }
     }
 }
 
@@ -109,11 +64,12 @@ pub fn write_image(
     requires { Ready present source.now words (settings_meant config) }
     ensures { Fills present source.now words image.old image.new result }
 {
-    let needed = HEADER_SIZE + 4 * words;
+    let needed = image::program::image_length(words);
     if image.len() < needed {
         return Err(TooShort { needed });
     }
-    image::program::write_header(image, config, 4 * (words as u32));
-    second_pass(source, image);
+    let mut writer = Writer { out: image, at: 0 };
+    image::program::put_header(&mut writer, config, (WORD_SIZE * words) as u32);
+    second_pass(source, &mut writer);
     Ok(())
 }

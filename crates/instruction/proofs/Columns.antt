@@ -1,20 +1,22 @@
 -- The code's mnemonics and the rows of the table: each mnemonic has a row of the table, and each row a mnemonic.
 use mathlib.Core.Path.{◌≡◌, refl}
-use mathlib.Core.Bool.{Bool, true}
-use mathlib.Core.List.{List, [], ◌∷◌, map}
+use mathlib.Core.Bool.{true}
+use mathlib.Core.List.{List, map}
 use mathlib.Core.Option.{some}
-use Prim.Native.Nat.{ℕ, zero, suc, ◌≤◌, ◌<◌}
-use native.Mathlib.Omega.{arith}
-use lib.ListN.{length, get_or, get_or-eq_default}
+use Prim.Native.Nat.{ℕ, ◌≤◌}
+use lib.ListN.{length, take}
 use lib.Dec.{leb, ltb}
-use borrow.Author.Tests.{leb-true, ltb-true}
+use borrow.Author.Tests.{leb-true}
 use borrow.Author.Rules.{rules}
 use Rattle.std.specs.Prelude.{Some}
 use Rattle.text_lexical.specs.Bytes.{bytes, every, each, same, find}
 use Rattle.text_lexical.specs.Promised.{packed, key_of}
-use Rattle.text_lexical.proofs.Tests.{split, both}
-use Rattle.text_lexical.proofs.Strings.{every-head, every-tail, same-eq}
-use Rattle.text_lexical.proofs.Keys.{Below, is_keyed, key-short}
+use Rattle.text_lexical.specs.Words.{LettersOf}
+use Rattle.text_lexical.specs.declared.name.Letters.{Letters}
+use Rattle.text_lexical.proofs.Tests.{both}
+use Rattle.text_lexical.proofs.Strings.{same-eq}
+use Rattle.text_lexical.proofs.Keys.{Below, is_keyed, every-below, key-short}
+use Rattle.text_lexical.proofs.Letters.{letters-spell}
 use Rattle.instruction.specs.Table.{Row, row, table, row_named, row_coded}
 use Rattle.instruction.specs.Promised.{row_for, row_of, mnemonics, mnemonic_for}
 use Rattle.instruction.specs.Fits.{InTable}
@@ -53,15 +55,10 @@ opcode-row m = (row-facts (row_of m) (row-in-table m)).coded
 
 -- ---- spellings
 
-every-at : (p : ℕ → Bool) (s : List ℕ) (i : ℕ) → i < length s → every p s ≡ true → p (get_or s i 0) ≡ true
-every-at p [] i h k = absurd (omega arith)
-every-at p (b ∷ s) zero h k = every-head p b s k
-every-at p (b ∷ s) (suc i) h k = every-at p s i (omega arith) (every-tail p b s k)
-
 -- A spelling of at most seven bytes.
 pub record Short (s : List ℕ) : Type 0 where
   pub few : length s ≤ 7
-  pub bytes_below : (i : ℕ) → i < length s → get_or s i 0 < 256
+  pub bytes_small : every (λ b. ltb b 256) s ≡ true
 
 pub table-keyed : each (λ r. is_keyed r.mnemonic) table ≡ true
 unfolding each is_keyed every table row bytes
@@ -73,14 +70,15 @@ unfolding is_keyed
 mnemonic-short m =
     let s = (row_of m).mnemonic in
     let (n, b) = both (leb (length s) 7) (every (λ b. ltb b 256) s) (carried (λ r. is_keyed r.mnemonic) table-keyed (row_of m) (row-in-table m)) in
-    record { few = leb-true (length s) 7 n; bytes_below = λ j l. ltb-true (get_or s j 0) 256 (every-at (λ b. ltb b 256) s j l b) }
+    record { few = leb-true (length s) 7 n; bytes_small = b }
 
 pub mnemonic-below : (m : Mnemonic) → Below (row_of m).mnemonic
-mnemonic-below m i =
-    let s = (row_of m).mnemonic in
-    split i (length s) (λ l. (mnemonic-short m).bytes_below i l)
-    (λ l. let e : get_or s i 0 ≡ 0 = get_or-eq_default s 0 {n = i} l in omega arith)
+mnemonic-below m = every-below (row_of m).mnemonic (mnemonic-short m).bytes_small
 
--- and their keys have their bytes.
+-- and the letters of their keys are theirs.
+pub mnemonic-letters : (m : Mnemonic) (l : Letters) → LettersOf (packed (row_of m).mnemonic) l → take l.length l.bytes ≡ (row_of m).mnemonic
+mnemonic-letters m l h = let q = mnemonic-short m in letters-spell (row_of m).mnemonic l q.few q.bytes_small h
+
+-- Their keys have their bytes.
 pub mnemonic-packed : (m : Mnemonic) → key_of (row_of m).mnemonic ≡ Some (packed (row_of m).mnemonic)
 mnemonic-packed m = key-short (row_of m).mnemonic (mnemonic-short m).few

@@ -1,22 +1,26 @@
 -- Mnemonics that are looked for: by a key, at its slot, and by an opcode.
-use mathlib.Core.Path.{◌≡◌, refl, sym, ◌∙◌}
+use mathlib.Core.Path.{◌≡◌, refl, sym, ap, ◌∙◌}
 use Prim.Native.Nat.{ℕ, zero, suc, ◌+◌, ◌%◌}
 use native.Mathlib.Omega.{arith}
 use mathlib.Core.Bool.{Bool, true, false, true≢false}
 use mathlib.Core.Option.{some, none}
-use mathlib.Core.List.{List, [], ◌∷◌}
+use mathlib.Core.Option.{Option as MathOption}
+use mathlib.Core.List.{List, [], ◌∷◌, map}
 use lib.ListN.{get_or}
 use lib.Dec.{eqb}
 use borrow.Author.Tests.{eqb-true, ne_eqb}
 use Rattle.std.specs.Prelude.{Option, Some, None}
-use Rattle.text_lexical.specs.Bytes.{bytes, same, find, each}
-use Rattle.text_lexical.specs.Promised.{packed, key_of}
-use Rattle.text_lexical.proofs.Tests.{both}
-use Rattle.text_lexical.proofs.Keys.{Below, by_key, found-by-key, none-without-key}
+use Rattle.std.specs.Option.{is_some as is_code_some, MatchOption}
+use Rattle.text_lexical.specs.Bytes.{bytes, between, letter, digit, name_start, name_part, lower, every, same, find, each}
+use Rattle.text_lexical.specs.Promised.{packed, key_of, name_key}
+use Rattle.text_lexical.proofs.Tests.{by-test, both, no_both, or_left, or_right}
+use Rattle.text_lexical.proofs.Strings.{every-head, every-tail, every-cons}
+use Rattle.text_lexical.proofs.Keys.{Below, by_key, found-by-key, none-without-key, lowered-below}
 use Rattle.instruction.specs.Table.{Row, row, table, row_named, row_coded}
 use Rattle.instruction.specs.Promised.{row_for, row_of, found_meant}
 use Rattle.instruction.specs.declared.opcode.Mnemonic.{Mnemonic}
 use Rattle.instruction.specs.declared.opcode.TheConstants.{SLOTS, CODED}
+use Rattle.instruction.proofs.Rows.{lower_case, named-row, row-facts}
 use Rattle.instruction.proofs.Columns.{row-in-table, opcode-row, mnemonic-below, mnemonic-packed, table-keyed}
 
 -- Nothing is found where no entry passes.
@@ -36,6 +40,48 @@ row-by-key s h k e = found-by-key (λ r. r.mnemonic) table table-keyed s h k e
 pub row-without-key : (s : List ℕ) → None ≡ key_of s → row_named s ≡ none
 unfolding row_named
 row-without-key s e = none-without-key (λ r. r.mnemonic) table table-keyed s e
+
+-- Letters in lower case are those of a name.
+lowered-letter : (b : ℕ) → lower_case (lower b) ≡ true → name_part b ≡ true
+unfolding lower lower_case name_part name_start letter
+lowered-letter b h =
+    let named : letter b ≡ true → name_part b ≡ true = λ l. or_left (name_start b) (digit b) (or_left (letter b) (eqb b 95) l) in
+    by-test (between 65 90 b)
+    (λ u. named (or_right (between 97 122 b) (between 65 90 b) u))
+    (λ u. named (or_left (between 97 122 b) (between 65 90 b) (rw (lower, u) at h)))
+
+lowered-name : (s : List ℕ) → every lower_case (map lower s) ≡ true → every name_part s ≡ true
+unfolding every
+lowered-name [] h = refl
+lowered-name (b ∷ s) h =
+    every-cons name_part b s (lowered-letter b (every-head lower_case (lower b) (map lower s) h)) (lowered-name s (every-tail lower_case (lower b) (map lower s) h))
+
+-- One with a byte that is no part of a name names none.
+row-without-name : (s : List ℕ) → every name_part s ≡ false → row_named (map lower s) ≡ none
+row-without-name s f = go (row_named (map lower s)) refl
+  where
+    go : (o : MathOption Row) → row_named (map lower s) ≡ o → row_named (map lower s) ≡ none
+    go none e = e
+    go (some r) e =
+        let (t, m) = named-row (map lower s) r e in
+        no_both (lowered-name s (rw m at (row-facts r t).letters)) f
+
+-- The key of a name tells the row that the name has in lower case; what has no key has none.
+pub row-by-name : (s : List ℕ) → Below s → (key : Option ℕ) → key ≡ name_key s → (o : Option Mnemonic)
+    → MatchOption key (o ≡ None) (λ k. found_meant o ≡ find (λ q. eqb (packed q.mnemonic) k) table) → found_meant o ≡ row_named (map lower s)
+unfolding name_key
+row-by-name s below key e o n =
+    by-test (every name_part s)
+    (λ y. keyed key (rw (name_key, y) at e) n)
+    (λ f. let z : key ≡ None = rw (name_key, f) at e in unkeyed key z n ∙ sym (row-without-name s f))
+  where
+    unkeyed : (key : Option ℕ) → key ≡ None → MatchOption key (o ≡ None) (λ k. found_meant o ≡ find (λ q. eqb (packed q.mnemonic) k) table) → found_meant o ≡ none
+    unkeyed None z f = rw f
+    unkeyed (Some k) z f = absurd (true≢false (ap is_code_some z))
+
+    keyed : (key : Option ℕ) → key ≡ key_of (map lower s) → MatchOption key (o ≡ None) (λ k. found_meant o ≡ find (λ q. eqb (packed q.mnemonic) k) table) → found_meant o ≡ row_named (map lower s)
+    keyed None h f = rw f (sym (row-without-key (map lower s) h))
+    keyed (Some k) h f = f ∙ sym (row-by-key (map lower s) (lowered-below s below) k h)
 
 -- The key of a mnemonic is its row's.
 pub key-row : (m : Mnemonic) → find (λ q. eqb (packed q.mnemonic) (packed (row_of m).mnemonic)) table ≡ some (row_of m)

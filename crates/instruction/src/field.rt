@@ -8,7 +8,7 @@ pub const HIGH: u32 = 0x800;
 pub const TOP: u32 = 0x8000;
 
 // How many numbers a register's field holds.
-pub const REGISTERS: u32 = 16;
+pub const REGISTERS: u32 = text_lexical::register::REGISTERS as u32;
 
 // How many numbers a shift's amount has.
 pub const AMOUNTS: u32 = 0x100;

@@ -5,6 +5,7 @@ ghost use Rattle.text_lexical.specs.Promised.{packed};
 ghost use Rattle.instruction.specs.Table.{table, row_coded};
 ghost use Rattle.instruction.specs.Promised.{row_of, form_meant, found_meant};
 
+use crate::field::OPCODE_END;
 use crate::form::Form;
 
 // The mnemonics in the order of the table.
@@ -126,11 +127,11 @@ static ROWS: [Row; 50] = [
 ];
 
 // Where a mnemonic may stand is told by its key's residue modulo so many, by which all fifty differ.
-const PLACES: u64 = 293;
+const PLACES: usize = 293;
 
 // The mnemonic at each place: there is no heap for a map.
 #[rattlefmt::skip]
-static SLOTS: [Option<Mnemonic>; 293] = [
+static SLOTS: [Option<Mnemonic>; PLACES] = [
     None, None, None, None, Some(Mnemonic::Lw), None, None, Some(Mnemonic::Lhu), None, Some(Mnemonic::Andi), None, Some(Mnemonic::Sw),
     Some(Mnemonic::Cmovnz), Some(Mnemonic::Rem), None, None, None, None, Some(Mnemonic::Add), Some(Mnemonic::Bgeu), None, None, None,
     None, None, None, None, None, None, None, None, None, None, None, None, None, Some(Mnemonic::Sgeu), None, None, None, None, None,
@@ -153,9 +154,9 @@ static SLOTS: [Option<Mnemonic>; 293] = [
     Some(Mnemonic::Srli), None, None, None, None, None, None, None, None, None,
 ];
 
-// The mnemonic of each opcode.
+// The mnemonic of each opcode: a table of its own beside the rows, for the same reason.
 #[rattlefmt::skip]
-static CODED: [Option<Mnemonic>; 128] = [
+static CODED: [Option<Mnemonic>; OPCODE_END as usize] = [
     Some(Mnemonic::Add), Some(Mnemonic::Sub), Some(Mnemonic::Mul), Some(Mnemonic::Mulh), Some(Mnemonic::Divu), Some(Mnemonic::Remu),
     Some(Mnemonic::Div), Some(Mnemonic::Rem), Some(Mnemonic::Addi), None, None, None, None, None, None, None, Some(Mnemonic::And),
     Some(Mnemonic::Or), Some(Mnemonic::Xor), Some(Mnemonic::Andi), Some(Mnemonic::Ori), Some(Mnemonic::Xori), None, None,
@@ -203,7 +204,7 @@ impl Mnemonic {
 pub fn find_mnemonic(key: u64) -> Option<Mnemonic>
     ensures { found_meant result ≡ find (λ q. eqb (packed q.mnemonic) key) table }
 {
-    let mnemonic = SLOTS[(key % PLACES) as usize]?;
+    let mnemonic = SLOTS[(key % PLACES as u64) as usize]?;
     if mnemonic.key() == key {
         return Some(mnemonic);
     }

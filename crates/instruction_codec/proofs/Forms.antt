@@ -40,10 +40,10 @@ module _ (m : Mnemonic) (a b : ℕ) where
     unfolding form_word places fields reduced
     word_shift r = rw (← r.at_width 8 refl) (omega arith)
 
-    -- The registers the other way round.
-    pub word_store : Reduced 0x20000 z v → form_word Store m (b ∷ a ∷ []) (some z) ≡ (row_of m).opcode + (a * 0x80 + b * 0x800 + v * 0x8000)
-    unfolding form_word places fields reduced
-    word_store r = rw (← r.at_width 17 refl) (omega arith)
+  -- A store's registers stand the other way round.
+  pub word_store : (z : ℤ) → form_word Store m (b ∷ a ∷ []) (some z) ≡ form_word I m (a ∷ b ∷ []) (some z)
+  unfolding form_word places fields
+  word_store z = omega arith
 
   -- One register and a number of twenty-one bits.
   pub word_jump : (v : ℕ) (z : ℤ) → Reduced 0x200000 z v → form_word Jump m (a ∷ []) (some z) ≡ (row_of m).opcode + (a * 0x80 + v * 0x800)

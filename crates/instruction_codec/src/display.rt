@@ -13,16 +13,15 @@ use text_lexical::number::Whole;
 use text_lexical::register::Register;
 use text_writer::sink::Sink;
 
-// A whole number's digits and, below 0, a sign; -0 is 0.
+// A whole number's digits and, below 0, a sign.
 fn put_number<S: Sink>(sink: &mut S, number: Whole)
     requires { S.Fits sink.old (signed_decimal (whole_meant number)) }
     ensures { S.Took sink.old (signed_decimal (whole_meant number)) sink.new }
 {
-    let magnitude = number.magnitude;
-    if number.negative && 0 < magnitude {
+    if number.is_negative() {
         sink.put(b'-');
     }
-    sink.put_decimal(magnitude);
+    sink.put_decimal(number.magnitude);
 }
 
 fn put_register<S: Sink>(sink: &mut S, register: Register)
@@ -52,14 +51,13 @@ fn put_base<S: Sink>(sink: &mut S, register: Register)
     sink.put(b')');
 }
 
-// A mnemonic's letters: the bytes of its key below the highest, which is 1.
+// A mnemonic's letters, which its key has.
 pub fn put_mnemonic<S: Sink>(sink: &mut S, mnemonic: Mnemonic)
     requires { S.Fits sink.old (row_of mnemonic).mnemonic }
     ensures { S.Took sink.old (row_of mnemonic).mnemonic sink.new }
 {
-    let key = mnemonic.key();
-    let letters = key.ilog2() as usize / 8;
-    sink.put_bytes(&key.to_le_bytes()[..letters]);
+    let letters = text_lexical::name::letters_of(mnemonic.key());
+    sink.put_bytes(&letters.bytes[..letters.length]);
 }
 
 // A mnemonic and its first operand, a register.

@@ -44,7 +44,7 @@ fn spread(low: Register, high: Register, top: u32) -> u32
 }
 
 // The registers are parameters of their own, here and in the texts: each of the fifty cases has them by name, and would only pack a struct.
-// Each form has a function of its own, of one line over `spread` and `reduced`: a parameter for the field or the order would be no shorter.
+// Each form has a function of its own, of one line over `spread` and `reduced`: a parameter for the field would be no shorter.
 
 // The word of `rd, rs1, rs2`, by its mnemonic.
 #[tactic(auto, using(crate::proofs::Forms::word_registers))]
@@ -70,12 +70,12 @@ pub fn encode_shift(mnemonic: Mnemonic, rd: Register, rs1: Register, shamt: Whol
     u32::from(mnemonic.opcode()) + spread(rd, rs1, reduced(shamt, AMOUNT))
 }
 
-// The word of a store, `rs2, n(rs1)`: the base register is the lower of the two.
-#[tactic(auto, using(crate::proofs::Forms::word_store, crate::proofs::Forms::power_17))]
+// The word of a store, `rs2, n(rs1)`: that of `rd, rs1, n`, with the base register as the lower of the two.
+#[tactic(auto, using(crate::proofs::Forms::word_store))]
 pub fn encode_s_type(mnemonic: Mnemonic, rs1: Register, rs2: Register, imm: Whole) -> u32
     ensures { result ≡ form_word Store mnemonic (index_of rs2 ∷ index_of rs1 ∷ []) (some (whole_meant imm)) }
 {
-    u32::from(mnemonic.opcode()) + spread(rs1, rs2, reduced(imm, IMMEDIATE))
+    encode_i_type(mnemonic, rs1, rs2, imm)
 }
 
 // The word of `rd, n`.
@@ -150,7 +150,7 @@ fn number_at(form: Form, word: u32) -> Whole
     }
 }
 
-// The operands that a word holds.
+// The operands that a word holds, in the order of a line, as the definitions have them: a store's begin with the upper register.
 #[tactic(auto, using(crate::proofs::Forms::registers_store, crate::proofs::Forms::registers_other))]
 fn operands_of(form: Form, word: u32) -> Operands
     ensures value { operands_meant (places (form_meant form)) result ≡ operands_in word (places (form_meant form)) }

@@ -15,13 +15,13 @@ use Rattle.std.specs.Prelude.{Ok, Err, Some, None}
 use Rattle.std.specs.Prelude.{Option as StdOption}
 use Rattle.std.specs.Prelude.{Result as Answer}
 use Rattle.text_lexical.specs.Bytes.{value, refused, lower, find}
-use Rattle.text_lexical.specs.Promised.{packed, key_of}
-use Rattle.text_lexical.proofs.Keys.{Below, lowered-below}
+use Rattle.text_lexical.specs.Promised.{packed, name_key}
+use Rattle.text_lexical.proofs.Keys.{Below}
 use Rattle.refusal.specs.declared.refusal.Refusal.{Refusal}
 use Rattle.refusal.specs.declared.refusal.Refusal.TheVariants.{MnemonicExpected, UnknownMnemonic, OperandCount}
 use Rattle.text.specs.Tokens.{Token}
 use Rattle.text.specs.Lines.{Line as MeantLine}
-use Rattle.text.specs.Promised.{kind_meant, firsts, meant, spelling, filler}
+use Rattle.text.specs.Promised.{kind_meant, firsts, meant, spelling, Kept}
 use Rattle.text.specs.declared.lexer.Kind.{Kind}
 use Rattle.text.specs.declared.lexer.Kind.TheVariants.{Identifier, Register, NoRegister, Number, Negative, Hex, Binary, Directive, Comma, Colon, LParen, RParen}
 use Rattle.text.specs.declared.lexer.Token.{Token as KeptToken}
@@ -36,9 +36,9 @@ use Rattle.instruction.specs.declared.form.Operand.{Operand}
 use Rattle.instruction.specs.declared.instruction.Operands.{Operands}
 use Rattle.instruction.specs.declared.opcode.Mnemonic.{Mnemonic}
 use Rattle.instruction.proofs.Forms.{Counting, counting-none, counting-mark, counting-most, counting-end}
-use Rattle.instruction.proofs.Lookup.{row-by-key, row-without-key}
+use Rattle.instruction.proofs.Lookup.{row-by-name}
 use Rattle.instruction_operands.specs.declared.assembler.Parsed.{Parsed}
-use Rattle.instruction_operands.specs.Promised.{Reads, RowIs, ParsedIs, Kept}
+use Rattle.instruction_operands.specs.Promised.{Reads, RowIs, ParsedIs}
 
 -- ---- forms
 
@@ -172,10 +172,6 @@ below-part : (k n : ℕ) (s : List ℕ) → Below s → Below (take n (drop k s)
 below-part k n s h = below-take n (drop k s) (λ j. rw (get_or-drop k s j 0) (h (k + j)))
 
 module _ (s : List ℕ) (l : Line) (at : ℕ) (k : Kept s l) (few : at ≤ 2) where
-  -- The mnemonic's token is a part of the text.
-  pub token-within : (get_or l.tokens at past).start + (get_or l.tokens at past).length ≤ length s
-  token-within = rw (get_d_any l.tokens at past filler (omega (arith, k.places))) (k.inside_text at)
-
   -- There is none.
   pub no-token : l.count ≤ at → ParsedIs s l at (Err MnemonicExpected)
   unfolding read_instruction behind
@@ -218,18 +214,13 @@ module _ (s : List ℕ) (l : Line) (at : ℕ) (k : Kept s l) (few : at ≤ 2) wh
 
     -- It is the one of the row that is found by the key of its spelling in lower case, if it has one.
     module _ (i : (get_or l.tokens at past).kind ≡ Identifier) (below : Below s) (key : StdOption ℕ)
-        (e : let t = get_or l.tokens at past in key ≡ key_of (map lower (take (t.start + t.length - t.start) (drop t.start s))))
+        (e : let t = get_or l.tokens at past in key ≡ name_key (take (t.start + t.length - t.start) (drop t.start s)))
         (o : StdOption Mnemonic) (n : MatchOption key (o ≡ None) (λ k. found_meant o ≡ find (λ q. eqb (packed q.mnemonic) k) table)) where
       named : found_meant o ≡ row_named (map lower word)
       named =
           let t = get_or l.tokens at past in
           let q : t.start + t.length - t.start ≡ t.length = omega arith in
-          by_key key (e ∙ ap (λ j. key_of (map lower (take j (drop t.start s)))) q) n
-        where
-          by_key : (o' : StdOption ℕ) → o' ≡ key_of (map lower word) → MatchOption o' (o ≡ None) (λ k. found_meant o ≡ find (λ q. eqb (packed q.mnemonic) k) table) → found_meant o ≡ row_named (map lower word)
-          by_key None h f = rw f (sym (row-without-key (map lower word) h))
-          by_key (Some k) h f =
-              let t = get_or l.tokens at past in f ∙ sym (row-by-key (map lower word) (lowered-below word (below-part t.start t.length s below)) k h)
+          row-by-name word (below-part t.start t.length s below) key (e ∙ ap (λ j. name_key (take j (drop t.start s))) q) o n
 
       pub no-mnemonic : o ≡ None → ParsedIs s l at (Err UnknownMnemonic)
       unfolding read_mnemonic read_identifier

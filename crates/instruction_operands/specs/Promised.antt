@@ -1,13 +1,12 @@
 -- What operands that were read mean in terms of the definitions, and what the functions promise.
-use Rattle.std.specs.Prelude.{ℕ, ◌+◌, ◌-◌, ◌≤◌, ◌≡◌, List, [], ◌∷◌, ◌++◌, map, length, drop, get_or, Ok, Err}
+use Rattle.std.specs.Prelude.{ℕ, ◌+◌, ◌-◌, ◌≡◌, List, [], ◌∷◌, ◌++◌, map, drop, Ok, Err}
 use Rattle.std.specs.Prelude.{Result as Answer}
 use Rattle.text_lexical.specs.Bytes.{refused}
 use Rattle.refusal.specs.Refusals.{answered, number_of}
 use Rattle.refusal.specs.declared.refusal.Refusal.{Refusal}
 use Rattle.refusal.specs.declared.refusal.Refusal.TheVariants.{OperandCount}
 use Rattle.text.specs.Tokens.{Token}
-use Rattle.text.specs.Lines.{kept}
-use Rattle.text.specs.Promised.{kind_meant, meant, filler, firsts}
+use Rattle.text.specs.Promised.{kind_meant, meant, firsts}
 use Rattle.text.specs.declared.lexer.Kind.{Kind}
 use Rattle.text.specs.declared.lexer.Token.{Token as KeptToken}
 use Rattle.text.specs.declared.parser.Line.{Line}
@@ -67,8 +66,3 @@ pub record RowIs (m : Mnemonic) (l : Line) (at : ℕ) (r : Answer Parsed Refusal
 pub record ParsedIs (s : List ℕ) (l : Line) (at : ℕ) (r : Answer Parsed Refusal) : Type 0 where
   pub means : answered parsed_meant r ≡ read_instruction (behind at (record { count = l.count; first = firsts s l.tokens l.count }))
   pub settled : ParsedSettled r
-
--- What a line's record promises of its tokens: there are as many as a line keeps, and each is a part of the text.
-pub record Kept (s : List ℕ) (l : Line) : Type 0 where
-  pub places : length l.tokens ≡ kept
-  pub inside_text : (i : ℕ) → (get_or l.tokens i filler).start + (get_or l.tokens i filler).length ≤ length s

@@ -3,11 +3,11 @@ ghost use Rattle.std.specs.Prelude.{◌≡◌, List, ℕ, ◌≤◌, ◌<◌, le
 ghost use Rattle.text_lexical.specs.Promised.{index_of};
 ghost use Rattle.refusal.specs.Refusals.{answered};
 ghost use Rattle.text.specs.Lines.{kept};
-ghost use Rattle.text.specs.Promised.{kind_meant};
+ghost use Rattle.text.specs.Promised.{kind_meant, Kept};
 ghost use Rattle.instruction.specs.Table.{places};
 ghost use Rattle.instruction.specs.Operands.{read_register};
 ghost use Rattle.instruction.specs.Promised.{form_meant};
-ghost use Rattle.instruction_operands.specs.Promised.{TokensTook, TokensRefuse, KindTaken, Reads, RowIs, ParsedIs, Kept};
+ghost use Rattle.instruction_operands.specs.Promised.{TokensTook, TokensRefuse, KindTaken, Reads, RowIs, ParsedIs};
 ghost use Rattle.instruction_operands.specs.Laws.{tokens_laws};
 
 use crate::source::OperandSource;

@@ -3,7 +3,7 @@ use mathlib.Core.Path.{◌≡◌, refl, sym, ap, ◌∙◌}
 use Prim.Native.Nat.{ℕ, suc, ◌+◌, ◌-◌, ◌^◌, ◌≤◌, ◌<◌}
 use native.Mathlib.Omega.{arith}
 use native.Mathlib.Numerals.{add-one}
-use mathlib.Core.Bool.{Bool, true, false}
+use mathlib.Core.Bool.{Bool, true, false, ◌||◌}
 use mathlib.Core.List.{List, [], ◌∷◌}
 use mathlib.Core.Option.{Option, none, some}
 use lib.ListN.{length, take, drop, get_or, length-drop, drop_of_length-le}
@@ -27,9 +27,10 @@ use Rattle.text_lexical.proofs.Values.{fits-is, large_is}
 use Rattle.text_lexical.proofs.Registers.{register-index}
 use Rattle.text.specs.Tokens.{is_register, Class, Number, Hex, Binary, Directive, Mark, longest, Token, identifier, register, number, hex, binary, directive, within, number_token, pattern_token, register_token, mark_token, token_of, sized, matched, front}
 use Rattle.text.specs.NameSets.{Naming}
-use Rattle.text.specs.Promised.{kind_meant, pattern_kind, kind_for, token_at, number_start, IsDecimal, PrefixIs, Prefixed, NoWord}
+use Rattle.text.specs.Promised.{kind_meant, pattern_kind, kind_for, token_at, number_start, number_scan, IsDecimal, PrefixIs, Prefixed, NoWord}
 use Rattle.text.specs.declared.lexer.Kind.{Kind}
 use Rattle.text.specs.declared.lexer.Kind.TheVariants.{Identifier as IdentifierKind, Register as RegisterKind, NoRegister, Number as NumberKind, Negative}
+use Rattle.text.specs.declared.lexer.Scan.{Scan}
 use Rattle.text.specs.declared.lexer.Scan.TheVariants.{Found, Bad}
 use Rattle.text.proofs.Scanning.{matching, word_class, at_least_one, radix_or, digit_scan, dot_scan, scan, longest-scan, digit-from, digit-not-start}
 use Rattle.text.proofs.Tokens.{front-scan}
@@ -85,6 +86,12 @@ pub number-digit : (b : ℕ) → number_start b ≡ true → (b ≡ 45 → ⊥) 
 unfolding number_start
 number-digit b h f = or_elim (digit b) (eqb b 45) h (λ d. d) (λ e. absurd (f (eqb-true b 45 e)))
 
+-- What is answered where a number may begin is the token there, unless it is bad.
+pub number-begins : (names : List Name) (s : List ℕ) (at : ℕ) (r : Scan) → r ≡ number_scan names s at → (r ≡ Bad → ⊥)
+    → (number_start (get_or s at 0) ≡ true) × (r ≡ token_at names s at)
+unfolding number_scan
+number-begins names s at r e f = by-test (number_start (get_or s at 0)) (λ t. (t, rw (number_scan, t) at e)) (λ n. absurd (f (rw (number_scan, n) at e)))
+
 digit-no-minus : (b : ℕ) → digit b ≡ true → eqb b 45 ≡ false
 digit-no-minus b h = let l = digit-from b h in ne_eqb b 45 (λ e. omega arith)
 
@@ -117,7 +124,7 @@ minus-token : (u : List ℕ) → number_token (45 ∷ u) ≡ within (leb (value_
 unfolding number_token
 minus-token u = refl
 
--- What stands behind `0x`
+-- What follows `0x`
 part-two : (s : List ℕ) (at e : ℕ) → at + 2 ≤ e → e ≤ length s → drop 2 (take (e - at) (drop at s)) ≡ take (e - (at + 2)) (drop (at + 2) s)
 part-two s at e h l =
     let v : at + 1 + 1 ≡ at + 2 = omega arith in
@@ -161,6 +168,18 @@ pub mark-no : (b : ℕ) → (b ≡ 44 → ⊥) → (b ≡ 58 → ⊥) → (b ≡
 unfolding mark
 mark-no b f g h k = rw (ne_eqb b 44 f, ne_eqb b 58 g, ne_eqb b 40 h, ne_eqb b 41 k)
 
+-- A mark's byte begins no other token.
+mark-alone : (b : ℕ) → mark b ≡ true → (name_start b ≡ false) × (number_start b ≡ false) × (b ≡ 46 → ⊥)
+unfolding mark name_start letter digit between number_start
+mark-alone b h =
+    or_elim (eqb b 44) (eqb b 58 || (eqb b 40 || eqb b 41)) h
+    (λ e. rw (eqb-true b 44 e) (refl, refl, λ z. absurd (omega arith)))
+    (λ h. or_elim (eqb b 58) (eqb b 40 || eqb b 41) h
+    (λ e. rw (eqb-true b 58 e) (refl, refl, λ z. absurd (omega arith)))
+    (λ h. or_elim (eqb b 40) (eqb b 41) h
+    (λ e. rw (eqb-true b 40 e) (refl, refl, λ z. absurd (omega arith)))
+    (λ e. rw (eqb-true b 41 e) (refl, refl, λ z. absurd (omega arith)))))
+
 -- ---- what the scan finds, by any set of names
 
 module _ (names : List Name) where
@@ -202,9 +221,10 @@ module _ (names : List Name) where
   unfolding scan name_start letter digit between
   dot-first t = refl
 
-  scan-other : (b : ℕ) (t : List ℕ) (h : Bool) → NoWord b → mark b ≡ h → scan names (b ∷ t) ≡ elim h [ true ↦ some (matching 1 Mark) | false ↦ none ]
+  scan-other : (b : ℕ) (t : List ℕ) (h : Bool) → name_start b ≡ false → number_start b ≡ false → (b ≡ 46 → ⊥) → mark b ≡ h
+      → scan names (b ∷ t) ≡ elim h [ true ↦ some (matching 1 Mark) | false ↦ none ]
   unfolding scan
-  scan-other b t h w k = let (d, m) = no-number-start b w.no_number in rw (scan, w.no_start, d, ne_eqb b 45 m, ne_eqb b 46 w.no_dot, k)
+  scan-other b t h w n p k = let (d, m) = no-number-start b n in rw (scan, w, d, ne_eqb b 45 m, ne_eqb b 46 p, k)
 
   -- What a radix' prefix, class and token are.
   record Pattern (radix : Radix) (x : ℕ) : Type 0 where
@@ -422,14 +442,20 @@ module _ (names : List Name) where
         (rw (w, drop-cons s at 0 (omega arith), b, drop-cons s (suc at) 0 (omega arith))
         (dot-first (get_or s (suc at) 0 ∷ drop (suc (suc at)) s) ∙ rw (dot_scan, rw (add-one at) at n)))
 
-    pub mark-none : (s : List ℕ) (at : ℕ) → at < length s → NoWord (get_or s at 0) → mark (get_or s at 0) ≡ false → front names (drop at s) ≡ none
-    mark-none s at l w k = rw (drop-cons s at 0 l) (front-none _ (scan-other (get_or s at 0) (drop (suc at) s) false w k))
+    pub mark-none : (s : List ℕ) (at : ℕ) → at < length s → NoWord names s at → mark (get_or s at 0) ≡ false → token_at names s at ≡ Bad
+    unfolding number_scan
+    mark-none s at l w k =
+        by-test (number_start (get_or s at 0))
+        (λ t. rw (number_scan, t) at w.no_number)
+        (λ n. sym (at_none s at
+        (rw (drop-cons s at 0 l) (front-none _ (scan-other (get_or s at 0) (drop (suc at) s) false w.no_start n w.no_dot k)))))
 
-    pub mark-front : (s : List ℕ) (at : ℕ) (t : Token) → at < length s → NoWord (get_or s at 0) → mark (get_or s at 0) ≡ true → mark_token (get_or s at 0 ∷ []) ≡ some t
+    pub mark-front : (s : List ℕ) (at : ℕ) (t : Token) → at < length s → mark (get_or s at 0) ≡ true → mark_token (get_or s at 0 ∷ []) ≡ some t
         → front names (drop at s) ≡ sized 1 (some t)
     unfolding token_of
-    mark-front s at t l w k e =
-        rw (drop-cons s at 0 l) (front-found (get_or s at 0 ∷ drop (suc at) s) 1 Mark (scan-other (get_or s at 0) (drop (suc at) s) true w k) ∙ ap (sized 1) e)
+    mark-front s at t l k e =
+        let (w, n, p) = mark-alone (get_or s at 0) k in
+        rw (drop-cons s at 0 l) (front-found (get_or s at 0 ∷ drop (suc at) s) 1 Mark (scan-other (get_or s at 0) (drop (suc at) s) true w n p k) ∙ ap (sized 1) e)
 
     -- ---- digits after `0x` and `0b`
 

@@ -5,6 +5,7 @@ pub mod Left
 pub mod Endings
 pub mod Meanings
 pub mod Fronts
+pub mod Numbers
 pub mod Stepping
 pub mod Recording
 pub mod NameSets

@@ -1,4 +1,4 @@
--- A token is found by one look at its first byte and a run of bytes behind it: `scan` finds the longest match, whatever the
+-- A token is found by one look at its first byte and a run of bytes after it: `scan` finds the longest match, whatever the
 -- set of names, if only its spellings are Identifiers.
 use mathlib.Core.Path.{◌≡◌, refl, sym, ap, ◌∙◌, subst}
 use Prim.Native.Nat.{ℕ, zero, suc, ◌+◌, ◌-◌, ◌≤◌, ◌<◌}
@@ -80,7 +80,7 @@ digit-not-start b h =
 
 -- ---- the longest match, by its length
 
--- Beginnings in no class are passed over.
+-- Beginnings in no class are skipped.
 pub longest-down : (names : List Name) (s : List ℕ) (n k : ℕ) → ((i : ℕ) → i < k → class_of names (take (suc (n + i)) s) ≡ none)
     → longest names s (n + k) ≡ longest names s n
 unfolding longest

@@ -9,23 +9,23 @@ use lib.ListN.{length, take, drop, get_or, length-drop}
 use lib.Seq.{get_or-take, get_or-drop}
 use lib.Dec.{eqb}
 use borrow.Author.Tests.{eqb-true, eqb-false}
-use Rattle.text_lexical.specs.Bytes.{blank, inside, mark, run}
+use Rattle.text_lexical.specs.Bytes.{blank, mark, run}
 use Rattle.text_lexical.specs.Names.{Name}
 use Rattle.text_lexical.proofs.Tests.{by-test}
-use Rattle.text_lexical.proofs.Strings.{run-le, run-no, run_end, run-stop}
-use Rattle.text.specs.Tokens.{Token as Meant, mark_token, Sized, front, infront, tokens}
+use Rattle.text_lexical.proofs.Strings.{run-over, run-no, run-stop}
+use Rattle.text.specs.Tokens.{Token as Meant, mark_token, Sized, longest, matched, front, infront, tokens}
 use Rattle.text.specs.NameSets.{Naming}
 use Rattle.text.specs.Places.{left_at, end_at}
-use Rattle.text.specs.Promised.{kind_meant, kind_for, meant, found_at, token_at, stands_at, past, scan_at, number_start, NoWord}
+use Rattle.text.specs.Promised.{kind_meant, kind_for, meant, found_at, token_at, stands_at, past, scan_at, number_start}
 use Rattle.text.specs.declared.lexer.Kind.{Kind}
 use Rattle.text.specs.declared.lexer.Kind.TheVariants.{Number, Negative}
 use Rattle.text.specs.declared.lexer.Token.{Token}
 use Rattle.text.specs.declared.lexer.Scan.{Scan}
 use Rattle.text.specs.declared.lexer.Scan.TheVariants.{Found, Bad, End}
 use Rattle.text.proofs.Left.{solid, digit-solid, high-solid, mark-solid, solid-plain, blank-inside, blanks_at, front_at, left-byte, solid-left, found-at, found-solid, nothing_left, none_read, left-read-bad, end_on}
-use Rattle.text.proofs.Endings.{run-within, end-run}
+use Rattle.text.proofs.Endings.{run-within}
 use Rattle.text.proofs.Meanings.{front-means, kind-sign}
-use Rattle.text.proofs.Fronts.{at-found, at_none, mark-front, mark-none, number-digit}
+use Rattle.text.proofs.Fronts.{at-found, mark-front, number-digit}
 
 -- ---- places
 
@@ -35,6 +35,10 @@ from-blank s from at l q = (run-within blank blank-inside s from at l q).2
 -- Past the blanks no blank stands.
 pub past-blank : (s : List ℕ) (from at : ℕ) → from ≤ length s → at ≡ from + run blank (drop from s) → at < length s → blank (get_or s at 0) ≡ false
 past-blank s from at l q m = rw (q, ← get_or-drop from s (run blank (drop from s)) 0) (run-stop blank (drop from s) (rw (length-drop from s) (omega arith)))
+
+-- There no run of blanks begins.
+pub past-blanks : (s : List ℕ) (from at : ℕ) → at ≡ from + run blank (drop from s) → run blank (drop at s) ≡ 0
+past-blanks s from at q = rw q (run-over blank s from)
 
 -- The place past the blanks, if anything stands there.
 past-in : (s : List ℕ) (from : ℕ) → past s from < length s → (from ≤ length s) × (blank (get_or s (past s from) 0) ≡ false)
@@ -67,14 +71,14 @@ module _ (names : List Name) where
       go (b ∷ m) e = refl
 
   -- Where no blank stands, that is what is found.
-  scan-here : (s : List ℕ) (at : ℕ) → at < length s → blank (get_or s at 0) ≡ false → stands_at names s at ≡ scan_at names s at
+  scan-here : (s : List ℕ) (at : ℕ) → run blank (drop at s) ≡ 0 → stands_at names s at ≡ scan_at names s at
   unfolding scan_at
-  scan-here s at l h = let e : past s at ≡ at = omega (arith, run-no blank s at l h) in rw e
+  scan-here s at z = let e : past s at ≡ at = omega arith in rw e
 
   -- ---- a token, or none, at a solid byte
 
   pub solid-step : (s : List ℕ) (at : ℕ) (r : Scan) → at < length s → solid (get_or s at 0) ≡ true → r ≡ token_at names s at → r ≡ scan_at names s at
-  solid-step s at r l h e = e ∙ stands-token s at (solid-left s at l h) ∙ scan-here s at l (solid-plain (get_or s at 0) h)
+  solid-step s at r l h e = e ∙ stands-token s at (solid-left s at l h) ∙ scan-here s at (run-no blank s at l (solid-plain (get_or s at 0) h))
 
   -- A number begins with no blank.
   pub number_step : (s : List ℕ) (at : ℕ) (r : Scan) → at < length s → number_start (get_or s at 0) ≡ true → r ≡ token_at names s at → r ≡ scan_at names s at
@@ -83,21 +87,34 @@ module _ (names : List Name) where
       (λ t. solid-step s at r l (high-solid (get_or s at 0) (omega (arith, eqb-true (get_or s at 0) 45 t))) e)
       (λ f. solid-step s at r l (digit-solid (get_or s at 0) (number-digit (get_or s at 0) h (eqb-false (get_or s at 0) 45 f))) e)
 
+  -- A token past blanks.
+  nothing-bad : (s : List ℕ) (at : ℕ) → left_at s at ≡ [] → Bad ≡ token_at names s at
+  unfolding token_at front longest matched
+  nothing-bad s at e = rw (token_at, e)
+
+  pub token_step : (s : List ℕ) (from at : ℕ) (t : Token) (next : ℕ) → at ≡ from + run blank (drop from s) → Found t next ≡ token_at names s at → Found t next ≡ scan_at names s from
+  unfolding scan_at
+  token_step s from at t next q e =
+      e ∙ stands-token s at (λ z. let f : Found t next ≡ Bad = e ∙ sym (nothing-bad s at z) in let y : ◌≡◌ {A = ℕ} 0 1 = cc in absurd (omega arith))
+      ∙ ap (stands_at names s) q
+
   -- Nothing is left of the line, which ends there.
-  pub end_step : (s : List ℕ) (at end : ℕ) → at < length s → blank (get_or s at 0) ≡ false → left_at s at ≡ [] → end ≡ end_at s at → End end ≡ scan_at names s at
-  end_step s at end l b n q = ap End q ∙ stands-end s at n ∙ scan-here s at l b
+  pub end_step : (s : List ℕ) (at end : ℕ) → run blank (drop at s) ≡ 0 → left_at s at ≡ [] → end ≡ end_at s at → End end ≡ scan_at names s at
+  end_step s at end z n q = ap End q ∙ stands-end s at n ∙ scan-here s at z
+
+  -- Something is left, and no token.
+  pub bad-step : (s : List ℕ) (at : ℕ) → run blank (drop at s) ≡ 0 → token_at names s at ≡ Bad → (left_at s at ≡ [] → ⊥) → Bad ≡ scan_at names s at
+  bad-step s at z t f = sym t ∙ stands-token s at f ∙ scan-here s at z
 
   -- ---- past blanks
 
-  pub blank_step : (s : List ℕ) (from at : ℕ) (r : Scan) → from ≤ length s → at ≡ from + run blank (drop from s) → at < length s → r ≡ scan_at names s at → r ≡ scan_at names s from
+  pub blank_step : (s : List ℕ) (from at : ℕ) (r : Scan) → at ≡ from + run blank (drop from s) → r ≡ scan_at names s at → r ≡ scan_at names s from
   unfolding scan_at
-  blank_step s from at r l q m e = e ∙ sym (scan-here s at m (past-blank s from at l q m)) ∙ ap (stands_at names s) q
+  blank_step s from at r q e = e ∙ sym (scan-here s at (past-blanks s from at q)) ∙ ap (stands_at names s) q
 
-  pub blank-end : (s : List ℕ) (from at : ℕ) → from ≤ length s → at ≡ from + run blank (drop from s) → length s ≤ at → End at ≡ scan_at names s from
-  unfolding scan_at
-  blank-end s from at l q m =
-      let e : at ≡ end_at s (past s from) = omega (arith, end-run s (past s from), run_end inside s (past s from) (omega arith)) in
-      ap End e ∙ stands-end s (past s from) (rw q at (nothing_left s at (omega (arith, run-le blank (drop from s), length-drop from s)) (λ h. absurd (omega arith))))
+  -- At the text's end there is no token.
+  pub end-bad : (s : List ℕ) (at : ℕ) → at ≤ length s → length s ≤ at → token_at names s at ≡ Bad
+  end-bad s at l h = sym (nothing-bad s at (nothing_left s at l (λ m. absurd (omega arith))))
 
   -- ---- what is found next, and how the line goes on from there
 
@@ -119,23 +136,17 @@ module _ (names : List Name) where
     pub leads : Leads s from r
 
   module _ (ok : Naming names) where
-    -- ---- no token
-
-    -- Neither a word nor a number nor a directive nor a mark.
-    pub bad-step : (s : List ℕ) (at : ℕ) → at < length s → NoWord (get_or s at 0) → mark (get_or s at 0) ≡ false → (left_at s at ≡ [] → ⊥) → Bad ≡ scan_at names s at
-    bad-step s at l w k f = at_none names ok s at (mark-none names ok s at l w k) ∙ stands-token s at f ∙ scan-here s at l w.no_blank
-
     -- ---- a mark
 
-    pub mark-step : (s : List ℕ) (at : ℕ) (k : Kind) (t : Meant) → at < length s → NoWord (get_or s at 0) → mark (get_or s at 0) ≡ true
+    pub mark-step : (s : List ℕ) (at : ℕ) (k : Kind) (t : Meant) → at < length s → mark (get_or s at 0) ≡ true
         → mark_token (get_or s at 0 ∷ []) ≡ some t → ((u : List ℕ) → kind_meant k u ≡ t) → ((u : List ℕ) → kind_for t u ≡ k)
         → Found (record { kind = k; start = at; length = at + 1 - at }) (at + 1) ≡ scan_at names s at
-    mark-step s at k t l w h e m g =
+    mark-step s at k t l h e m g =
         let one : at + 1 - at ≡ 1 = omega arith in
         let u = take (at + 1 - at) (drop at s) in
         solid-step s at _ l (mark-solid (get_or s at 0) h)
         (at-found names ok s at (at + 1) k (omega arith) (ap (λ (x : Meant). kind_for x u) (m u) ∙ g u)
-        (mark-front names ok s at t l w h e ∙ rw (one, m (take 1 (drop at s)))))
+        (mark-front names ok s at t l h e ∙ rw (one, m (take 1 (drop at s)))))
 
     -- ---- how the line goes on
 

@@ -5,19 +5,19 @@ use Rattle.text_lexical.specs.Bytes.{edge, before, run, after}
 use Rattle.text_lexical.specs.Names.{Name}
 use Rattle.text.specs.Tokens.{Token, tokens}
 
--- A byte in front of the first of some lines.
+-- A byte before the first of some lines.
 unfoldable pub extended : ℕ → List (List ℕ) → List (List ℕ)
 extended b [] = (b ∷ []) ∷ []
 extended b (l ∷ ls) = (b ∷ l) ∷ ls
 
--- "Lines end at byte 10". What stands behind the last byte 10 is a line too, if only an empty one.
+-- "Lines end at byte 10". What follows the last byte 10 is a line too, if only an empty one.
 unfoldable pub lines : List ℕ → List (List ℕ)
 lines [] = [] ∷ []
 lines (b ∷ s) = elim (eqb b 10) [ true ↦ [] ∷ lines s | false ↦ extended b (lines s) ]
 
 -- ---- what is left of a line
 
--- A byte in front of what is left behind it; lost if nothing is left and the byte is an edge.
+-- A byte before what is left after it; lost if nothing is left and the byte is an edge.
 unfoldable pub kept_byte : ℕ → List ℕ → List ℕ
 kept_byte b [] = elim (edge b) [ true ↦ [] | false ↦ b ∷ [] ]
 kept_byte b (c ∷ t) = b ∷ c ∷ t

@@ -1,5 +1,5 @@
 -- What the code's values mean in terms of the definitions, and what its functions answer.
-use Rattle.std.specs.Prelude.{ℕ, zero, suc, ◌+◌, ◌-◌, ◌<◌, ◌≡◌, Bool, true, false, ◌||◌, List, [], ◌∷◌, ◌++◌, map, length, take, drop, get_or, replicate, eqb, ℤ, pos, nat_abs, Some, None, Ok, Err}
+use Rattle.std.specs.Prelude.{ℕ, zero, suc, ◌+◌, ◌-◌, ◌≤◌, ◌<◌, ◌≡◌, Bool, true, false, ◌||◌, List, [], ◌∷◌, ◌++◌, map, length, take, drop, get_or, replicate, eqb, ℤ, pos, nat_abs, Some, None, Ok, Err}
 use Rattle.std.specs.Prelude.{Option as Maybe, Result as Answer}
 use Rattle.std.proofs.Math.Option.{Option, none, some}
 use Rattle.text_lexical.specs.Bytes.{Result, value, refused, digit, name_start, blank, margin, run}
@@ -23,6 +23,7 @@ use Rattle.text.specs.declared.lexer.Token.{Token}
 use Rattle.text.specs.declared.lexer.Scan.{Scan}
 use Rattle.text.specs.declared.lexer.Scan.TheVariants.{Found, Bad, End}
 use Rattle.text.specs.declared.parser.Line.{Line}
+use Rattle.text.specs.declared.parser.NumberAt.{NumberAt}
 use Rattle.text.specs.declared.reader.Reader.{Reader}
 
 -- ---- numbers
@@ -134,9 +135,27 @@ past s from = from + run blank (drop from s)
 unfoldable pub scan_at : List Name → List ℕ → ℕ → Scan
 scan_at names s from = stands_at names s (past s from)
 
+-- The whole number of a token that is found, and the place after it; none where no token is found, or one that is no number.
+abbrev pub number_with : Answer Whole Refusal → ℕ → Maybe NumberAt
+number_with (Ok w) next = Some (record { number = w; end = next })
+number_with (Err r) next = None
+
+abbrev pub number_of : Scan → Maybe NumberAt
+number_of (Found t next) = number_with (extracted t.kind) next
+number_of Bad = None
+number_of (End e) = None
+
+-- The whole number whose token stands at a place, by a set of names.
+unfoldable pub number_at : List Name → List ℕ → ℕ → Maybe NumberAt
+number_at names s at = number_of (token_at names s at)
+
 -- A number's first byte: a digit or `-`.
 unfoldable pub number_start : ℕ → Bool
 number_start b = digit b || eqb b 45
+
+-- The token at a place where a number begins; no token where none does.
+unfoldable pub number_scan : List Name → List ℕ → ℕ → Scan
+number_scan names s at = elim (number_start (get_or s at 0)) [ true ↦ token_at names s at | false ↦ Bad ]
 
 -- Decimal digits at a place, which no longer match begins.
 pub record IsDecimal (names : List Name) (s : List ℕ) (at : ℕ) : Type 0 where
@@ -155,12 +174,12 @@ pub record Prefixed (s : List ℕ) (at : ℕ) (radix : Radix) : Type 0 where
   pub is_zero : get_or s at 0 ≡ 48
   pub is_prefix : PrefixIs radix (get_or s (at + 1) 0)
 
--- A byte that begins neither a word nor a number nor a directive.
-pub record NoWord (b : ℕ) : Type 0 where
-  pub no_blank : blank b ≡ false
-  pub no_start : name_start b ≡ false
-  pub no_number : number_start b ≡ false
-  pub no_dot : b ≡ 46 → ⊥
+-- At a place stands neither a blank nor a word nor a directive, and no number but a bad one.
+pub record NoWord (names : List Name) (s : List ℕ) (at : ℕ) : Type 0 where
+  pub no_blank : blank (get_or s at 0) ≡ false
+  pub no_start : name_start (get_or s at 0) ≡ false
+  pub no_dot : get_or s at 0 ≡ 46 → ⊥
+  pub no_number : number_scan names s at ≡ Bad
 
 -- ---- the reader
 
@@ -215,3 +234,8 @@ record_at names s from = line_with s from (all_from names s (from + run margin (
 -- The tokens that a record keeps: of its places the first `count`, so all of them where there are more.
 abbrev pub firsts : List ℕ → List Token → ℕ → List Meant
 firsts s ts count = map (meant s) (take count ts)
+
+-- What a line's record promises of its tokens: there are as many as a line keeps, and each is a part of the text.
+pub record Kept (s : List ℕ) (l : Line) : Type 0 where
+  pub places : length l.tokens ≡ kept
+  pub inside_text : (i : ℕ) → (get_or l.tokens i filler).start + (get_or l.tokens i filler).length ≤ length s

@@ -86,7 +86,7 @@ pub data Token : Type 0 where
   register : Option ℕ → Token
   number : ℤ → Token
   hex binary : ℕ → Token
-  -- the spelling behind the dot
+  -- the spelling after the dot
   directive : List ℕ → Token
   comma colon opening closing : Token
 

@@ -1,9 +1,9 @@
 // Tokens: the one that stands at a place of a line, and the next one past blanks. Each function takes the slice and a place in it, the form
 // that document 01 names for what the reader rests on, and so asks that the place is within the slice.
-ghost use Rattle.std.specs.Prelude.{◌≡◌, true, false, ◌+◌, ◌-◌, ◌≤◌, ◌<◌, length, get_or};
-ghost use Rattle.text_lexical.specs.Bytes.{name_start, digit, mark, blank};
+ghost use Rattle.std.specs.Prelude.{◌≡◌, true, false, ◌+◌, ◌-◌, ◌≤◌, ◌<◌, length, drop, get_or};
+ghost use Rattle.text_lexical.specs.Bytes.{name_start, digit, blank, run};
 ghost use Rattle.text_lexical.specs.Names.{present};
-ghost use Rattle.text.specs.Promised.{pattern_kind, mark_of_byte, ending_at, token_at, scan_at, number_start, IsDecimal, Prefixed, NoWord};
+ghost use Rattle.text.specs.Promised.{pattern_kind, mark_of_byte, ending_at, token_at, scan_at, number_scan, IsDecimal, Prefixed, NoWord};
 
 use text_lexical::bytes::{Blank, Margin, NamePart};
 use text_lexical::name::RegisterName;
@@ -152,24 +152,17 @@ fn digits(text: &[u8], at: usize) -> Scan
     decimal(text, at)
 }
 
-// Whether a number may begin with a byte: a digit or `-`.
-#[tactic(auto, unfolding(crate::specs::Promised::number_start))]
-pub fn is_number_start(b: u8) -> bool
-    ensures { result ≡ number_start b }
+// A number at `at`, which begins with `-` or a digit. Where none begins there is no token, so that no other one is read to its end.
+#[tactic(auto, unfolding(crate::specs::Promised::number_scan, crate::specs::Promised::number_start))]
+pub(crate) fn number(text: &[u8], at: usize) -> Scan
+    requires { at < length text.now }
+    ensures { result ≡ number_scan present text.now at }
 {
-    text_lexical::bytes::is_digit(b) || b == b'-'
-}
-
-// A number at `at`.
-pub fn number(text: &[u8], at: usize) -> Scan
-    requires in_text { at < length text.now }
-    requires number_starts { number_start (get_or text.now at 0) ≡ true }
-    ensures { result ≡ token_at present text.now at }
-{
-    if text[at] == b'-' {
-        return minus(text, at);
+    match text[at] {
+        b'-' => minus(text, at),
+        b if text_lexical::bytes::is_digit(b) => digits(text, at),
+        _ => Scan::Bad,
     }
-    digits(text, at)
 }
 
 // `.` at `at`.
@@ -207,11 +200,11 @@ pub fn ending_at(text: &[u8], at: usize) -> Option<usize>
     }
 }
 
-// A byte that begins no token: reading the line ends here, or it is bad.
+// No token stands at `at`: the line is left here, or what stands here is bad.
 fn end_or_bad(text: &[u8], at: usize) -> Scan
-    requires in_text { at < length text.now }
-    requires no_word { NoWord (get_or text.now at 0) }
-    requires no_mark { mark (get_or text.now at 0) ≡ false }
+    requires in_text { at ≤ length text.now }
+    requires no_blank { run blank (drop at text.now) ≡ 0 }
+    requires no_token { token_at present text.now at ≡ Scan.Bad }
     ensures { result ≡ scan_at present text.now at }
 {
     match ending_at(text, at) {
@@ -220,10 +213,10 @@ fn end_or_bad(text: &[u8], at: usize) -> Scan
     }
 }
 
-// A mark at `at`, or no token.
+// A mark at `at`, or no token. A number that is bad comes here too: it is neither a mark nor the line's end.
 fn mark_or_ending(text: &[u8], at: usize) -> Scan
     requires in_text { at < length text.now }
-    requires no_word { NoWord (get_or text.now at 0) }
+    requires no_word { NoWord present text.now at }
     ensures { result ≡ scan_at present text.now at }
 {
     let end = at + 1;
@@ -259,13 +252,13 @@ fn front(text: &[u8], at: usize) -> Scan
     if text_lexical::bytes::is_name_start(b) {
         return word(text, at);
     }
-    if is_number_start(b) {
-        return number(text, at);
-    }
     if b == b'.' {
         return directive(text, at);
     }
-    mark_or_ending(text, at)
+    match number(text, at) {
+        Scan::Bad => mark_or_ending(text, at),
+        scan => scan,
+    }
 }
 
 // The next token of the line from `from` on.
@@ -277,5 +270,5 @@ pub(crate) fn next_token(text: &[u8], from: usize) -> Scan
     if at < text.len() {
         return front(text, at);
     }
-    Scan::End(at)
+    end_or_bad(text, at)
 }

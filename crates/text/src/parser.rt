@@ -1,8 +1,8 @@
-// Numbers of tokens, and the record of a line's tokens.
-ghost use Rattle.std.specs.Prelude.{◌≡◌};
+// Numbers, of tokens and at places of a text, and the record of a line's tokens.
+ghost use Rattle.std.specs.Prelude.{◌≡◌, ◌≤◌, length};
 ghost use Rattle.text_lexical.specs.Names.{present};
 ghost use Rattle.text.specs.Places.{StartsAt};
-ghost use Rattle.text.specs.Promised.{extracted, record_at};
+ghost use Rattle.text.specs.Promised.{extracted, number_at, record_at};
 
 use crate::lexer::{Kind, Scan, Token};
 use crate::reader::Reader;
@@ -20,12 +20,34 @@ pub fn extract_number(kind: Kind) -> Result<Whole, Refusal>
             negative: false,
             magnitude,
         }),
-        Kind::Negative(magnitude) => Ok(Whole {
-            negative: 0 < magnitude,
-            magnitude,
-        }),
+        Kind::Negative(magnitude) => Ok(Whole::minus(magnitude)),
         _ => Err(Refusal::NumberExpected),
     }
+}
+
+// A whole number that stands in a text, and where its token ends.
+#[derive(Clone, Copy)]
+pub struct NumberAt {
+    pub number: Whole,
+    pub end: usize,
+}
+
+// The whole number whose token stands at a place, and where the token ends: none where no number stands there, or one that is a bad token.
+// Operands that are read from a line's bytes are found by it.
+pub fn number_at(text: &[u8], at: usize) -> Option<NumberAt>
+    requires { at ≤ length text.now }
+    ensures { result ≡ number_at present text.now at }
+{
+    if text.len() <= at {
+        return None;
+    }
+    let Scan::Found { token, next } = crate::lexer::number(text, at) else {
+        return None;
+    };
+    let Ok(number) = extract_number(token.kind) else {
+        return None;
+    };
+    Some(NumberAt { number, end: next })
 }
 
 // How many tokens of a line its record keeps.

@@ -30,7 +30,7 @@ pub key-short : (s : List ℕ) → length s ≤ 7 → key_of s ≡ Some (packed 
 unfolding key_of
 key-short s h = rw (key_of, le-leb (length s) 7 h)
 
-packed-pos : (s : List ℕ) → 0 < packed s
+pub packed-pos : (s : List ℕ) → 0 < packed s
 unfolding packed
 packed-pos [] = omega arith
 packed-pos (b ∷ s) = omega (arith, packed-pos s)
@@ -81,7 +81,7 @@ same-keys s t e = ap key_of (same-eq s t e)
 unfoldable pub is_keyed : List ℕ → Bool
 is_keyed s = elim (leb (length s) 7) [ true ↦ every (λ b. ltb b 256) s | false ↦ false ]
 
-every-below : (s : List ℕ) → every (λ b. ltb b 256) s ≡ true → Below s
+pub every-below : (s : List ℕ) → every (λ b. ltb b 256) s ≡ true → Below s
 every-below [] h i = omega arith
 every-below (b ∷ s) h zero = ltb-true b 256 (every-head (λ b. ltb b 256) b s h)
 every-below (b ∷ s) h (suc i) = every-below s (every-tail (λ b. ltb b 256) b s h) i

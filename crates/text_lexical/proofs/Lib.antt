@@ -6,3 +6,4 @@ pub mod Naming
 pub mod Values
 pub mod Registers
 pub mod Words
+pub mod Letters

@@ -100,9 +100,6 @@ module _ (first second : ℕ) (letter : (pair (first % 8)).letter ≡ first) whe
   few-here : Few (first % 8)
   few-here = in-run Few 0 8 (first % 8) (omega arith) (omega arith) few
 
-  pub digit-small : second - 48 < (pair (first % 8)).digits → (pair (first % 8)).first + (second - 48) < 17
-  digit-small l = omega (arith, few-here)
-
   pub digit-named : 48 ≤ second → second - 48 < (pair (first % 8)).digits → Is (first ∷ second ∷ []) ((pair (first % 8)).first + (second - 48))
   digit-named l k =
       let d = in-run ByDigit 0 8 (first % 8) (omega arith) (omega arith) (tt, (a-names, (r-names, (s-names, (t-names, (tt, (tt, (tt, tt)))))))) in
@@ -184,9 +181,6 @@ no_length (a ∷ b ∷ []) f g h = absurd (f refl)
 no_length (a ∷ b ∷ c ∷ []) f g h = absurd (g refl)
 no_length (a ∷ b ∷ c ∷ d ∷ []) f g h = absurd (h refl)
 no_length (a ∷ b ∷ c ∷ d ∷ e ∷ s) f g h = none_named (a ∷ b ∷ c ∷ d ∷ e ∷ s) refl
-
-pub long-none : (u : List ℕ) → 4 < length u → name_number (named present u) ≡ none
-long-none u h = sym (no_length u (λ e. omega arith) (λ e. omega arith) (λ e. omega arith))
 
 -- ---- the register that the word at a place names
 

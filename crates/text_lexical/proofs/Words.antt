@@ -5,15 +5,16 @@ use native.Mathlib.Nat.{pow-suc, pow-le-pow_right, mul-add, mul_assoc, mul_comm,
 use native.Mathlib.Omega.{arith}
 use mathlib.Core.Bool.{true, false}
 use mathlib.Core.List.{List, [], ◌∷◌, ◌++◌, map, map-append}
-use lib.ListN.{length, drop, get_or, length-map, length-take, length-drop, length-append}
+use lib.ListN.{length, take, drop, get_or, length-map, length-take, length-drop, length-append}
 use lib.Seq.{drop-drop}
 use Rattle.std.specs.Prelude.{Some, None}
-use Rattle.text_lexical.specs.Bytes.{name_part, lower, every, run}
-use Rattle.text_lexical.specs.Promised.{packed, key_of}
+use Rattle.text_lexical.specs.Bytes.{name_part, lower, every, before, run}
+use Rattle.text_lexical.specs.Promised.{packed, key_of, name_key}
 use Rattle.text_lexical.specs.Words.{Roomy, with_byte, part, WordIs}
 use Rattle.text_lexical.specs.declared.name.Packed.{Packed}
+use Rattle.text_lexical.specs.declared.name.Word.{Word}
 use Rattle.text_lexical.proofs.Tests.{split}
-use Rattle.text_lexical.proofs.Strings.{every_append, every-cons, run-le, run_past, run-yes, run-no, run_end, part-more}
+use Rattle.text_lexical.proofs.Strings.{every_append, every-cons, every-run, take-run, past-run, run-le, run_past, run-yes, run-no, run_end, part-more}
 use Rattle.text_lexical.proofs.Keys.{key-short, key-long, lower-below}
 
 -- ---- packing
@@ -127,3 +128,27 @@ module _ {s : List ℕ} {at : ℕ} {p : Packed} {i : ℕ} (q : Spelling s at p i
           ends = omega (arith, run_on, q.on);
           key_is = sym (key-long (map lower (part s at (end - at))) (omega (arith, length_part s at end (omega (arith, q.on)) m)));
         }
+
+-- ---- the key of a name
+
+take_whole : (s : List ℕ) → take (length s) s ≡ s
+take_whole [] = refl
+take_whole (b ∷ s) = ap (λ (x : List ℕ). b ∷ x) (take_whole s)
+
+module _ (s : List ℕ) (w : Word) (q : WordIs s 0 w) where
+  -- Where the word at its front is not all of a spelling, a byte of this is no part of a name.
+  pub no_name : w.end < length s → None ≡ name_key s
+  unfolding name_key
+  no_name h =
+      let e : every name_part s ≡ false = rw (take_whole s) at (past-run name_part s (length s) (omega (arith, q.ends)) (omega arith)) in
+      rw (name_key, e) refl
+
+  pub whole_name : length s ≤ w.end → w.key ≡ name_key s
+  unfolding name_key
+  whole_name h =
+      let n : run name_part s ≡ length s = omega (arith, q.ends, run-le name_part s) in
+      let b : before name_part s ≡ s = sym (take-run name_part s) ∙ ap (λ j. take j s) n ∙ take_whole s in
+      let e : every name_part s ≡ true = rw b at (every-run name_part s) in
+      let k : w.end - 0 ≡ length s = omega (arith, q.ends) in
+      let m : w.key ≡ key_of (map lower (take (w.end - 0) s)) = q.key_is in
+      rw (name_key, e) (m ∙ ap (λ j. key_of (map lower (take j s))) k ∙ ap (λ x. key_of (map lower x)) (take_whole s))

@@ -24,6 +24,10 @@ unfoldable pub minus : ℕ → ℤ
 minus zero = pos zero
 minus (suc n) = negsuc n
 
+unfoldable pub is_negative : ℤ → Bool
+is_negative (pos n) = false
+is_negative (negsuc n) = true
+
 -- What a whole number leaves modulo 2^k, from 0 to 2^k - 1, for any width k.
 unfoldable pub residue : ℕ → ℤ → ℕ
 residue k (pos n) = n % 2 ^ k

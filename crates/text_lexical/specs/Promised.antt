@@ -1,8 +1,8 @@
 -- What the code's values mean in terms of the definitions, and what its functions promise.
-use Rattle.std.specs.Prelude.{ℕ, suc, ◌+◌, ◌-◌, ◌*◌, ◌%◌, ◌^◌, ◌≡◌, Bool, true, false, List, [], ◌∷◌, length, drop, get_or, leb, ltb, ℤ, pos, negsuc}
+use Rattle.std.specs.Prelude.{ℕ, suc, ◌+◌, ◌-◌, ◌*◌, ◌%◌, ◌^◌, ◌≡◌, Bool, true, false, List, [], ◌∷◌, map, length, drop, get_or, leb, ltb, ℤ, pos, negsuc}
 use Rattle.std.specs.Prelude.{Option as CodeOption, Some, None}
 use Rattle.std.proofs.Math.Option.{Option, none, some}
-use Rattle.text_lexical.specs.Bytes.{digit, hex_digit, binary_digit, before, run}
+use Rattle.text_lexical.specs.Bytes.{digit, hex_digit, binary_digit, name_part, lower, every, before, run}
 use Rattle.text_lexical.specs.Numbers.{digit_value, value_of, minus, residue}
 use Rattle.text_lexical.specs.Names.{Name}
 use Rattle.text_lexical.specs.declared.register.Register.{Register}
@@ -60,6 +60,10 @@ packed (b ∷ s) = b + 256 * packed s
 -- The key of a spelling, if it has at most seven bytes.
 unfoldable pub key_of : List ℕ → CodeOption ℕ
 key_of s = elim (leb (length s) 7) [ true ↦ Some (packed s) | false ↦ None ]
+
+-- The key of a name in lower case, if each byte is part of one.
+unfoldable pub name_key : List ℕ → CodeOption ℕ
+name_key s = elim (every name_part s) [ true ↦ key_of (map lower s) | false ↦ None ]
 
 -- ---- numbers
 

@@ -3,10 +3,12 @@ use Rattle.std.specs.Prelude.{ℕ, ◌+◌, ◌-◌, ◌*◌, ◌^◌, ◌≤◌
 use Rattle.std.specs.Prelude.{Option as CodeOption, Some, None}
 use Rattle.std.proofs.Math.Option.{some}
 use Rattle.text_lexical.specs.Bytes.{name_part, lower, run}
+use Rattle.text_lexical.specs.Numbers.{little}
 use Rattle.text_lexical.specs.Names.{Name, named}
 use Rattle.text_lexical.specs.Promised.{index_of, name_number, key_of}
 use Rattle.text_lexical.specs.declared.name.Packed.{Packed}
 use Rattle.text_lexical.specs.declared.name.Word.{Word}
+use Rattle.text_lexical.specs.declared.name.Letters.{Letters}
 use Rattle.text_lexical.specs.declared.name.RegisterName.{RegisterName}
 use Rattle.text_lexical.specs.declared.name.RegisterName.TheVariants.{Is as Named, NoSuch, Other as NoName}
 use Rattle.text_lexical.specs.declared.name.RegisterWord.{RegisterWord}
@@ -34,6 +36,13 @@ word_at s at = part s at (word_end s at - at)
 pub record WordIs (s : List ℕ) (at : ℕ) (w : Word) : Type 0 where
   pub ends : w.end ≡ word_end s at
   pub key_is : w.key ≡ key_of (map lower (part s at (w.end - at)))
+
+-- The bytes of a key, the lowest first, and how many of them stand below the highest that is not 0.
+pub record LettersOf (key : ℕ) (l : Letters) : Type 0 where
+  pub bytes_are : l.bytes ≡ little 8 key
+  pub few : l.length < 8
+  pub reaches : 2 ^ (8 * l.length) ≤ key
+  pub within : key < 256 * 2 ^ (8 * l.length)
 
 -- A register that is named up to a place.
 abbrev pub up_to : RegisterName → ℕ → CodeOption RegisterWord

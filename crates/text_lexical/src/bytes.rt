@@ -54,9 +54,9 @@ pub struct Margin;
 impl Class for Margin {
     ghost has = { margin };
 
-    #[tactic(auto, unfolding(crate::specs::Bytes::margin, crate::specs::Bytes::inside, crate::specs::Bytes::edge))]
+    #[tactic(auto, unfolding(crate::specs::Bytes::margin, crate::specs::Bytes::edge))]
     fn has(b: u8) -> bool {
-        b != b'\n' && (within(9, 13, b) || b == b' ')
+        Inside::has(b) && (within(9, 13, b) || b == b' ')
     }
 }
 
@@ -93,7 +93,7 @@ impl Class for Ascii {
     }
 }
 
-// The tests below are the library's, under the names that the definitions of tokens have.
+// The tests below go by the names that the definitions of tokens have. A letter and a digit are the library's.
 #[tactic(auto, unfolding(crate::specs::Bytes::between))]
 pub fn within(lo: u8, hi: u8, b: u8) -> bool
     ensures { result ≡ between lo hi b }

@@ -1,14 +1,14 @@
 // Register names, looked up by their bytes, and the packed keys by which other words are told apart. A place is asked to be within its text, as
 // in `bytes`.
-ghost use Rattle.std.specs.Prelude.{◌≡◌, [], ◌∷◌, map, ◌+◌, ◌^◌, ◌≤◌, ◌<◌, length};
+ghost use Rattle.std.specs.Prelude.{◌≡◌, [], ◌∷◌, ◌+◌, ◌^◌, ◌≤◌, ◌<◌, length};
 ghost use Rattle.std.proofs.Math.Option.{some};
 ghost use Rattle.text_lexical.specs.Bytes.{lower};
 ghost use Rattle.text_lexical.specs.Names.{named, present};
-ghost use Rattle.text_lexical.specs.Promised.{key_of, name_meant, name_number, register_number};
-ghost use Rattle.text_lexical.specs.Words.{Roomy, with_byte, WordIs, up_to, RegisterWordIs};
+ghost use Rattle.text_lexical.specs.Promised.{name_meant, name_number, register_number, name_key};
+ghost use Rattle.text_lexical.specs.Words.{Roomy, with_byte, WordIs, up_to, RegisterWordIs, LettersOf};
 
 use crate::bytes::NamePart;
-use crate::register::Register;
+use crate::register::{REGISTERS, Register};
 
 // The key of a word, if it has no more bytes than a key, and its end.
 #[derive(Clone, Copy)]
@@ -35,7 +35,7 @@ pub struct RegisterWord {
 }
 
 // How many bytes the longest name has.
-pub const LONGEST: usize = 4;
+const LONGEST: usize = 4;
 
 // The names of two bytes that begin with one letter.
 struct Pair {
@@ -69,7 +69,7 @@ static PAIRS: [Option<Pair>; 8] = [
 fn numbered(number: u8) -> RegisterName
     ensures { name_meant result ≡ some (register_number number) }
 {
-    if number < 16 {
+    if number < REGISTERS {
         return RegisterName::Is(Register::from_index(number));
     }
     RegisterName::NoSuch
@@ -202,21 +202,6 @@ impl Packed {
     }
 }
 
-// The key of a spelling in lower case, if it has no more bytes than a key. A loop of its own: that of `lower_word` ends at what is no part of
-// a name, and a spelling may have any byte.
-pub fn lower_key(spelling: &[u8]) -> Option<u64>
-    ensures { result ≡ key_of (map lower spelling.now) }
-{
-    if KEY_BYTES < spelling.len() {
-        return None;
-    }
-    let mut packed = UNPACKED;
-    for &b in spelling {
-        packed = packed.with(b);
-    }
-    Some(packed.key())
-}
-
 // The word at `at`: its key in lower case, and its end. It has no byte where no part of a name stands. Each line's first word is read by it:
 // as a call it takes ordinary lines 8 in 100 longer.
 #[inline(always)]
@@ -244,5 +229,34 @@ pub fn lower_word(text: &[u8], at: usize) -> Word
     Word {
         key: Some(packed.key()),
         end: text.len(),
+    }
+}
+
+// The key of a name in lower case: none where a byte is no part of a name.
+pub fn lower_key(spelling: &[u8]) -> Option<u64>
+    ensures { result ≡ name_key spelling.now }
+{
+    let word = lower_word(spelling, 0);
+    if word.end < spelling.len() {
+        return None;
+    }
+    word.key
+}
+
+// The bytes that were packed into a key: the first `length` of eight.
+#[derive(Clone, Copy)]
+pub struct Letters {
+    pub bytes: [u8; 8],
+    pub length: usize,
+}
+
+// The letters of a key: its bytes below the highest, which is 1. Each key has that one, so none is 0.
+pub fn letters_of(key: u64) -> Letters
+    requires { 0 < key }
+    ensures { LettersOf key result }
+{
+    Letters {
+        bytes: key.to_le_bytes(),
+        length: key.ilog2() as usize / 8,
     }
 }

@@ -1,7 +1,8 @@
 // Numbers: digits at a place of a text, their value where it fits 64 bits, whole numbers, and their residues. The place is asked to be within the
 // text, as in `bytes`.
 ghost use Rattle.std.specs.Prelude.{◌≡◌, suc, ◌+◌, ◌*◌, ◌%◌, ◌≤◌, length, None, MatchOption};
-ghost use Rattle.text_lexical.specs.Promised.{base_of, digit_of, digits_at, fitting, whole_meant, Reduced};
+ghost use Rattle.text_lexical.specs.Promised.{base_of, digit_of, digits_at, fitting, whole_meant, whole_for, Reduced};
+ghost use Rattle.text_lexical.specs.Numbers.{minus, is_negative};
 
 // The radix by which digits are read.
 #[derive(Clone, Copy)]
@@ -80,11 +81,28 @@ fn wrapped(n: u64, most: u64) -> u64
 }
 
 impl Whole {
+    // A number that is spelled with `-`. -0 is 0, which has no sign.
+    pub fn minus(magnitude: u64) -> Whole
+        ensures { result ≡ whole_for (minus magnitude) }
+    {
+        Whole {
+            negative: 0 < magnitude,
+            magnitude,
+        }
+    }
+
+    // Whether the number is below 0, as no 0 is, whatever its sign.
+    pub fn is_negative(self) -> bool
+        ensures { result ≡ is_negative (whole_meant self) }
+    {
+        self.negative && 0 < self.magnitude
+    }
+
     // What the number leaves modulo `most` + 1: its low bits, where `most` is so many ones.
     pub fn residue(self, most: u64) -> u64
         ensures { Reduced (suc most) (whole_meant self) result }
     {
-        if self.negative && 0 < self.magnitude {
+        if self.is_negative() {
             return most - wrapped(self.magnitude - 1, most);
         }
         wrapped(self.magnitude, most)

@@ -2,6 +2,9 @@
 ghost use Rattle.std.specs.Prelude.{◌≡◌, min};
 ghost use Rattle.text_lexical.specs.Promised.{index_of};
 
+// How many there are.
+pub const REGISTERS: u8 = 16;
+
 #[derive(Clone, Copy, PartialEq, Eq)]
 pub enum Register {
     R0,

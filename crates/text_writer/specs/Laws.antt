@@ -6,7 +6,7 @@ use native.Mathlib.Nat.{add-zero, add_assoc}
 use native.Mathlib.Numerals.{add-one}
 use native.Mathlib.Omega.{arith}
 use lib.ListN.{length, take, drop, set, length-append, length-drop, take-append-drop}
-use lib.Seq.{length-take-le, take_at, drop_at, take-append-le, take-take, drop-append-add, drop-drop, set_split}
+use lib.Seq.{length-take-le, take_at, drop-append-add, drop-drop, set_split}
 use Rattle.text_writer.specs.Promised.{put, Written}
 use Rattle.text_writer.specs.Sinks.{SinkLaws, HasLength, Counted, HasRoom, WrittenOn}
 
@@ -40,18 +40,7 @@ put-append l at s t h =
     rw (← append_assoc (take at l) s r, take_at (take at l ++ s) r (at + length s) e, d, length-append s t, ← add_assoc at (length s) (length t))
     (append_assoc (take at l) s _ ∙ ap (λ (x : List ℕ). take at l ++ x) (sym (append_assoc s t _)))
 
--- A text, and then another before it.
-pub put-before : (l : List ℕ) (at : ℕ) (s t : List ℕ) → at + length s ≤ length l → put (put l (at + length s) t) at s ≡ put l at (s ++ t)
-unfolding put
-put-before l at s t h =
-    let n = at + length s in
-    let e : length (take n l) ≡ n = length-take-le n l h in
-    let q = t ++ drop (n + length t) l in
-    let a : take at (take n l ++ q) ≡ take at l = take-append-le at (take n l) q (omega arith) ∙ take-take at n l (omega arith) in
-    rw (a, drop_at (take n l) q n e, length-append s t, ← add_assoc at (length s) (length t))
-    (ap (λ (x : List ℕ). take at l ++ x) (sym (append_assoc s t _)))
-
--- ---- texts written one behind the other
+-- ---- texts written one after the other
 
 pub written_none : (l : List ℕ) (at : ℕ) → Written l at [] at l
 written_none l at = record { ends = sym (add-zero at); holds = sym (put-none l at) }

@@ -6,14 +6,14 @@ ghost use Rattle.zkasm.specs.Zkasm.{most_input, image_room, text_room, refusal_t
 ghost use Rattle.zkasm.specs.Promised.{AssemblesInput, Prints};
 
 use crate::stdin::{MOST_INPUT, ROOM};
-use image::limits::HEADER_SIZE;
+use image::limits::{HEADER_SIZE, WORD_SIZE};
 use image_assembler::assembler::{AssembleError, Assembled};
 use image_labels::label::Label;
 use refusal::refusal::Refusal;
 use text_writer::sink::{Sink, Writer};
 
 // Room for the image of every input: it has a line more at most than bytes.
-const IMAGE_ROOM: usize = HEADER_SIZE + 4 * ROOM;
+const IMAGE_ROOM: usize = HEADER_SIZE + WORD_SIZE * ROOM;
 
 // Room for its text: three settings and as many words, of at most 22 bytes a line. There is no heap, so the buffer is lent, and each function
 // that prints into it asks for the room.
@@ -43,16 +43,19 @@ fn write_listing(image: &[u8], out: &mut [u8]) -> usize
     image_listing::disassembler::list(image, out).unwrap()
 }
 
-fn blank_table() -> [Label; 1024] {
+// How many labels an input may have.
+const TABLE_ROOM: usize = 1024;
+
+fn blank_table() -> [Label; TABLE_ROOM] {
     let blank = Label {
         start: 0,
         length: 0,
         address: 0,
     };
-    [blank; 1024]
+    [blank; TABLE_ROOM]
 }
 
-// An input assembled, with a table of 1,024 labels.
+// An input assembled, with a table of so many labels.
 fn assemble(input: &[u8], image: &mut [u8]) -> Result<Assembled, AssembleError>
     ensures { AssemblesInput input.now image.old image.new result }
 {
@@ -68,7 +71,10 @@ fn report_source(input: &[u8], image: &mut [u8], out: &mut [u8]) -> usize
     ensures { Prints (program_output input.now) out.old out.new result }
 {
     match assemble(input, image) {
-        Ok(assembled) => write_listing(&image[..HEADER_SIZE + 4 * assembled.words], out),
+        Ok(assembled) => {
+            let length = image::program::image_length(assembled.words);
+            write_listing(&image[..length], out)
+        }
         Err(AssembleError::Refused { refusal, line, .. }) => write_refusal(out, refusal, line),
         // the image buffer holds the image of every such input
         Err(AssembleError::TooShort { .. }) => unreachable!(),

@@ -1,5 +1,5 @@
 // The program's input, read until it ends or until it is too long.
-ghost use Rattle.std.specs.Prelude.{◌≡◌, ◌+◌, ◌≤◌, ◌<◌, length, take};
+ghost use Rattle.std.specs.Prelude.{ℕ, ◌≡◌, ◌+◌, ◌≤◌, ◌<◌, length, take, get_or};
 ghost use Rattle.zkasm.specs.Stdin.{input_room, failed, delivery_of, count_of, step_of};
 ghost use Rattle.zkasm.specs.declared.stdin.Step.TheVariants.{Done};
 ghost use Rattle.zkasm.specs.Promised.{Delivers, ReadsPiece, Received};
@@ -94,11 +94,19 @@ fn step_after(filled: usize, tries: usize, delivery: Delivery) -> Step
     }
 }
 
+// So many zeros, for any length: of a long array as it is written, no proof closes.
+fn zeros<const N: usize>() -> [u8; N]
+    ensures { (i : ℕ) → get_or result i 0 ≡ 0 }
+{
+    [0; N]
+}
+
 // A buffer for an input, or for a piece of one.
 pub fn blank() -> [u8; ROOM]
-    ensures { input_room ≡ length result }
+    ensures room { input_room ≡ length result }
+    ensures zeros { (i : ℕ) → get_or result i 0 ≡ 0 }
 {
-    [0; ROOM]
+    zeros::<ROOM>()
 }
 
 // Reads once. At least one byte is asked for, because an answer of 0 means the end only then.

@@ -10,10 +10,10 @@ returns-then-too_long c =
     overlong-assembles present c.args.source.now c.args.table.now c.args.image.now (ltb-true _ _ (sym c.too_long.ensures ∙ c.if-too_long.true))
 
 pub finish-assembled-requires : goal.finish-assembled-requires
-finish-assembled-requires c = walks-ready c.walk-outcome.ensures
+finish-assembled-requires c = walks-ready c.walk-verdict.ensures
 
 pub returns : goal.returns
 returns c =
-    let labels = c.walk-outcome.ensures in
+    let labels = c.walk-verdict.ensures in
     let same = sym (c.unlink.ensures.lent.same_table ∙ labels.lent.same_table) in
     walks-end labels (search rules ∙ c.unlink.ensures.table) c.finish-assembled.ensures

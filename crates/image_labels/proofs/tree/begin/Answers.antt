@@ -1,10 +1,10 @@
 -- `image_labels::tree::begin` meets its contract.
-use Rattle.image_labels.specs.Tree.{first_path, key_of, span, entry_for}
+use Rattle.image_labels.specs.Tree.{first_path, key_of, span}
 use Rattle.image_labels.proofs.Named.{spelled-long}
 use Rattle.image_labels.proofs.tree.begin.Goals as goal
 
 pub returns : goal.returns
-unfolding first_path key_of entry_for
+unfolding first_path key_of
 returns c =
     let a = c.args in
     let l = span a.start a.«length» in

@@ -4,8 +4,8 @@ use Rattle.image_labels.specs.Tree.{hash_from}
 use Rattle.image_labels.proofs.Hashing.{hash_threes}
 use Rattle.image_labels.proofs.tree.hash.Given as goal
 
-abbrev pub invariant-loop-three : goal.invariant-loop-three
-invariant-loop-three l = hash_threes l.hash (drop l.three-index l.threes) ≡ hash_threes l.initial.hash l.threes
+abbrev pub invariant-loop-chunk : goal.invariant-loop-chunk
+invariant-loop-chunk l = hash_threes l.hash (drop l.chunk-index l.chunks) ≡ hash_threes l.initial.hash l.chunks
 
 -- less than three bytes are left
 abbrev pub invariant-loop-byte : goal.invariant-loop-byte

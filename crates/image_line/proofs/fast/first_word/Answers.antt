@@ -9,17 +9,25 @@ use Rattle.image_line.proofs.fast.first_word.Goals as goal
 
 -- no word begins
 pub returns-then-source-at : goal.returns-then-source-at
-returns-then-source-at c = record { label = c.loop-at.invariant; in_text = label-in present c.args.source.now c.args.start c.loop-at.at c.loop-at.label c.requires c.loop-at.invariant }
+returns-then-source-at c = record { label = c.loop-at.invariant; word = label-in present c.args.source.now c.args.start c.loop-at.at c.loop-at.label c.requires c.loop-at.invariant }
 
 pub returns-then-is_some : goal.returns-then-is_some
 returns-then-is_some c =
     record {
-      at = c.loop-at.at;
       label = c.loop-at.invariant;
-      in_text = omega (arith, c.if-source-at.false);
-      begins = sym c.is_name_start.ensures ∙ c.if-not-is_name_start.false;
-      word = record { ends = c.lower_word-word.ensures.ends; key_is = rw c.in-Some.is at c.lower_word-word.ensures.key_is };
+      word = record {
+        in_text = omega (arith, c.if-source-at.false);
+        begins = sym c.is_name_start.ensures ∙ c.if-not-is_name_start.false;
+        word = c.lower_word-word.ensures;
+      };
     }
+
+pub run_end-at-requires : goal.run_end-at-requires
+run_end-at-requires c =
+    let b = sym c.is_name_start.ensures ∙ c.if-not-is_name_start.false in
+    let (i, is) = is-label-reads present present-naming c.args.source.now c.loop-at.at c.lower_word-word.result.end (omega (arith, c.if-source-at.false)) b c.lower_word-word.ensures.ends
+    (sym c.is_label.ensures ∙ c.if-not-is_label.false) in
+    omega arith
 
 pub loop-at-preserved : goal.loop-at-preserved
 loop-at-preserved c =

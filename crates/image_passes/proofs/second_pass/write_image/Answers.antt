@@ -1,19 +1,29 @@
-use Rattle.std.proofs.Common.{◌*◌}
+use mathlib.Core.Path.{refl, sym}
+use Prim.Native.Nat.{◌≤◌}
 use native.Mathlib.Omega.{arith}
-use Rattle.text_writer.proofs.Writing.{written-length}
-use Rattle.image.specs.Program.{header_for}
-use Rattle.image.specs.Promised.{settings_meant}
-use Rattle.image.proofs.Images.{header-length}
-use Rattle.image_passes.proofs.Answers.{code-long, fills_image, fills-not}
+use lib.ListN.{length}
+use Rattle.std.proofs.Common.{rules}
+use Rattle.image.specs.Assembling.{most_words}
+use Rattle.image.specs.Program.{image_length}
+use Rattle.image_passes.proofs.Answers.{header_fits, puts_image, fills_image, fills-not}
 use Rattle.image_passes.proofs.second_pass.write_image.Goals as goal
 
-pub returns-then-image-needed : goal.returns-then-image-needed
-returns-then-image-needed c = fills-not c.requires c.args.image.now c.if-image-needed.true
+pub image_length-needed-requires : goal.image_length-needed-requires
+unfolding most_words
+image_length-needed-requires c = omega (arith, c.requires.most)
 
--- the words have room after the header
+pub returns-then-image-needed : goal.returns-then-image-needed
+returns-then-image-needed c = rw c.image_length-needed.ensures (fills-not c.requires c.args.image.now (omega (arith, c.image_length-needed.ensures, c.if-image-needed.true)))
+
+pub put_header-requires : goal.put_header-requires
+put_header-requires c = header_fits c.requires c.args.image.now (omega (arith, c.image_length-needed.ensures, c.if-image-needed.false))
+
 pub second_pass-requires-clause-room : goal.second_pass-requires-clause-room
-second_pass-requires-clause-room c =
-    omega (arith, written-length c.write_header.ensures (omega (arith, c.if-image-needed.false, header-length (header_for (settings_meant c.args.config) (4 * c.args.words) 0))), code-long c.requires, c.if-image-needed.false)
+second_pass-requires-clause-room c = (puts_image c.requires _ refl (omega (arith, c.image_length-needed.ensures, c.if-image-needed.false))).second c.put_header.ensures
 
 pub returns : goal.returns
-returns c = fills_image c.requires c.if-image-needed.false c.write_header.ensures c.second_pass.ensures
+returns c =
+    let long : image_length c.args.words ≤ length c.args.image.now = omega (arith, c.image_length-needed.ensures, c.if-image-needed.false) in
+    let e = (puts_image c.requires _ refl long).taken c.put_header.ensures c.second_pass.ensures in
+    let same = sym e.same_buffer in
+    fills_image c.requires e refl long (search rules)

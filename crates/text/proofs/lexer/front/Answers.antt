@@ -1,6 +1,7 @@
 -- `text::lexer::front` meets its contract.
 use Rattle.std.proofs.Common.{arith, sym, ◌∙◌}
 use Rattle.text_lexical.specs.Names.{present}
+use Rattle.text.proofs.Fronts.{number-begins}
 use Rattle.text.proofs.Left.{start-solid, high-solid}
 use Rattle.text.proofs.Stepping.{solid-step, number_step}
 use Rattle.text.proofs.lexer.front.Goals as goal
@@ -9,10 +10,11 @@ pub returns-then-is_name_start : goal.returns-then-is_name_start
 returns-then-is_name_start c =
     solid-step present c.args.text.now c.args.at c.word.result c.requires.in_text (start-solid _ (sym c.is_name_start.ensures ∙ c.if-is_name_start.true)) c.word.ensures
 
-pub returns-then-is_number_start : goal.returns-then-is_number_start
-returns-then-is_number_start c =
-    number_step present c.args.text.now c.args.at c.number.result c.requires.in_text (sym c.is_number_start.ensures ∙ c.if-is_number_start.true) c.number.ensures
-
 pub returns-then-b-eq46 : goal.returns-then-b-eq46
 returns-then-b-eq46 c =
     solid-step present c.args.text.now c.args.at c.directive.result c.requires.in_text (high-solid _ (omega arith)) c.directive.ensures
+
+pub returns-in_default : goal.returns-in_default
+returns-in_default c =
+    let (n, t) = number-begins present c.args.text.now c.args.at c.number.result c.number.ensures c.in_default.not-Bad in
+    number_step present c.args.text.now c.args.at c.number.result c.requires.in_text n t

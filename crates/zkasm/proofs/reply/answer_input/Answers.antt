@@ -7,10 +7,10 @@ use Rattle.zkasm.proofs.Sources.{prints-front}
 use Rattle.zkasm.proofs.reply.answer_input.Goals as goal
 
 pub slice_bounds-input-end : goal.slice_bounds-input-end
-slice_bounds-input-end g c = whole-fits (sym c.blank-input.ensures) c.in-Whole.ensures.calls
+slice_bounds-input-end g c = whole-fits (sym c.blank-input.ensures.room) c.in-Whole.ensures.calls
 
 pub slice_bounds-report-end : goal.slice_bounds-report-end
-slice_bounds-report-end g c = sym (length-take-le _ _ (whole-fits (sym c.blank-input.ensures) c.in-Whole.ensures.calls))
+slice_bounds-report-end g c = sym (length-take-le _ _ (whole-fits (sym c.blank-input.ensures.room) c.in-Whole.ensures.calls))
 
 pub returns-in-Whole-clause-reply : goal.returns-in-Whole-clause-reply
 unfolding writing_of
@@ -20,7 +20,7 @@ returns-in-Whole-clause-reply g c =
       read = Whole c.in-Whole.n;
       came = r.came;
       calls = r.calls;
-      writes = rw (whole-front (sym c.blank-input.ensures) r) at c.report.ensures;
+      writes = rw (whole-front (sym c.blank-input.ensures.room) r) at c.report.ensures;
     }
 
 pub returns-in-TooLong-clause-reply : goal.returns-in-TooLong-clause-reply
@@ -31,12 +31,12 @@ returns-in-TooLong-clause-reply g c =
       read = TooLong;
       came = r.came;
       calls = r.calls;
-      writes = rw (too-long-fills (sym c.blank-input.ensures) r) at c.report-in-TooLong.ensures;
+      writes = rw (too-long-fills (sym c.blank-input.ensures.room) r) at c.report-in-TooLong.ensures;
     }
 
 pub returns-in-TooLong-clause-whole : goal.returns-in-TooLong-clause-whole
 returns-in-TooLong-clause-whole g c =
-    prints-front _ _ c.read_input.new.input _ _ (c.read_input.auto.input ∙ sym c.blank-input.ensures) c.in-TooLong.ensures.source c.report-in-TooLong.ensures.printed
+    prints-front _ _ c.read_input.new.input _ _ (c.read_input.auto.input ∙ sym c.blank-input.ensures.room) c.in-TooLong.ensures.source c.report-in-TooLong.ensures.printed
 
 pub returns-in-Incomplete-clause-reply : goal.returns-in-Incomplete-clause-reply
 unfolding writing_of

@@ -1,9 +1,10 @@
 use Rattle.std.proofs.Common.{◌≡◌, ℕ, ◌+◌, ◌*◌, ◌≤◌, sym, ap, ◌∙◌, arith, List, length, take}
 use lib.Seq.{length-take-le}
 use Rattle.text_lexical.specs.Names.{present}
-use Rattle.image.specs.Assembling.{assembling}
+use Rattle.image.specs.Assembling.{assembling, most_words}
 use Rattle.image.specs.Listing.{text_of}
 use Rattle.image.specs.Meaning.{image_of}
+use Rattle.image.specs.Program.{header_size, image_length}
 use Rattle.image_assembler.specs.declared.assembler.Assembled.{Assembled}
 use Rattle.image_assembler.specs.declared.assembler.AssembleError.{AssembleError}
 use Rattle.image_assembler.specs.Promised.{answer_meant}
@@ -24,34 +25,38 @@ module _ {input old new : List ℕ} {x : Assembled} {r : Answer Assembled Assemb
   few : x.words ≤ 16385
   few = omega (arith, words-few input short, accepted.count)
 
-  -- and its image stands at the buffer's front.
-  front : take (32 + 4 * x.words) new ≡ image_of present input
-  front = ap (take (32 + 4 * x.words)) (a.image_holds ∙ accepted.holds old) ∙ image-front input old x.words accepted.count
+  -- and its image stands at the buffer's front,
+  front : {n : ℕ} → n ≡ image_length x.words → take n new ≡ image_of present input
+  unfolding image_length header_size
+  front e = rw e (ap (take (32 + 4 * x.words)) (a.image_holds ∙ accepted.holds old) ∙ image-front input old x.words accepted.count)
 
-pub overflow_mul-assembled : goal.overflow_mul-assembled
-overflow_mul-assembled c = omega (arith, few c.requires.input_fits c.requires.image_room_in c.assemble.ensures c.in-Ok.is)
+  -- which is long enough for it.
+  long : {n : ℕ} → n ≡ image_length x.words → n ≤ length old
+  unfolding image_length header_size
+  long e = omega (arith, few, room, e)
 
-pub overflow_add-assembled : goal.overflow_add-assembled
-overflow_add-assembled c = omega (arith, few c.requires.input_fits c.requires.image_room_in c.assemble.ensures c.in-Ok.is)
+pub image_length-length-requires : goal.image_length-length-requires
+unfolding most_words
+image_length-length-requires c = omega (arith, few c.requires.input_fits c.requires.image_room_in c.assemble.ensures c.in-Ok.is)
 
 pub slice_bounds-write_listing-end : goal.slice_bounds-write_listing-end
 slice_bounds-write_listing-end c =
-    omega (arith, few c.requires.input_fits c.requires.image_room_in c.assemble.ensures c.in-Ok.is, c.requires.image_room_in, c.assemble.auto.image)
+    omega (arith, long c.requires.input_fits c.requires.image_room_in c.assemble.ensures c.in-Ok.is c.image_length-length.ensures, c.assemble.auto.image)
 
 pub slice_bounds-write_listing-end-in-Ok : goal.slice_bounds-write_listing-end-in-Ok
 slice_bounds-write_listing-end-in-Ok c =
     sym (length-take-le _ _
-    (omega (arith, few c.requires.input_fits c.requires.image_room_in c.assemble.ensures c.in-Ok.is, c.requires.image_room_in, c.assemble.auto.image)))
+    (omega (arith, long c.requires.input_fits c.requires.image_room_in c.assemble.ensures c.in-Ok.is c.image_length-length.ensures, c.assemble.auto.image)))
 
 pub write_listing-requires-clause-listed : goal.write_listing-requires-clause-listed
 write_listing-requires-clause-listed c =
     let q = c.requires in
-    rw (front q.input_fits q.image_room_in c.assemble.ensures c.in-Ok.is) (never-32 c.args.input.now q.input_fits (length c.args.out.now) q.text_room_in)
+    rw (front q.input_fits q.image_room_in c.assemble.ensures c.in-Ok.is c.image_length-length.ensures) (never-32 c.args.input.now q.input_fits (length c.args.out.now) q.text_room_in)
 
 pub write_listing-requires-clause-text_room_in : goal.write_listing-requires-clause-text_room_in
 write_listing-requires-clause-text_room_in c =
     let q = c.requires in
-    rw (front q.input_fits q.image_room_in c.assemble.ensures c.in-Ok.is) (omega (arith, text-short c.args.input.now q.input_fits, q.text_room_in))
+    rw (front q.input_fits q.image_room_in c.assemble.ensures c.in-Ok.is c.image_length-length.ensures) (omega (arith, text-short c.args.input.now q.input_fits, q.text_room_in))
 
 pub returns-in-Err-Refused : goal.returns-in-Err-Refused
 returns-in-Err-Refused c =
@@ -63,7 +68,7 @@ pub returns-in-Ok : goal.returns-in-Ok
 returns-in-Ok c =
     let q = c.requires in
     rw ((accepted q.input_fits q.image_room_in c.assemble.ensures c.in-Ok.is).output
-    ∙ ap text_of (sym (front q.input_fits q.image_room_in c.assemble.ensures c.in-Ok.is))) c.write_listing.ensures
+    ∙ ap text_of (sym (front q.input_fits q.image_room_in c.assemble.ensures c.in-Ok.is c.image_length-length.ensures))) c.write_listing.ensures
 
 pub unreachable-requires : goal.unreachable-requires
 unreachable-requires c =

@@ -9,7 +9,7 @@ use Rattle.zkasm.proofs.stdin.read_input.Goals as goal
 
 pub loop-more-init : goal.loop-more-init
 unfolding over
-loop-more-init g c = (c.blank-piece.ensures, (record { came = []; calls = start; holds = refl }, Consumes-nil _))
+loop-more-init g c = (c.blank-piece.ensures.room, (record { came = []; calls = start; holds = refl }, Consumes-nil _))
 
 pub read_piece-delivery-requires-clause-room_left : goal.read_piece-delivery-requires-clause-room_left
 read_piece-delivery-requires-clause-room_left g c =

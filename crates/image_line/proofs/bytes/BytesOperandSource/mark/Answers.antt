@@ -10,6 +10,6 @@ use Rattle.image_line.proofs.bytes.BytesOperandSource.mark.Goals as goal
 pub returns : goal.returns
 returns c =
     let s = c.args.self.now in
-    let (k, m, r) = mark-reads present present-naming s.text.now s.at c.run_end-at.result s.in_text c.run_end-at.ensures (omega (arith, c.if-self-at.false)) c.args.mark c.requires
+    let (k, m, r) = mark-reads present present-naming s.text.now s.at c.past_blanks-at.result c.past_blanks-at.ensures (omega (arith, c.if-self-at.false)) c.args.mark c.requires
     c.if-self-at-2.false in
     token-taken refl k m r

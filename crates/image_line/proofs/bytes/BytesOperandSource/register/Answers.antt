@@ -13,17 +13,17 @@ use Rattle.image_line.proofs.Operands.{token-taken}
 use Rattle.image_line.proofs.bytes.BytesOperandSource.register.Goals as goal
 
 pub register_word-requires : goal.register_word-requires
-register_word-requires c = let s = c.args.self.now in omega (arith, c.run_end-at.ensures, run_in blank s.text.now s.at s.in_text)
+register_word-requires c = let s = c.args.self.now in omega (arith, c.past_blanks-at.ensures, run_in blank s.text.now s.at s.in_text)
 
 pub invariant_of-self : goal.invariant_of-self
 invariant_of-self c =
     let s = c.args.self.now in
     let is_some : c.register_word.result ≡ Some c.in_ok-word.word = search rules in
-    record { in_text = (register-reads present present-naming s.text.now s.at c.run_end-at.result c.in_ok-word.word s.in_text c.run_end-at.ensures (rw is_some at c.register_word.ensures)).in_text }
+    record { in_text = (register-reads present present-naming s.text.now s.at c.past_blanks-at.result c.in_ok-word.word c.past_blanks-at.ensures (rw is_some at c.register_word.ensures)).in_text }
 
 pub returns : goal.returns
 unfolding read_register
 returns c =
     let s = c.args.self.now in
     let is_some : c.register_word.result ≡ Some c.in_ok-word.word = search rules in
-    token-taken refl _ refl (register-reads present present-naming s.text.now s.at c.run_end-at.result c.in_ok-word.word s.in_text c.run_end-at.ensures (rw is_some at c.register_word.ensures))
+    token-taken refl _ refl (register-reads present present-naming s.text.now s.at c.past_blanks-at.result c.in_ok-word.word c.past_blanks-at.ensures (rw is_some at c.register_word.ensures))

@@ -1,6 +1,0 @@
-pub mod Again
-pub mod Arrays
-pub mod Calls
-pub mod Facts
-pub mod Locals
-pub mod Numbers
