@@ -35,6 +35,10 @@ pub data Step : Type 0 where
 unfoldable pub is_known : List Label → List ℕ → Bool
 is_known labels s = is_some (find (λ l. same l.spelling s) labels)
 
+-- "the label's address": that of the label with a spelling, if there is one.
+unfoldable pub address_of : List Label → List ℕ → Option ℕ
+address_of labels s = elim (find (λ l. same l.spelling s) labels) [ none ↦ none | some l ↦ some l.address ]
+
 -- "its address is 0x1000 + 4 times the words before"
 unfoldable pub with_label : State → ℕ → List ℕ → State
 with_label st at s =

@@ -85,20 +85,19 @@ fn set_field(config: Config, key: &[u8], value: u8) -> Result<Config, Refusal>
     Err(Refusal::UnknownKey)
 }
 
-// The settings behind a `.config` line, with its field set.
-pub fn parse_config(source: &[u8], line: Line, config: Config) -> Result<Config, Refusal>
-    requires { Kept source.now line }
-    ensures { answered settings_meant result ≡ configured (settings_meant config) (record_meant source.now line) }
+// The settings after a `.config` line, with its field set.
+pub fn parse_config(source: &[u8], line: &Line, config: Config) -> Result<Config, Refusal>
+    requires { Kept source.now line.now }
+    ensures { answered settings_meant result ≡ configured (settings_meant config) (record_meant source.now line.now) }
 {
-    let tokens = line.tokens;
     if line.count != 3 {
         return Err(Refusal::ConfigTokens);
     }
-    let key = tokens[1];
+    let key = line.tokens[1];
     let Kind::Identifier = key.kind else {
         return Err(Refusal::KeyExpected);
     };
-    let value = tokens[2];
+    let value = line.tokens[2];
     let whole = text::parser::extract_number(value.kind)?;
     let start = key.start;
     let end = start + key.length;

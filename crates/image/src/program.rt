@@ -1,5 +1,5 @@
 // The header of an image: written, read and checked.
-ghost use Rattle.std.specs.Prelude.{◌≡◌, ◌+◌, ◌≤◌, length};
+ghost use Rattle.std.specs.Prelude.{◌≡◌, ◌+◌, ◌*◌, ◌≤◌, length};
 ghost use Rattle.refusal.specs.Refusals.{answered, fault_of};
 ghost use Rattle.image.specs.Assembling.{most_words};
 ghost use Rattle.image.specs.Program.{header_bytes, header_for, image_length, number_at, header_of};
@@ -32,13 +32,22 @@ pub struct Opened {
     pub code_end: usize,
 }
 
-// The bytes of an image of so many words, of which there are no more than there may be.
+// The bytes of the code of so many words, of which there are no more than there may be.
+#[tactic(auto, unfolding(crate::specs::Assembling::most_words))]
+pub fn code_size(words: usize) -> usize
+    requires { words ≤ most_words }
+    ensures { result ≡ 4 * words }
+{
+    WORD_SIZE * words
+}
+
+// The bytes of an image of so many words.
 #[tactic(auto, unfolding(crate::specs::Assembling::most_words, crate::specs::Program::image_length, crate::specs::Program::header_size))]
 pub fn image_length(words: usize) -> usize
     requires { words ≤ most_words }
     ensures { result ≡ image_length words }
 {
-    HEADER_SIZE + WORD_SIZE * words
+    HEADER_SIZE + code_size(words)
 }
 
 // Puts the header of a program with settings and a size of code. Entry and stack size are fixed byte strings, as document 01 names that
@@ -59,7 +68,7 @@ pub fn put_header<S: Sink>(sink: &mut S, config: Config, code_size: u32)
 }
 
 // A header's parts are read at their places, from an image that is asked to have them all: document 01's form of slice and place.
-pub fn read_u32(image: &[u8], at: usize) -> u32
+fn read_u32(image: &[u8], at: usize) -> u32
     requires { at + 4 ≤ length image.now }
     ensures { result ≡ number_at at 4 image.now }
 {

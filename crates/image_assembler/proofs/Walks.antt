@@ -11,12 +11,10 @@ use lib.ListN.{length, take, set, length-map, length-append}
 use lib.Seq.{set_out}
 use lib.Dec.{ltb}
 use borrow.Author.Tests.{ltb-true, ltb-false}
-use Rattle.text_lexical.specs.Bytes.{same, find, is_some, ascii, every, before}
+use Rattle.text_lexical.specs.Bytes.{same, find, is_some}
 use Rattle.text_lexical.specs.Names.{Name}
 use Rattle.refusal.specs.Refusals.{fault_of}
-use Rattle.refusal.specs.declared.refusal.Refusal.TheVariants.{NotAscii}
 use Rattle.text_lexical.proofs.Tests.{by-test}
-use Rattle.text.specs.Lines.{lines}
 use Rattle.text.specs.NameSets.{Naming}
 use Rattle.image.specs.Assembling.{is_known, most_bytes}
 use Rattle.image.specs.Assembling.{Label as Meant}
@@ -26,14 +24,16 @@ use Rattle.image_labels.specs.Tree.{place_before, unlinked, Tree, TreeAfter, Ent
 use Rattle.image_labels.proofs.Named.{spelled-long}
 use Rattle.image_labels.specs.declared.label.Label.{Label}
 use Rattle.image_labels.specs.declared.label.Labels.{Labels}
-use Rattle.image_passes.specs.Promised.{Entry, Verdict, refused_at, first_line, begun, SoundPass, ScannableNext, After, ReadsOn, Begins, Follows, GoesOn}
-use Rattle.image_passes.proofs.Reaching.{Progress, Resumes, with_entry, label_at}
+use Rattle.image_passes.specs.Promised.{Entry, Verdict, begun, followed, WalkEnds, Sound, Scannable, ReadsOn}
+use Rattle.image_passes.proofs.Reaching.{LabelNext, ReachedFrom, Progress, Resumes, with_entry, label_at}
 use Rattle.image_passes.proofs.Answers.{begins-stand}
-use Rattle.image_passes.proofs.Scanning.{reads-stand, goes-stand}
+use Rattle.image_passes.proofs.Scanning.{reads-stand, goes-stand, NextLine, goes-line}
 use Rattle.image_passes.specs.declared.first_pass.Pass.{Pass}
 use Rattle.image_passes.specs.declared.first_pass.Pass.TheVariants.{AtLabel, Ended as PassEnded}
 use Rattle.image_passes.specs.declared.first_pass.Next.{Next}
 use Rattle.image_passes.specs.declared.first_pass.Next.TheVariants.{From, Ended as NextEnded}
+use Rattle.image_passes.specs.declared.first_pass.Cursor.{Cursor}
+use Rattle.image_passes.specs.declared.first_pass.Stopped.{Stopped}
 use Rattle.image_passes.specs.declared.first_pass.LabelLine.{LabelLine}
 use Rattle.image.proofs.Over.{take-over, length_over, over-more}
 use Rattle.image_assembler.specs.Promised.{overlong, Finishable, Finishes, Starts, Holds, Walks, Assembles}
@@ -77,95 +77,95 @@ counted ls l (Err r) = refl
 
 -- ---- the walk
 
--- A line has at most one label. So fewer labels have been entered than the number of the line that is to be read next,
-abbrev Few : ℕ → Next → Type 0
-Few count (From c) = count + 1 ≤ c.line
-Few count (NextEnded v) = Unit {0}
-
--- or of the line whose label is to be entered.
-abbrev FewAt : ℕ → Pass → Type 0
-FewAt count (AtLabel p) = count + 1 ≤ p.line
-FewAt count (PassEnded v) = Unit {0}
-
--- Where it reads on with some labels, since it began with others: those so far.
-pub record Walking (names : List Name) (old now : Labels) (n : Next) : Type 0 where
+-- Labels have been entered since the walk began, and something holds of them.
+pub record Entered (old now : Labels) (Stands : List Meant → Type 0) : Type 0 where
   pub labels : List Meant
-  pub stands : Resumes names old.source.now (length old.table.now) labels n
-  pub sound : ScannableNext old.source.now n
+  pub stands : Stands labels
   pub counted : now.count ≡ length labels
-  pub few : Few now.count n
   pub holds : Holds old.source.now old.table.now (unlinked now.count now.table.now) labels
   pub linked : Linked now
   pub lent : SameLent old now
 
--- Where it has come to.
-pub record Stopping (names : List Name) (old now : Labels) (p : Pass) : Type 0 where
-  pub labels : List Meant
-  pub stands : Progress names old.source.now (length old.table.now) labels p
-  pub sound : SoundPass old.source.now p
-  pub counted : now.count ≡ length labels
-  pub few : FewAt now.count p
-  pub holds : Holds old.source.now old.table.now (unlinked now.count now.table.now) labels
-  pub linked : Linked now
-  pub lent : SameLent old now
+-- Something else holds of the same labels.
+standing : {old now : Labels} {P Q : List Meant → Type 0} → ((ls : List Meant) → P ls → Q ls) → Entered old now P → Entered old now Q
+standing f w = record { labels = w.labels; stands = f w.labels w.stands; counted = w.counted; holds = w.holds; linked = w.linked; lent = w.lent }
 
--- The first line is line 1.
-few-first : (s : List ℕ) → Few 0 (begun s)
-unfolding begun
-few-first s = go (every ascii s)
-  where
-    go : (b : Bool) → Few 0 (elim b [ true ↦ From first_line | false ↦ NextEnded (refused_at NotAscii 0 (length (lines (before ascii s)))) ])
-    go true = omega arith
-    go false = tt
+-- The walk reads on from a line. A line has at most one label, so fewer labels have been entered than its number.
+pub record Walking (names : List Name) (old now : Labels) (c : Cursor) : Type 0 where
+  pub entered : Entered old now (λ ls. ReachedFrom names old.source.now (length old.table.now) ls c)
+  pub sound : Scannable old.source.now c
+  pub few : now.count + 1 ≤ c.line
 
-few-reads : (count : ℕ) (n : Next) (p : Pass) → Few count n → After n p → FewAt count p
-few-reads count (From c) (AtLabel p) f a = omega (arith, f, a)
-few-reads count (From c) (PassEnded v) f a = tt
-few-reads count (NextEnded v) (AtLabel p) f a = absurd a
-few-reads count (NextEnded v) (PassEnded w) f a = tt
+-- It has come to a line whose label is to be entered.
+pub record Stopping (names : List Name) (old now : Labels) (p : LabelLine) : Type 0 where
+  pub entered : Entered old now (λ ls. LabelNext names old.source.now (length old.table.now) ls p)
+  pub sound : Sound old.source.now p
+  pub few : now.count + 1 ≤ p.line
 
-few-on : (count : ℕ) (p : LabelLine) (e : Entry) (n : Next) → count + 1 ≤ p.line → Follows p e n → Few (count_after count e) n
-few-on count p (Ok u) (From c) f a = omega (arith, f, a.0)
-few-on count p (Err r) (From c) f a = omega (arith, f, a.0)
-few-on count p e (NextEnded v) f a = tt
+-- It has ended.
+abbrev Ended : List Name → Labels → Labels → Verdict → Type 0
+Ended names old now v = Entered old now (λ ls. WalkEnds names old.source.now (length old.table.now) ls v)
 
--- How it begins.
-pub walking-begin : (names : List Name) {old : Labels} {n : Next} → Starts old → Begins old.source.now n → Walking names old old n
-unfolding unlinked over
-walking-begin names {old} {n} x b =
-    let none : old.count ≡ 0 = x.none_entered in
-    record {
-      labels = [];
-      stands = begins-stand x.short names b (length old.table.now);
-      sound = b.sound;
-      counted = none;
-      few = rw (none, b.answer) (few-first old.source.now);
-      holds = subst (λ (k : ℕ). Holds old.source.now old.table.now (unlinked k old.table.now) []) (sym none) (record { table_is = refl; fits = omega arith; spelled = tt });
-      linked = record {
-        in_table = rw none (omega arith);
-        in_text = λ i h. absurd (omega arith);
-        onward = λ i h. absurd (omega arith);
-        rootable = x.bare.rootable;
-        rooted = λ slot j e. let y : ◌≡◌ {A = Maybe ℕ} None (Some j) = sym (ap place_before (x.bare.none_there slot)) ∙ e in cc;
-        found = λ i h. absurd (omega arith);
-        distinct = λ i j h. absurd (omega arith);
-      };
-      lent = record { same_source = refl; same_table = refl; same_roots = refl };
-    }
+walks : {names : List Name} {old now : Labels} {v : Verdict} → Ended names old now v → Walks names old now v
+walks w = record { labels = w.labels; ends = w.stands; counted = w.counted; holds = w.holds; linked = w.linked; lent = w.lent }
 
--- It reads on.
-pub walking-reads : {names : List Name} {old now : Labels} {n : Next} {p : Pass} → Naming names → Walking names old now n → ReadsOn names old.source.now n p → Stopping names old now p
-walking-reads {old = old} {now} {n} {p} ok w r =
-    record {
-      labels = w.labels;
-      stands = reads-stand ok r w.sound (length old.table.now) w.labels w.stands;
-      sound = r.sound;
-      counted = w.counted;
-      few = few-reads now.count n p w.few r.after;
-      holds = w.holds;
-      linked = w.linked;
-      lent = w.lent;
-    }
+-- What is left, counted in lines.
+abbrev pub left : List ℕ → Cursor → ℕ
+left s c = length s + 2 - c.line
+
+-- ---- how it begins
+
+module _ {old : Labels} (x : Starts old) where
+  none-entered : {P : List Meant → Type 0} → P [] → Entered old old P
+  unfolding unlinked over
+  none-entered stands =
+      let none : old.count ≡ 0 = x.none_entered in
+      record {
+        labels = [];
+        stands = stands;
+        counted = none;
+        holds = subst (λ (k : ℕ). Holds old.source.now old.table.now (unlinked k old.table.now) []) (sym none) (record { table_is = refl; fits = omega arith; spelled = tt });
+        linked = record {
+          in_table = rw none (omega arith);
+          in_text = λ i h. absurd (omega arith);
+          onward = λ i h. absurd (omega arith);
+          rootable = x.bare.rootable;
+          rooted = λ slot j e. let y : ◌≡◌ {A = Maybe ℕ} None (Some j) = sym (ap place_before (x.bare.none_there slot)) ∙ e in cc;
+          found = λ i h. absurd (omega arith);
+          distinct = λ i j h. absurd (omega arith);
+        };
+        lent = record { same_source = refl; same_table = refl; same_roots = refl };
+      }
+
+  -- The source is refused before any line,
+  pub walks-refused : (names : List Name) {t : Stopped} → Err t ≡ begun old.source.now → Walks names old old (Err t)
+  walks-refused names b = walks (none-entered (begins-stand names old.source.now x.short (length old.table.now) b))
+
+  -- or the walk reads on from the first line, which is line 1.
+  pub walking-begin : (names : List Name) {c : Cursor} → Ok c ≡ begun old.source.now → Walking names old old c
+  walking-begin names {c} b =
+      let (first, reached) = begins-stand names old.source.now x.short (length old.table.now) b in
+      record {
+        entered = none-entered reached;
+        sound = rw first (record { short = x.short; in_text = omega arith; few_lines = omega arith; few_words = omega arith });
+        few = rw (x.none_entered, first) (omega arith);
+      }
+
+-- ---- how it reads on
+
+module _ {names : List Name} {old now : Labels} {c : Cursor} (ok : Naming names) (w : Walking names old now c) where
+  reads : {p : Pass} → ReadsOn names old.source.now c p → Entered old now (λ ls. Progress names old.source.now (length old.table.now) ls p)
+  reads r = standing (λ ls h. reads-stand ok r w.sound (length old.table.now) ls h) w.entered
+
+  -- To a label,
+  pub walking-label : {p : LabelLine} → ReadsOn names old.source.now c (AtLabel p) → Stopping names old now p
+  walking-label r = record { entered = reads r; sound = r.sound; few = omega (arith, w.few, r.after) }
+
+  -- or to its end.
+  pub walking-ends : {v : Verdict} → ReadsOn names old.source.now c (PassEnded v) → Walks names old now v
+  walking-ends r = walks (reads r)
+
+-- ---- how it goes on
 
 holds-long : {s : List ℕ} {old table : List Label} {ls : List Meant} → Holds s old table ls → length table ≡ length old
 holds-long {s} {old} {table} {ls} h = table-long s old table ls h.table_is h.fits
@@ -216,60 +216,66 @@ module _ {s : List ℕ} {old table : List Label} (p : LabelLine) {ls : List Mean
         go false false l (Ok u) q k = let y : ◌≡◌ {A = ℕ} 0 1 = cc in absurd (omega arith)
 
 -- It stands at a label.
-module _ {names : List Name} {old now : Labels} {p : LabelLine} (w : Stopping names old now (AtLabel p)) where
+module _ {names : List Name} {old now : Labels} {p : LabelLine} (w : Stopping names old now p) where
+  abbrev so-far : Entered old now (λ ls. LabelNext names old.source.now (length old.table.now) ls p)
+  so-far = w.entered
+
   -- What entering the label asks for.
   pub walking-enterable : Enterable now.source.now now.count p.label
   unfolding most_bytes
   walking-enterable =
       let k = w.sound in
-      rw w.lent.same_source
+      rw so-far.lent.same_source
       (record { in_text = k.in_text; short = k.short; few = omega (arith, k.short, k.line_fits, w.few); near = k.near })
 
   -- It goes on.
-  module _ {next : Labels} {e : Entry} {r : Next} (x : Enters now.source.now (unlinked now.count now.table.now) now.count p.label (unlinked next.count next.table.now) e)
+  module _ {next : Labels} {e : Entry} {n : Next} (x : Enters now.source.now (unlinked now.count now.table.now) now.count p.label (unlinked next.count next.table.now) e)
       (t : TreeAfter now.source.now now.table.now now.roots.now now.count p.label next.table.now next.roots.now e)
-      (more : next.count ≡ count_after now.count e) (lent : SameLent now next) (g : GoesOn old.source.now p e r) where
-    entered : Enters old.source.now (unlinked now.count now.table.now) now.count p.label (unlinked next.count next.table.now) e
-    entered = rw w.lent.same_source at x
+      (more : next.count ≡ count_after now.count e) (lent : SameLent now next) (g : n ≡ followed old.source.now p e) where
+    enters : Enters old.source.now (unlinked now.count now.table.now) now.count p.label (unlinked next.count next.table.now) e
+    enters = rw so-far.lent.same_source at x
 
     linked-after : (k : Entry) → TreeAfter now.source.now now.table.now now.roots.now now.count p.label next.table.now next.roots.now k
         → Tree now.source.now next.table.now next.roots.now (count_after now.count k)
     linked-after (Ok u) f = f.1
-    linked-after (Err r) f = rw (f.0, f.1) w.linked
+    linked-after (Err r) f = rw (f.0, f.1) so-far.linked
 
-    pub walking_on : Walking names old next r
-    walking_on =
+    goes : Entered old next (λ ls. Resumes names old.source.now (length old.table.now) ls n)
+    goes =
         record {
-          labels = with_entry e w.labels (label_at old.source.now p);
-          stands = goes-stand g (length old.table.now) w.labels w.stands (fault_is p w.counted w.sound.in_text w.holds entered);
-          sound = g.sound;
-          few = rw more (few-on now.count p e r w.few g.follows);
-          counted = more ∙ ap (λ (m : ℕ). count_after m e) w.counted ∙ sym (counted w.labels (label_at old.source.now p) e);
-          holds = holds_on p w.counted w.sound.in_text w.holds entered;
+          labels = with_entry e so-far.labels (label_at old.source.now p);
+          stands = rw g (goes-stand e (length old.table.now) so-far.labels so-far.stands (fault_is p so-far.counted w.sound.in_text so-far.holds enters));
+          counted = more ∙ ap (λ (m : ℕ). count_after m e) so-far.counted ∙ sym (counted so-far.labels (label_at old.source.now p) e);
+          holds = holds_on p so-far.counted w.sound.in_text so-far.holds enters;
           linked = rw (lent.same_source, more) (linked-after e t);
           lent = record {
-            same_source = lent.same_source ∙ w.lent.same_source;
-            same_table = lent.same_table ∙ w.lent.same_table;
-            same_roots = lent.same_roots ∙ w.lent.same_roots;
+            same_source = lent.same_source ∙ so-far.lent.same_source;
+            same_table = lent.same_table ∙ so-far.lent.same_table;
+            same_roots = lent.same_roots ∙ so-far.lent.same_roots;
           };
         }
 
--- What is left, counted in lines.
-abbrev pub left : List ℕ → Next → ℕ
-left s (From c) = length s + 2 - c.line
-left s (NextEnded v) = 0
+    at-most-one : (k : Entry) → count_after now.count k ≤ now.count + 1
+    at-most-one (Ok u) = omega arith
+    at-most-one (Err r) = omega arith
 
-pub nearer : {names : List Name} {s : List ℕ} {n : Next} {p : LabelLine} {e : Entry} {r : Next} → ReadsOn names s n (AtLabel p) → GoesOn s p e r → left s r < left s n
-nearer {names} {s} {n} {p} {e} {r} a g = go n a.after r g.follows
-  where
-    go : (n : Next) → After n (AtLabel p) → (r : Next) → Follows p e r → left s r < left s n
-    go (From c) h (From d) k = omega (arith, a.sound.line_fits, h, k.0)
-    go (From c) h (NextEnded v) k = omega (arith, a.sound.line_fits, h)
-    go (NextEnded v) h r k = absurd h
+    -- It has ended,
+    pub walking_ended : {v : Verdict} → n ≡ NextEnded v → Walks names old next v
+    walking_ended k = walks (rw k at goes)
 
--- It has ended.
-pub walking-ends : {names : List Name} {old now : Labels} {v : Verdict} → Stopping names old now (PassEnded v) → Walks names old now v
-walking-ends w = record { labels = w.labels; ends = w.stands; counted = w.counted; holds = w.holds; linked = w.linked; lent = w.lent }
+    -- or it reads on from a line after that of the label.
+    module _ {c : Cursor} (k : n ≡ From c) where
+      next-line : NextLine old.source.now 0 p.line (From c)
+      next-line = subst (NextLine old.source.now 0 p.line) (sym g ∙ k) (goes-line w.sound e)
+
+      pub walking_on : Walking names old next c
+      walking_on = record { entered = rw k at goes; sound = next-line.0; few = omega (arith, more, at-most-one e, w.few, next-line.1) }
+
+      -- Fewer lines are left than from the cursor on from which the label was reached.
+      pub nearer : {d : Cursor} → ReadsOn names old.source.now d (AtLabel p) → left old.source.now c < left old.source.now d
+      nearer r = omega (arith, w.sound.line_fits, r.after, next-line.1)
+
+-- ---- what its end comes to
 
 module _ {names : List Name} {old new : Labels} {v : Verdict} (w : Walks names old new v) where
   -- What `finish` asks for.

@@ -6,7 +6,7 @@ ghost use Rattle.image_assembler.specs.Promised.{Finishable, Finishes, Starts, W
 
 use image::config::Config;
 use image_labels::label::{Label, Labels};
-use image_passes::first_pass::{Pass, Verdict};
+use image_passes::first_pass::{Next, Pass, Verdict};
 use refusal::refusal::Refusal;
 
 // What a source has been assembled to. The labels are those that have been entered into the table.
@@ -71,15 +71,18 @@ fn walk(labels: &mut Labels) -> Verdict
     ensures { Walks present labels.old labels.new result }
 {
     let source = labels.source;
-    let mut next = image_passes::first_pass::begin(source);
+    let mut cursor = image_passes::first_pass::begin(source)?;
     // each turn decides what is next, so there is nothing to walk over
     loop {
-        match image_passes::first_pass::read_on(source, next) {
+        match image_passes::first_pass::read_on(source, cursor) {
+            Pass::Ended(verdict) => return verdict,
             Pass::AtLabel(at) => {
                 let entered = labels.enter(at.label);
-                next = image_passes::first_pass::go_on(source, at, entered);
+                match image_passes::first_pass::go_on(source, at, entered) {
+                    Next::Ended(verdict) => return verdict,
+                    Next::From(next) => cursor = next,
+                }
             }
-            Pass::Ended(verdict) => return verdict,
         }
     }
 }

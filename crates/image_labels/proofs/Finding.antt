@@ -27,11 +27,11 @@ use Rattle.image_labels.specs.declared.tree.Stage.{Stage}
 use Rattle.image_labels.specs.declared.tree.Stage.TheVariants.{At, Known, Missing}
 use Rattle.image_labels.specs.declared.tree.Search.{Search}
 use Rattle.image_labels.specs.declared.label.Gap.{Gap}
-use Rattle.image_labels.specs.Promised.{InText, spelled, no_label, any_named, index_of, room_for, Enters}
+use Rattle.image_labels.specs.Promised.{InText, spelled, no_label, any_named, index_of, address_at, room_for, Enters}
 use Rattle.image_labels.specs.Tree.{plain, unlinked, place_before, child_number, link_number, link, child_bits, linked, hash_of, first_path, advanced, branch_of, key_of, hits, slot_of, root_of, with_root, span, first_stage, begun, sought, visited, gap_of, found_of, Finds, here, there, Tree, TreeAfter, Enterable, addressed, with_parent, joined, rooted_in, Gaps, Finding, Visitable}
 use Rattle.image_labels.proofs.Hashing.{slot-inside, parity, child-number-odd, child-bits-odd, child-number-even, child-bits-even, link-low, linked-low, link-high, linked-high, visited-hit, visited_on}
 use Rattle.image_labels.proofs.Roots.{with-root-empty, with-root-same, with-root-long, with-root-new, with-root-kept, with-root-rooted}
-use Rattle.image_labels.proofs.Named.{spelled-long, index_at, index-none, index-names, any-index, enters-known, enters-new, enters-full, has-room, no-room}
+use Rattle.image_labels.proofs.Named.{spelled-long, index_at, index-none, index-names, any-index, address-in, address-index, enters-known, enters-new, enters-full, has-room, no-room}
 
 -- ---- entries
 
@@ -241,6 +241,28 @@ pub record Seeking (s : List ℕ) (t : List Label) (roots : List ℕ) (n : ℕ) 
   pub count-is : q.count ≡ n
   pub stands : StageIs s t roots n l q q.stage
 
+module _ (s : List ℕ) (t : List Label) (n : ℕ) where
+  -- What the labels are spelled like.
+  named-at : (i : ℕ) → i < n → spelled s (get_or (take n (unlinked n t)) i no_label) ≡ spelled s (plain (get_or t i no_label))
+  named-at i h = ap (spelled s) (get_or-take n (unlinked n t) i no_label h ∙ unlinked-at n t i h)
+
+  -- The address of a spelling is that of the first label that has it.
+  address-of-first : (u : List ℕ) (i : ℕ) → i < n → index_of s (take n (unlinked n t)) u ≡ some i → address_at s (take n (unlinked n t)) u ≡ some (plain (get_or t i no_label)).address
+  address-of-first u i h e =
+      address-index s u (take n (unlinked n t)) ∙ ap (address-in (take n (unlinked n t))) e
+      ∙ ap (λ (l : Label). some l.address) (get_or-take n (unlinked n t) i no_label h ∙ unlinked-at n t i h)
+
+  -- In trees the first label that has a spelling is the only one,
+  module _ (roots : List ℕ) (tree : Tree s t roots n) (u : List ℕ) (i : ℕ) (h : i < n) (e : spelled s (plain (get_or t i no_label)) ≡ u) where
+    pub index-only : index_of s (take n (unlinked n t)) u ≡ some i
+    index-only =
+        index_at s u (take n (unlinked n t)) i (omega (arith, length-take n (unlinked n t), unlinked-long n t, tree.in_table, h)) (named-at i h ∙ e)
+        (λ j d f. let less : j < n = omega (arith, h) in let same = tree.distinct j i less h (sym (named-at j less) ∙ f ∙ sym e) in omega arith)
+
+    -- so that each label is found by its spelling, with its own address.
+    pub address-only : address_at s (take n (unlinked n t)) u ≡ some (plain (get_or t i no_label)).address
+    address-only = address-of-first u i h index-only
+
 -- The entry of a label of a spelling.
 unfoldable entry_for : List ℕ → Label → Label
 entry_for u l = record { start = l.start; length = key_of u; address = l.address }
@@ -360,16 +382,9 @@ module _ (s : List ℕ) (t : List Label) (roots : List ℕ) (n : ℕ) (l : Label
 
   -- ---- what it comes to
 
-  -- What the labels are spelled like.
-  named-at : (i : ℕ) → i < n → spelled s (get_or (take n (unlinked n t)) i no_label) ≡ spelled s (plain (get_or t i no_label))
-  named-at i h = ap (spelled s) (get_or-take n (unlinked n t) i no_label h ∙ unlinked-at n t i h)
-
   -- If the label was found, it is the one that is spelled so,
   index-there : (i : ℕ) → (i < n) × (hit s u t i ≡ true) → index_of s (take n (unlinked n t)) u ≡ some i
-  index-there i x =
-      let e : spelled s (plain (get_or t i no_label)) ≡ u = hit-named s u t i x.1 in
-      index_at s u (take n (unlinked n t)) i (omega (arith, length-take n (unlinked n t), unlinked-long n t, tree.in_table, x.0)) (named-at i x.0 ∙ e)
-      (λ j d f. let less : j < n = omega (arith, x.0) in let same = tree.distinct j i less x.0 (sym (named-at j less) ∙ f ∙ sym e) in omega arith)
+  index-there i x = index-only s t n roots tree u i x.0 (hit-named s u t i x.1)
 
   not_found : {p : Maybe Parent} → Lost s t roots n u p → Finds s t n u root (first_path u) → ⊥
   not_found (none_there f) x = not-nowhere s u t root n x f
@@ -488,7 +503,7 @@ module _ (s : List ℕ) (t : List Label) (roots : List ℕ) (n : ℕ) (l : Label
     none-there-yet i less g = not_found lost (subst (λ (w : List ℕ). Finds s t n w (root_of roots w) (first_path w)) g (tree.found i less))
 
     index-missing : index_of s (take n (unlinked n t)) u ≡ none
-    index-missing = index-none s u (take n (unlinked n t)) (λ i h f. let less : i < n = omega (arith, length-take n (unlinked n t)) in none-there-yet i less (sym (named-at i less) ∙ f))
+    index-missing = index-none s u (take n (unlinked n t)) (λ i h f. let less : i < n = omega (arith, length-take n (unlinked n t)) in none-there-yet i less (sym (named-at s t n i less) ∙ f))
 
     abbrev t' : List Label
     t' = table-with p
@@ -583,6 +598,18 @@ found-there {s} {t} {roots} {n} {start} {long} {i} x =
     let h = index-names s (spelled s (span start long)) (take n (unlinked n t)) i (sym x.index_is) in
     let less : i < n = omega (arith, length-take n (unlinked n t), h.0) in
     (less, ap (spelled s) (sym (get_or-take n (unlinked n t) i no_label less ∙ unlinked-at n t i less)) ∙ h.1)
+
+-- What is found has the address of the spelling,
+pub address-there : {s : List ℕ} {t : List Label} {roots : List ℕ} {n start long i : ℕ} → Finding s t roots n start long (Ok i)
+    → address_at s (take n (unlinked n t)) (spelled s (span start long)) ≡ some (plain (get_or t i no_label)).address
+address-there {s} {t} {roots} {n} {start} {long} {i} x =
+    address-of-first s t n (spelled s (span start long)) i (found-there x).0 (sym x.index_is)
+
+-- and there is none where nothing is found.
+pub address-missing : {s : List ℕ} {t : List Label} {roots : List ℕ} {n start long : ℕ} {g : Gap} → Finding s t roots n start long (Err g)
+    → address_at s (take n (unlinked n t)) (spelled s (span start long)) ≡ none
+address-missing {s} {t} {roots} {n} {start} {long} x =
+    address-index s (spelled s (span start long)) (take n (unlinked n t)) ∙ ap (address-in (take n (unlinked n t))) (sym x.index_is)
 
 -- ---- a label is entered
 

@@ -1,20 +1,22 @@
--- Whether some labels have a spelling, and entering a label behind them.
+-- Whether some labels have a spelling, the address of the one that has it, and entering a label behind them.
 use Prim.Native.Nat.{ℕ, zero, suc, ◌+◌, ◌-◌, ◌<◌}
 use Rattle.std.specs.Prelude.{⊤, Result, Ok, Err}
 use mathlib.Core.Path.{◌≡◌, refl, sym, ap, subst, ◌∙◌}
 use mathlib.Core.Option.{Option, none, some}
 use native.Mathlib.Omega.{arith}
 use mathlib.Core.Bool.{true, false}
-use mathlib.Core.List.{List, [], ◌∷◌}
+use mathlib.Core.List.{List, [], ◌∷◌, map}
 use lib.Dec.{ltb}
 use lib.ListN.{length, take, drop, get_or, set, length-take, length-drop}
-use Rattle.text_lexical.specs.Bytes.{same, is_some}
+use Rattle.text_lexical.specs.Bytes.{same, find, is_some}
 use Rattle.text_lexical.proofs.Tests.{by-test}
 use Rattle.text_lexical.proofs.Strings.{same-eq, eq-same}
 use Rattle.refusal.specs.declared.refusal.Refusal.{Refusal}
 use Rattle.refusal.specs.declared.refusal.Refusal.TheVariants.{DuplicateLabel, TableFull}
 use Rattle.image_labels.specs.declared.label.Label.{Label}
-use Rattle.image_labels.specs.Promised.{InText, spelled, no_label, any_named, index_of, entry_fault, room_for, Enters}
+use Rattle.image.specs.Assembling.{address_of}
+use Rattle.image.specs.Assembling.{Label as Meant}
+use Rattle.image_labels.specs.Promised.{entry_of, InText, spelled, no_label, any_named, index_of, address_at, entry_fault, room_for, Enters, Spelled}
 
 -- A part with a computed end.
 pub part-is : (s : List ℕ) (a n : ℕ) → take (a + n - a) (drop a s) ≡ take n (drop a s)
@@ -23,6 +25,15 @@ part-is s a n = let e : a + n - a ≡ n = omega arith in ap (λ (m : ℕ). take 
 -- A spelling is as long as its label says.
 pub spelled-long : (s : List ℕ) (l : Label) → InText s l → length (spelled s l) ≡ l.length
 spelled-long s l h = length-take l.length (drop l.start s) ∙ omega (arith, length-drop l.start s, h)
+
+-- The address of the label at an index, if there is one.
+abbrev pub address-in : List Label → Option ℕ → Option ℕ
+address-in ls none = none
+address-in ls (some i) = some (get_or ls i no_label).address
+
+address-later : (l : Label) (ls : List Label) (x : Option ℕ) → address-in ls x ≡ address-in (l ∷ ls) (elim x [ none ↦ none | some i ↦ some (suc i) ])
+address-later l ls none = refl
+address-later l ls (some i) = refl
 
 module _ (s u : List ℕ) where
   -- One of them has it,
@@ -85,6 +96,22 @@ module _ (s u : List ℕ) where
   unfolding index_of any_named is_some
   any-index [] = refl
   any-index (l ∷ ls) = by-test (same (spelled s l) u) (λ y. rw (any_named, index_of, y)) (λ n. rw (any_named, index_of, n) (any-index ls ∙ some-later (index_of s ls u)))
+
+  -- The address is that of the label at the index.
+  pub address-index : (ls : List Label) → address_at s ls u ≡ address-in ls (index_of s ls u)
+  unfolding index_of address_at
+  address-index [] = refl
+  address-index (l ∷ ls) =
+      by-test (same (spelled s l) u) (λ y. rw (address_at, index_of, y)) (λ n. rw (address_at, index_of, n) (address-index ls ∙ address-later l ls (index_of s ls u)))
+
+  -- Among the entries of labels, it is that of the label that is spelled so.
+  pub address-is : (ls : List Meant) → Spelled s ls → address_at s (map entry_of ls) u ≡ address_of ls u
+  unfolding address_at address_of find
+  address-is [] h = refl
+  address-is (l ∷ ls) h =
+      by-test (same l.spelling u)
+      (λ e. rw (address_at, address_of, find, h.0, e))
+      (λ e. rw (address_at, address_of, find, h.0, e) (address-is ls h.2))
 
 module _ (s : List ℕ) (table : List Label) (count : ℕ) (l : Label) where
   pub enters-known : any_named s (take count table) (spelled s l) ≡ true → Enters s table count l table (Err DuplicateLabel)

@@ -1,5 +1,6 @@
 -- What a lent label table holds, and what its functions promise. Quotations are document 01's.
-use Rattle.std.specs.Prelude.{ℕ, suc, ◌+◌, ◌≤◌, ◌≡◌, Bool, true, false, List, [], ◌∷◌, length, take, drop, set, ltb, ⊤, Result, Ok, Err}
+use Rattle.std.specs.Prelude.{ℕ, suc, ◌+◌, ◌≤◌, ◌≡◌, Bool, true, false, List, [], ◌∷◌, length, take, drop, set, ltb, ⊤, Result, Ok, Err, Some, None}
+use Rattle.std.specs.Prelude.{Option as Maybe}
 use Rattle.std.proofs.Math.Option.{Option, none, some}
 use Rattle.text_lexical.specs.Bytes.{same}
 use Rattle.refusal.specs.Refusals.{fault_of}
@@ -33,6 +34,16 @@ any_named s (l ∷ ls) u = elim (same (spelled s l) u) [ true ↦ true | false �
 unfoldable pub index_of : List ℕ → List Label → List ℕ → Option ℕ
 index_of s [] u = none
 index_of s (l ∷ ls) u = elim (same (spelled s l) u) [ true ↦ some 0 | false ↦ elim (index_of s ls u) [ none ↦ none | some i ↦ some (suc i) ] ]
+
+-- The address of the label that has a spelling, if one does: of the first that does.
+unfoldable pub address_at : List ℕ → List Label → List ℕ → Option ℕ
+address_at s [] u = none
+address_at s (l ∷ ls) u = elim (same (spelled s l) u) [ true ↦ some l.address | false ↦ address_at s ls u ]
+
+-- What an address that is answered means, or none.
+abbrev pub address_meant : Maybe ℕ → Option ℕ
+address_meant (Some a) = some a
+address_meant None = none
 
 -- "4 duplicate label; 5 new label, table full"
 unfoldable pub entry_fault : Bool → Bool → Option ℕ

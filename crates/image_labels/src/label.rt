@@ -1,6 +1,6 @@
 // Labels are entered from the front of a lent slice and found by their spelling.
-ghost use Rattle.std.specs.Prelude.{◌≡◌, ◌≤◌, length, set};
-ghost use Rattle.image_labels.specs.Promised.{room_for, count_after, Enters};
+ghost use Rattle.std.specs.Prelude.{◌≡◌, ◌≤◌, length, set, take};
+ghost use Rattle.image_labels.specs.Promised.{spelled, address_at, address_meant, room_for, count_after, Enters};
 ghost use Rattle.image_labels.specs.Tree.{unlinked, span, Tree, Linked, TreeAfter, Enterable, Finding, SameLent};
 
 use crate::tree::{Parent, Stage};
@@ -8,7 +8,7 @@ use refusal::refusal::Refusal;
 
 // Where a label's spelling stands in the source, two numbers as document 01 names that form and as C has it, and its address.
 #[repr(C)]
-#[derive(Clone, Copy, PartialEq, Eq)]
+#[derive(Clone, Copy, PartialEq)]
 pub struct Label {
     pub start: usize,
     pub length: usize,
@@ -58,7 +58,8 @@ pub struct Labels<'a> {
 }
 
 impl Labels<'_> {
-    // The index of the label that is spelled as a part of the source, or where it would be entered.
+    // The index of the label that is spelled as a part of the source, or where it would be entered: the thin find that document 01 names, and
+    // therefore public, though only the methods below ask it.
     pub fn find(&self, start: usize, length: usize) -> Result<usize, Gap>
         requires tree { Linked self.now }
         requires enterable { Enterable self.now.source.now self.now.count (span start «length») }
@@ -72,6 +73,18 @@ impl Labels<'_> {
             start,
             length,
         )
+    }
+
+    // The address of the label that is spelled as a part of the source, if it has been entered.
+    pub fn address_of(&self, start: usize, length: usize) -> Option<u64>
+        requires tree { Linked self.now }
+        requires enterable { Enterable self.now.source.now self.now.count (span start «length») }
+        ensures { address_meant result ≡ address_at self.now.source.now (take self.now.count (unlinked self.now.count self.now.table.now)) (spelled self.now.source.now (span start «length»)) }
+    {
+        let Ok(place) = self.find(start, length) else {
+            return None;
+        };
+        Some(crate::tree::plain(self.table[place]).address)
     }
 
     // Enters a label. It is refused as a duplicate or for want of room, and then leaves everything as it was.

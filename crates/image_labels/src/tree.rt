@@ -352,13 +352,15 @@ pub(crate) fn visit(source: &[u8], search: Search, at: usize, entry: Label) -> S
     }
 }
 
-// What a search that has ended comes to.
+// What a search that has ended comes to. The entry of a gap has the address 0 until `addressed` gives it one, since who finds a gap does not
+// know the address: an `Option` in its place, or a type of an entry without one, would be for this step alone.
 #[tactic(auto, unfolding(crate::specs::Tree::found_of))]
 pub(crate) fn found(search: Search) -> Result<usize, Gap>
     ensures { result ≡ found_of search }
 {
     let parent = match search.stage {
         Stage::Known(at) => return Ok(at),
+        // It is asked of no search that is still to visit an entry.
         Stage::At(_) => None,
         Stage::Missing(parent) => parent,
     };

@@ -19,7 +19,7 @@ use Rattle.text_lexical.proofs.Strings.{every-mono, every-run, take-run, run-yes
 use Rattle.text.specs.Tokens.{Token, register, is_identifier, is_register, comma, colon, opening, closing, mark_token, infront, tokens}
 use Rattle.text.specs.NameSets.{Naming}
 use Rattle.text.specs.Places.{left_at, end_at}
-use Rattle.text.specs.Promised.{meant, spelling, number_at, ending_at, scan_at}
+use Rattle.text.specs.Promised.{meant, spelling, mark_kind, number_at, ending_at, scan_at}
 use Rattle.text.specs.declared.lexer.Token.{Token as KeptToken}
 use Rattle.text.specs.declared.lexer.Kind.TheVariants.{Register as RegisterKind, Comma, Colon, LParen, RParen}
 use Rattle.text.specs.declared.lexer.Scan.TheVariants.{Found}
@@ -104,19 +104,19 @@ number-reads names ok s from at q n e =
 -- ---- marks
 
 pub colon-reads : (names : List Name) (ok : Naming names) (s : List ℕ) (at : ℕ) → at < length s → get_or s at 0 ≡ 58 → Reads names s at colon (at + 1)
-unfolding mark mark_token
-colon-reads names ok s at l b = stepped-reads names ok s at _ (at + 1) (mark-step names ok s at Colon colon l (rw b) (rw b) (λ u. refl) (λ u. refl))
+unfolding mark_kind mark mark_token
+colon-reads names ok s at l b = stepped-reads names ok s at _ (at + 1) (mark-step names ok s at Colon l (rw b refl))
 
 -- The mark that follows an operand is one of three.
 module _ (names : List Name) (ok : Naming names) (s : List ℕ) (from at : ℕ) (q : at ≡ from + run blank (drop from s)) (l : at < length s) where
   place-reads : (m : Separator) → get_or s at 0 ≡ separator_byte m → (k : Token) × (mark_byte k ≡ separator_byte m) × Reads names s from k (at + 1)
-  unfolding mark mark_token mark_byte
+  unfolding mark_kind mark mark_token mark_byte
   place-reads a-comma b =
-      (comma, refl, stepped-reads names ok s from _ (at + 1) (blank_step names s from at _ q (mark-step names ok s at Comma comma l (rw b) (rw b) (λ u. refl) (λ u. refl))))
+      (comma, refl, stepped-reads names ok s from _ (at + 1) (blank_step names s from at _ q (mark-step names ok s at Comma l (rw b refl))))
   place-reads an-opening b =
-      (opening, refl, stepped-reads names ok s from _ (at + 1) (blank_step names s from at _ q (mark-step names ok s at LParen opening l (rw b) (rw b) (λ u. refl) (λ u. refl))))
+      (opening, refl, stepped-reads names ok s from _ (at + 1) (blank_step names s from at _ q (mark-step names ok s at LParen l (rw b refl))))
   place-reads a-closing b =
-      (closing, refl, stepped-reads names ok s from _ (at + 1) (blank_step names s from at _ q (mark-step names ok s at RParen closing l (rw b) (rw b) (λ u. refl) (λ u. refl))))
+      (closing, refl, stepped-reads names ok s from _ (at + 1) (blank_step names s from at _ q (mark-step names ok s at RParen l (rw b refl))))
 
   pub mark-reads : (m : Mark) → Separates m → get_or s at 0 ≡ m.byte → (k : Token) × (mark_byte k ≡ m.byte) × Reads names s from k (at + 1)
   mark-reads m (k, e) b = rw e (place-reads k (rw e at b))

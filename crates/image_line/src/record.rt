@@ -67,7 +67,7 @@ fn read_instruction(source: &[u8], line: &Line, at: usize) -> Result<Effect, Ref
     requires place_in_range { at ≤ 2 }
     ensures { EffectIs result (coding (read_instruction (behind at (record_meant source.now line.now)))) }
 {
-    let parsed = instruction_operands::assembler::parse_instruction(source, *line, at)?;
+    let parsed = instruction_operands::assembler::parse_instruction(source, line, at)?;
     Ok(Effect::Codes {
         mnemonic: parsed.mnemonic,
         operands: parsed.operands,
@@ -80,7 +80,7 @@ fn read_config(source: &[u8], line: &Line, config: Config) -> Result<Effect, Ref
     requires { Recorded source.now line.now }
     ensures { EffectIs result (setting (configured (settings_meant config) (record_meant source.now line.now))) }
 {
-    let changed = image::config::parse_config(source, *line, config)?;
+    let changed = image::config::parse_config(source, line, config)?;
     Ok(Effect::Sets(changed))
 }
 

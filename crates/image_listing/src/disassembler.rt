@@ -101,6 +101,7 @@ pub fn list(image: &[u8], text: &mut [u8]) -> Result<usize, ListError>
         return Err(ListError::TooShort(needed));
     }
     let mut writer = Writer { out: text, at: 0 };
+    // No word is refused now: each has been measured.
     put_text(&mut writer, config, code)?;
     Ok(needed)
 }

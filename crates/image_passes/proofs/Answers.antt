@@ -9,7 +9,7 @@ use lib.ListN.{length, take, length-map, length-append}
 use lib.Seq.{take_all}
 use lib.Dec.{leb}
 use borrow.Author.Tests.{le-leb, lt-leb}
-use Rattle.std.specs.Prelude.{Ok, Err}
+use Rattle.std.specs.Prelude.{Result, Ok, Err}
 use Rattle.refusal.specs.declared.refusal.Refusal.TheVariants.{NotAscii}
 use Rattle.text_lexical.specs.Bytes.{ascii, every, run, before}
 use Rattle.text_lexical.specs.Numbers.{little}
@@ -28,14 +28,14 @@ use Rattle.image.specs.Program.{header_bytes, header_for, header_size, image, im
 use Rattle.image.specs.Assembling.{Label, State, start, Step, next, stop, read_on, entering, doing, step, context_of, Walk, finished, stopped, walk, Refusal, Assembled, accepted, rejected, refusing, read_to, most_bytes, reading}
 use Rattle.image.specs.Meaning.{instructions_of, settings_of, image_of}
 use Rattle.image.specs.Promised.{settings_meant, config_for}
-use Rattle.image_passes.specs.Promised.{all_read, code_bytes, refused_at, first_line, begun, Begins, Accepts, Ready, Fills}
+use Rattle.image_passes.specs.Promised.{all_read, code_bytes, refused_at, first_line, begun, WalkEnds, Accepts, Ready, Fills}
 use Rattle.image.specs.declared.config.Config.{Config}
-use Rattle.image_passes.specs.declared.first_pass.Next.{Next}
-use Rattle.image_passes.specs.declared.first_pass.Next.TheVariants.{From, Ended as NextEnded}
+use Rattle.image_passes.specs.declared.first_pass.Cursor.{Cursor}
+use Rattle.image_passes.specs.declared.first_pass.Stopped.{Stopped}
 use Rattle.image.proofs.Images.{code-length, header-length}
 use Rattle.image.proofs.Walking.{MeansIf, reading-means}
 use Rattle.image.proofs.Over.{written_over}
-use Rattle.image_passes.proofs.Reaching.{whole, Resumes}
+use Rattle.image_passes.proofs.Reaching.{whole, ReachedFrom}
 
 -- ---- a finished walk has read every line
 
@@ -110,29 +110,29 @@ module _ (s : List ℕ) where
   all_ascii : length s ≤ run ascii s → every ascii s ≡ true
   all_ascii clean = ap (every ascii) (sym (sym (take-run ascii s) ∙ take_all (run ascii s) s clean)) ∙ every-run ascii s
 
--- What the walk begins with.
-module _ {s : List ℕ} (short : length s ≤ most_bytes) where
-  pub begins-high : {line : ℕ} → run ascii s < length s → line ≡ length (lines (take (run ascii s) s)) → Begins s (NextEnded (refused_at NotAscii 0 line))
+  -- What the walk begins with.
+  pub begins-high : {line : ℕ} → run ascii s < length s → line ≡ length (lines (take (run ascii s) s)) → Err (refused_at NotAscii 0 line) ≡ begun s
   unfolding begun
-  begins-high h e = record { answer = rw (begun, not-every s h, e, take-run ascii s); sound = tt }
+  begins-high h e = rw (begun, not-every h, e, take-run ascii s)
 
-  pub begins-first : (c : Config) → settings_meant c ≡ begin → length s ≤ run ascii s → Begins s (From (record { at = 0; line = 1; words = 0; config = c }))
+  pub begins-first : (c : Config) → settings_meant c ≡ begin → length s ≤ run ascii s → Ok (record { at = 0; line = 1; words = 0; config = c }) ≡ begun s
   unfolding begun settings
   begins-first c e clean =
-      record {
-        answer = ap (λ (x : Settings). From (record { at = 0; line = 1; words = 0; config = config_for x })) e ∙ rw (begun, all_ascii s clean);
-        sound = record { short = short; in_text = omega arith; few_lines = omega arith; few_words = omega arith };
-      }
+      ap (λ (x : Settings). Ok (record { at = 0; line = 1; words = 0; config = config_for x })) e ∙ rw (begun, all_ascii clean)
 
-  -- It is what document 01's walk begins with.
-  pub begins-stand : (names : List Name) {n : Next} → Begins s n → (room : ℕ) → Resumes names s room [] n
-  unfolding begun reading start settings
-  begins-stand names b room = rw b.answer (go (every ascii s) refl)
-    where
-      go : (v : Bool) → every ascii s ≡ v → Resumes names s room [] (elim v [ true ↦ From first_line | false ↦ NextEnded (refused_at NotAscii 0 (length (lines (before ascii s)))) ])
-      go true e =
-          record { clean = rw (reading, le-leb (length s) most_bytes short, e); state = start; on = refl; labels_are = refl; words_are = refl; setup_is = refl }
-      go false e = rw (reading, le-leb (length s) most_bytes short, e)
+-- What document 01's walk begins with.
+abbrev Begins : List Name → List ℕ → ℕ → Result Cursor Stopped → Type 0
+Begins names s room (Ok c) = (c ≡ first_line) × ReachedFrom names s room [] c
+Begins names s room (Err t) = WalkEnds names s room [] (Err t)
+
+pub begins-stand : (names : List Name) (s : List ℕ) → length s ≤ most_bytes → (room : ℕ) {b : Result Cursor Stopped} → b ≡ begun s → Begins names s room b
+unfolding begun reading start settings
+begins-stand names s short room e = rw e (go (every ascii s) refl)
+  where
+    go : (v : Bool) → every ascii s ≡ v → Begins names s room (elim v [ true ↦ Ok first_line | false ↦ Err (refused_at NotAscii 0 (length (lines (before ascii s)))) ])
+    go true e =
+        (refl, record { clean = rw (reading, le-leb (length s) most_bytes short, e); state = start; on = refl; labels_are = refl; words_are = refl; setup_is = refl })
+    go false e = rw (reading, le-leb (length s) most_bytes short, e)
 
 -- ---- the end
 

@@ -16,6 +16,7 @@ use Rattle.image_labels.specs.Promised.{spelled}
 use Rattle.image_passes.specs.Promised.{read_at, effect_at, Rest, rest_for, Entry, WalkEnds}
 use Rattle.image_passes.specs.declared.first_pass.Next.{Next}
 use Rattle.image_passes.specs.declared.first_pass.Next.TheVariants.{From, Ended as NextEnded}
+use Rattle.image_passes.specs.declared.first_pass.Cursor.{Cursor}
 use Rattle.image_passes.specs.declared.first_pass.Pass.{Pass}
 use Rattle.image_passes.specs.declared.first_pass.Pass.TheVariants.{AtLabel, Ended as PassEnded}
 use Rattle.image_passes.specs.declared.first_pass.LabelLine.{LabelLine}
@@ -57,9 +58,13 @@ abbrev pub Progress : List Name → List ℕ → ℕ → List Meant → Pass →
 Progress names s room labels (AtLabel p) = LabelNext names s room labels p
 Progress names s room labels (PassEnded v) = WalkEnds names s room labels v
 
+-- The line of a cursor has been reached.
+abbrev pub ReachedFrom : List Name → List ℕ → ℕ → List Meant → Cursor → Type 0
+ReachedFrom names s room labels c = Reached names s room c.line c.at labels c.words c.config
+
 -- What the first walk does next, with labels entered.
 abbrev pub Resumes : List Name → List ℕ → ℕ → List Meant → Next → Type 0
-Resumes names s room labels (From c) = Reached names s room c.line c.at labels c.words c.config
+Resumes names s room labels (From c) = ReachedFrom names s room labels c
 Resumes names s room labels (NextEnded v) = WalkEnds names s room labels v
 
 -- The labels after an attempt to enter one.

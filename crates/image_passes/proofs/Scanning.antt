@@ -30,7 +30,7 @@ use Rattle.image.specs.declared.config.Config.{Config}
 use Rattle.image_labels.specs.Promised.{spelled, entry_fault}
 use Rattle.image_line.specs.Promised.{context_for, effect_meant, label_meant, LineIs}
 use Rattle.image_line.specs.declared.line.Read.{Read}
-use Rattle.image_passes.specs.Promised.{read_at, effect_at, Rest, rest_for, Entry, Verdict, WalkEnds, line_refused, finished_with, label_pass, scanned, scanned_from, resumed, line_after, followed, RestFits, Sound, ScannableNext, Scannable, ReadsOn, Follows, GoesOn}
+use Rattle.image_passes.specs.Promised.{read_at, effect_at, Rest, rest_for, Entry, Verdict, WalkEnds, line_refused, finished_with, label_pass, scanned, scanned_from, line_after, followed, RestFits, Sound, Scannable, ReadsOn}
 use Rattle.image_passes.specs.declared.first_pass.Next.{Next}
 use Rattle.image_passes.specs.declared.first_pass.Next.TheVariants.{From, Ended as NextEnded}
 use Rattle.image_passes.specs.declared.first_pass.Cursor.{Cursor}
@@ -38,7 +38,7 @@ use Rattle.image_passes.specs.declared.first_pass.Pass.{Pass}
 use Rattle.image_passes.specs.declared.first_pass.Pass.TheVariants.{Ended as PassEnded}
 use Rattle.image_passes.specs.declared.first_pass.LabelLine.{LabelLine}
 use Rattle.image_passes.specs.declared.first_pass.Done.{Done}
-use Rattle.image_passes.proofs.Reaching.{comes_to, whole, Clean, Reached, LabelNext, Progress, Resumes, with_entry, label_at}
+use Rattle.image_passes.proofs.Reaching.{comes_to, whole, Clean, Reached, LabelNext, ReachedFrom, Progress, Resumes, with_entry, label_at}
 use Rattle.image_passes.proofs.Passes.{line-split}
 use Rattle.image_passes.proofs.Spelling.{label-part}
 use Rattle.image_passes.proofs.Steps.{grown, RestDone, line-is, rest_fits, comes-to}
@@ -241,13 +241,9 @@ module _ {names : List Name} (s : List ℕ) (ok : Naming names) (room : ℕ) (ls
       lines-stand line words c at inside q (λ words' c' b r. stands_from left (suc line) words' c' (suc (end_at s at)) (omega (arith, few)) (omega (arith, b)) r)
 
 -- Where the walk comes to as it reads on.
-pub reads-stand : {names : List Name} {s : List ℕ} {n : Next} {p : Pass} → Naming names → ReadsOn names s n p → ScannableNext s n → (room : ℕ) (ls : List Meant) → Resumes names s room ls n
+pub reads-stand : {names : List Name} {s : List ℕ} {c : Cursor} {p : Pass} → Naming names → ReadsOn names s c p → Scannable s c → (room : ℕ) (ls : List Meant) → ReachedFrom names s room ls c
     → Progress names s room ls p
-reads-stand {names} {s} {n} {p} ok r safe room ls h = rw r.answer (go n safe h)
-  where
-    go : (n : Next) → ScannableNext s n → Resumes names s room ls n → Progress names s room ls (resumed names s n)
-    go (NextEnded v) z k = k
-    go (From c) z k = stands_from s ok room ls (length s) c.line c.words c.config c.at (omega arith) z.in_text k
+reads-stand {names} {s} {c} {p} ok r safe room ls h = rw r.answer (stands_from s ok room ls (length s) c.line c.words c.config c.at (omega arith) safe.in_text h)
 
 -- ---- after a label
 
@@ -329,15 +325,17 @@ module _ {names : List Name} {s : List ℕ} {p : LabelLine} {room : ℕ} {ls : L
             (λ b. rw (line_after, le-ltb d.end (length s) b) (doing-last label-doing k b))
 
 -- What follows a label that has been entered, or refused, as document 01 has it.
-pub goes-stand : {names : List Name} {s : List ℕ} {p : LabelLine} {e : Entry} {n : Next} → GoesOn s p e n → (room : ℕ) (ls : List Meant) → LabelNext names s room ls p
-    → fault_of e ≡ entry_fault (is_known ls (spelled s p.label)) (ltb (length ls) room) → Resumes names s room (with_entry e ls (label_at s p)) n
-goes-stand {names} {s} {p} {e} {n} g room ls a k = rw g.answer (go e k)
-  where
-    go : (e : Entry) → fault_of e ≡ entry_fault (is_known ls (spelled s p.label)) (ltb (length ls) room) → Resumes names s room (with_entry e ls (label_at s p)) (followed s p e)
-    go (Ok u) k = label-on a k
-    go (Err r) k = label-refused a r k
+pub goes-stand : {names : List Name} {s : List ℕ} {p : LabelLine} (e : Entry) (room : ℕ) (ls : List Meant) → LabelNext names s room ls p
+    → fault_of e ≡ entry_fault (is_known ls (spelled s p.label)) (ltb (length ls) room) → Resumes names s room (with_entry e ls (label_at s p)) (followed s p e)
+goes-stand (Ok u) room ls a k = label-on a k
+goes-stand (Err r) room ls a k = label-refused a r k
 
 -- ---- the code's loop
+
+-- What reading on from what follows a line comes to; where the walk has ended it stays so.
+abbrev resumed : List Name → List ℕ → Next → Pass
+resumed names s (From c) = scanned_from names s c
+resumed names s (NextEnded v) = PassEnded v
 
 -- A line and those after it: a label, or what follows the line.
 module _ (names : List Name) (s : List ℕ) (c : Cursor) (inside : c.at ≤ length s) where
@@ -385,11 +383,11 @@ done-after names s at words c = go (comes_to names s at words c) refl
     go (Ok d) k = omega (arith, (rw k at (line-is names s at words c)).ends)
 
 -- What is read next is a line after this one, from where the walk may read on; or the walk has ended.
-abbrev Next-line : List ℕ → ℕ → ℕ → Next → Type 0
-Next-line s at line (From d) = Scannable s d × (line < d.line) × (at < d.at)
-Next-line s at line (NextEnded v) = Unit {0}
+abbrev pub NextLine : List ℕ → ℕ → ℕ → Next → Type 0
+NextLine s at line (From d) = Scannable s d × (line < d.line) × (at < d.at)
+NextLine s at line (NextEnded v) = Unit {0}
 
-next-line-after : (s : List ℕ) (at line : ℕ) → length s ≤ most_bytes → (x : Rest) → RestFits line x → EndsAfter at x → Next-line s at line (line_after (length s) line x)
+next-line-after : (s : List ℕ) (at line : ℕ) → length s ≤ most_bytes → (x : Rest) → RestFits line x → EndsAfter at x → NextLine s at line (line_after (length s) line x)
 unfolding line_after
 next-line-after s at line short (Err r) f a = tt
 next-line-after s at line short (Ok d) f a =
@@ -426,7 +424,7 @@ module _ {names : List Name} {s : List ℕ} {from c : Cursor} (w : Scanning name
     stands = z ∙ came
 
     -- A label.
-    pub scans_label : {n : ℕ} {q : Pass} → r.label ≡ Some n → q ≡ label_pass r.start n c.words c.line x → ReadsOn names s (From from) q
+    pub scans_label : {n : ℕ} {q : Pass} → r.label ≡ Some n → q ≡ label_pass r.start n c.words c.line x → ReadsOn names s from q
     scans_label {n} b e =
         let inside_text : r.start + n ≤ length s = rw b at h.in_text in
         let long : length (take n (drop r.start s)) ≡ n = length-take n (drop r.start s) ∙ omega (arith, length-drop r.start s, inside_text) in
@@ -451,15 +449,15 @@ module _ {names : List Name} {s : List ℕ} {from c : Cursor} (w : Scanning name
       follows-line : resumed names s n ≡ scanned_from names s from
       follows-line = ap (resumed names s) (e ∙ ap (line_after (length s) c.line) stands) ∙ sym (from-line names s c w.safe.in_text (label_is b)) ∙ w.same
 
-      pub scans_end : {v : Verdict} → n ≡ NextEnded v → ReadsOn names s (From from) (PassEnded v)
+      pub scans_end : {v : Verdict} → n ≡ NextEnded v → ReadsOn names s from (PassEnded v)
       scans_end k = record { answer = rw k at follows-line; sound = tt; after = tt }
 
       -- The next line is after this one.
-      next-after : {d : Cursor} → n ≡ From d → Next-line s c.at c.line (From d)
+      next-after : {d : Cursor} → n ≡ From d → NextLine s c.at c.line (From d)
       unfolding end_at
       next-after k =
           let z = next-line-after s c.at c.line w.safe.short x (rw z fits) ends-after in
-          subst (Next-line s c.at c.line) (sym e ∙ k) z
+          subst (NextLine s c.at c.line) (sym e ∙ k) z
         where
           ends-after : EndsAfter c.at x
           ends-after = rw stands (done-after names s c.at c.words c.config)
@@ -472,21 +470,11 @@ module _ {names : List Name} {s : List ℕ} {from c : Cursor} (w : Scanning name
 
 -- ---- going on
 
--- What follows the line of a label that is entered.
-pub goes_line : {s : List ℕ} {p : LabelLine} {n : Next} → Sound s p → n ≡ line_after (length s) p.line p.rest → GoesOn s p (Ok tt) n
-goes_line {s} {p} {n} d e = record { answer = e; sound = safe n on; follows = later n on }
+-- What follows a label that is entered, or refused: a line after its own, from where the walk may read on; or the walk has ended.
+pub goes-line : {s : List ℕ} {p : LabelLine} → Sound s p → (e : Entry) → NextLine s 0 p.line (followed s p e)
+goes-line {s} {p} d (Ok u) = next-line-after s 0 p.line d.short p.rest d.rest_fits (any p.rest)
   where
     any : (x : Rest) → EndsAfter 0 x
     any (Err r) = tt
     any (Ok d) = omega arith
-
-    on : Next-line s 0 p.line n
-    on = rw e (next-line-after s 0 p.line d.short p.rest d.rest_fits (any p.rest))
-
-    safe : (n : Next) → Next-line s 0 p.line n → ScannableNext s n
-    safe (From c) z = z.0
-    safe (NextEnded v) z = tt
-
-    later : (n : Next) → Next-line s 0 p.line n → Follows p (Ok tt) n
-    later (From c) z = (z.1, refl)
-    later (NextEnded v) z = tt
+goes-line d (Err r) = tt

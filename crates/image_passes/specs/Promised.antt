@@ -65,13 +65,13 @@ rest_for (faulty n) words c end = Err (refusal_at n)
 abbrev pub Verdict : Type 0
 Verdict = Result Finished Stopped
 
--- It ends with a refusal,
-abbrev pub refused_at : Refusal → ℕ → ℕ → Verdict
-refused_at r rust line = Err (record { refusal = r; rust_line = rust; line = line })
+-- A source is refused, with the Rust's line and the true line.
+abbrev pub refused_at : Refusal → ℕ → ℕ → Stopped
+refused_at r rust line = record { refusal = r; rust_line = rust; line = line }
 
--- that of a line,
+-- It ends with the refusal of a line,
 abbrev pub line_refused : Refusal → ℕ → Verdict
-line_refused r line = refused_at r (rust_line_of (number_of r) line) line
+line_refused r line = Err (refused_at r (rust_line_of (number_of r) line) line)
 
 -- or after the last line.
 abbrev pub finished_with : ℕ → Config → Verdict
@@ -97,18 +97,13 @@ scanned names line words c at (l ∷ ls) =
 abbrev pub scanned_from : List Name → List ℕ → Cursor → Pass
 scanned_from names s c = scanned names c.line c.words c.config c.at (lines (drop c.at s))
 
--- Where the walk comes to as it reads on; once it has ended it stays so.
-abbrev pub resumed : List Name → List ℕ → Next → Pass
-resumed names s (From c) = scanned_from names s c
-resumed names s (NextEnded v) = PassEnded v
-
 -- The first line, with the settings that a source begins with.
 abbrev pub first_line : Cursor
 first_line = record { at = 0; line = 1; words = 0; config = config_for begin }
 
 -- What the walk begins with: "2 a byte above 127 (added; true line of the first)", or the first line.
-unfoldable pub begun : List ℕ → Next
-begun s = elim (every ascii s) [ true ↦ From first_line | false ↦ NextEnded (refused_at NotAscii 0 (length (lines (before ascii s)))) ]
+unfoldable pub begun : List ℕ → Result Cursor Stopped
+begun s = elim (every ascii s) [ true ↦ Ok first_line | false ↦ Err (refused_at NotAscii 0 (length (lines (before ascii s)))) ]
 
 -- What follows a line that comes to something, in a source of so many bytes: its refusal, the end, or the next line.
 unfoldable pub line_after : ℕ → (line : ℕ) → Rest → Next
@@ -128,7 +123,7 @@ abbrev pub followed : List ℕ → LabelLine → Entry → Next
 followed s p (Ok _) = line_after (length s) p.line p.rest
 followed s p (Err r) = NextEnded (line_refused r p.line)
 
--- ---- what the functions of the first walk promise: an equation with the definitions above, and what their callers need to call on
+-- ---- what the functions of the first walk require, and what reading on promises
 
 -- A line but the last takes a byte at least, and there are no more words than may be.
 abbrev pub RestFits : ℕ → Rest → Type 0
@@ -154,38 +149,16 @@ pub record Scannable (s : List ℕ) (c : Cursor) : Type 0 where
   pub few_lines : c.line ≤ c.at + 1
   pub few_words : c.words ≤ 32768
 
-abbrev pub ScannableNext : List ℕ → Next → Type 0
-ScannableNext s (From c) = Scannable s c
-ScannableNext s (NextEnded v) = Unit {0}
-
--- A label is reached from a line before it, or its own; none is reached from the end.
-abbrev pub After : Next → Pass → Type 0
-After (From c) (AtLabel p) = c.line ≤ p.line
-After (From c) (PassEnded v) = Unit {0}
-After (NextEnded v) (AtLabel p) = ⊥
-After (NextEnded v) (PassEnded v') = Unit {0}
+-- A label is reached from a line before it, or its own.
+abbrev pub After : Cursor → Pass → Type 0
+After c (AtLabel p) = c.line ≤ p.line
+After c (PassEnded v) = Unit {0}
 
 -- The walk reads on: to the next label, or to its end.
-pub record ReadsOn (names : List Name) (s : List ℕ) (n : Next) (p : Pass) : Type 0 where
-  pub answer : p ≡ resumed names s n
+pub record ReadsOn (names : List Name) (s : List ℕ) (c : Cursor) (p : Pass) : Type 0 where
+  pub answer : p ≡ scanned_from names s c
   pub sound : SoundPass s p
-  pub after : After n p
-
--- The walk from the first line on.
-pub record Begins (s : List ℕ) (n : Next) : Type 0 where
-  pub answer : n ≡ begun s
-  pub sound : ScannableNext s n
-
--- A line that is read next is after that of the label, which has been entered.
-abbrev pub Follows : LabelLine → Entry → Next → Type 0
-Follows p e (From c) = (p.line < c.line) × (e ≡ Ok tt)
-Follows p e (NextEnded v) = Unit {0}
-
--- What follows a label that has been entered, or refused.
-pub record GoesOn (s : List ℕ) (p : LabelLine) (e : Entry) (n : Next) : Type 0 where
-  pub answer : n ≡ followed s p e
-  pub sound : ScannableNext s n
-  pub follows : Follows p e n
+  pub after : After c p
 
 -- ---- what the end of a walk that comes from the first line means
 

@@ -6,8 +6,7 @@ ghost use Rattle.text.specs.Lines.{lines};
 ghost use Rattle.image.specs.Assembling.{rust_line_of, most_bytes};
 ghost use Rattle.text_lexical.specs.Names.{present};
 ghost use Rattle.image_line.specs.Promised.{effect_meant};
-ghost use Rattle.image_passes.specs.Promised.{refused_at, line_refused, one_more, rest_for, label_pass, line_after, Sound, Scannable, ScannableNext, ReadsOn, Begins, GoesOn};
-ghost use Rattle.image_passes.specs.declared.first_pass.Next.TheVariants.{From};
+ghost use Rattle.image_passes.specs.Promised.{line_refused, one_more, rest_for, label_pass, line_after, begun, followed, Sound, Scannable, ReadsOn};
 
 use image::config::Config;
 use image::limits::{ENTRY, MOST_BYTES, MOST_WORDS, WORD_SIZE};
@@ -95,22 +94,15 @@ fn rust_line(refusal: Refusal, line: usize) -> usize
     }
 }
 
-// The walk ends with a refusal.
-fn refused_at(refusal: Refusal, rust_line: usize, line: usize) -> Verdict
-    ensures { result ≡ refused_at refusal rust_line line }
-{
-    Err(Stopped {
-        refusal,
-        rust_line,
-        line,
-    })
-}
-
 // The walk ends with the refusal of a line.
 fn line_refused(refusal: Refusal, line: usize) -> Verdict
     ensures { result ≡ line_refused refusal line }
 {
-    refused_at(refusal, rust_line(refusal, line), line)
+    Err(Stopped {
+        refusal,
+        rust_line: rust_line(refusal, line),
+        line,
+    })
 }
 
 // A line with an instruction, which is refused if it is the 32,769th.
@@ -180,11 +172,12 @@ fn after_line(size: usize, line: usize, rest: Result<Done, Refusal>) -> Next
     }
 }
 
-// Reads on from a line to the next label or the end.
+// Reads on from a line to the next label or the end. It has one caller, so that it is compiled in line there: with a `Pass` that is returned
+// through memory, each label takes half as much time again.
 #[tactic(auto, using(crate::proofs::Scanning::scans_end, crate::proofs::Scanning::scans_less))]
-fn scan(source: &[u8], from: Cursor) -> Pass
+pub fn read_on(source: &[u8], from: Cursor) -> Pass
     requires { Scannable source.now from }
-    ensures { ReadsOn present source.now (From from) result }
+    ensures { ReadsOn present source.now from result }
 {
     let mut cursor = from;
     // where a line ends is found by reading it, so there is no list of lines to walk
@@ -206,18 +199,6 @@ fn scan(source: &[u8], from: Cursor) -> Pass
     }
 }
 
-// Reads on to the next label or the end, unless the walk has ended. `scan` has no other caller, so that it is compiled in line: with a
-// `Pass` that is returned through memory, each label takes half as much time again.
-pub fn read_on(source: &[u8], next: Next) -> Pass
-    requires { ScannableNext source.now next }
-    ensures { ReadsOn present source.now next result }
-{
-    match next {
-        Next::Ended(verdict) => Pass::Ended(verdict),
-        Next::From(from) => scan(source, from),
-    }
-}
-
 // Whether a source is refused for its length (1). This is asked before anything else is done for it.
 #[tactic(auto, unfolding(image::specs::Assembling::most_bytes))]
 pub fn too_long(source: &[u8]) -> bool
@@ -227,16 +208,19 @@ pub fn too_long(source: &[u8]) -> bool
 }
 
 // The first line of a source, unless it is refused before any line (2).
-pub fn begin(source: &[u8]) -> Next
+pub fn begin(source: &[u8]) -> Result<Cursor, Stopped>
     requires { length source.now ≤ most_bytes }
-    ensures { Begins source.now result }
+    ensures { result ≡ begun source.now }
 {
     let clean = text_lexical::bytes::ascii_end(source, 0);
     if clean < source.len() {
-        let line = line_number(source, clean);
-        return Next::Ended(refused_at(Refusal::NotAscii, 0, line));
+        return Err(Stopped {
+            refusal: Refusal::NotAscii,
+            rust_line: 0,
+            line: line_number(source, clean),
+        });
     }
-    Next::From(Cursor {
+    Ok(Cursor {
         at: 0,
         line: 1,
         words: 0,
@@ -245,10 +229,10 @@ pub fn begin(source: &[u8]) -> Next
 }
 
 // What follows a label that has been entered, or refused: the label's refusal, that of its line, the next line or the end.
-#[tactic(auto, unfolding(image::specs::Assembling::most_bytes), using(crate::proofs::Scanning::goes_line))]
+#[tactic(auto, unfolding(image::specs::Assembling::most_bytes))]
 pub fn go_on(source: &[u8], at: LabelLine, entered: Result<(), Refusal>) -> Next
     requires { Sound source.now at }
-    ensures { GoesOn source.now at entered result }
+    ensures { result ≡ followed source.now at entered }
 {
     match entered {
         Err(refusal) => Next::Ended(line_refused(refusal, at.line)),

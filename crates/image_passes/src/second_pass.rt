@@ -7,7 +7,6 @@ ghost use Rattle.text_lexical.specs.Names.{present};
 ghost use Rattle.image_passes.specs.Promised.{Readable, code_bytes, Ready, Fills};
 
 use image::config::Config;
-use image::limits::WORD_SIZE;
 use image_line::line::Effect;
 use instruction::instruction::{Instruction, Operands};
 use instruction::opcode::Mnemonic;
@@ -69,7 +68,8 @@ pub fn write_image(
         return Err(TooShort { needed });
     }
     let mut writer = Writer { out: image, at: 0 };
-    image::program::put_header(&mut writer, config, (WORD_SIZE * words) as u32);
+    let code_size = image::program::code_size(words) as u32;
+    image::program::put_header(&mut writer, config, code_size);
     second_pass(source, &mut writer);
     Ok(())
 }

@@ -1,5 +1,5 @@
--- The operands of a form as the code describes them: a list of them, each with the mark that follows it. These definitions follow the
--- code; what a form's operands are is `places` of Table.
+-- The operands of a form as the code describes them: a list of them, each with the mark that follows it, and where they stand in a word. These
+-- definitions follow the code; what a form's operands are is `places` of Table.
 use Rattle.std.specs.Prelude.{ℕ, ◌≡◌, Bool, true, false, List, [], ◌∷◌, ◌++◌, Some, None}
 use Rattle.std.specs.Prelude.{Option as StdOption}
 use Rattle.refusal.specs.Refusals.{refusal_at}
@@ -9,6 +9,8 @@ use Rattle.instruction.specs.Operands.{separator_byte, separator_refusal}
 use Rattle.instruction.specs.declared.form.Operand.{Operand}
 use Rattle.instruction.specs.declared.form.Operand.TheVariants.{RegisterComma, NumberOpening, RegisterClosing, Register, Number}
 use Rattle.instruction.specs.declared.form.Mark.{Mark}
+use Rattle.instruction.specs.declared.form.Layout.{Layout}
+use Rattle.instruction.specs.declared.field.Field.{Field}
 
 -- The operands of each form, left to right.
 abbrev pub operand_list : Form → List Operand
@@ -38,6 +40,24 @@ mark_of NumberOpening = Some (mark_for an-opening)
 mark_of RegisterClosing = Some (mark_for a-closing)
 mark_of Register = None
 mark_of Number = None
+
+-- A field; and a layout, by the bits of the first two registers of a line and by the highest field.
+abbrev pub field : ℕ → ℕ → Bool → Field
+field bit width signed = record { bit = bit; width = width; signed = signed }
+
+abbrev pub layout : ℕ → ℕ → Field → Layout
+layout first second highest = record { first = first; second = second; highest = highest }
+
+-- Where the operands of each form stand in its word.
+abbrev pub layout_of : Form → Layout
+layout_of R = layout 7 11 (field 15 4 false)
+layout_of I = layout 7 11 (field 15 17 true)
+layout_of Shift = layout 7 11 (field 15 8 false)
+layout_of Load = layout 7 11 (field 15 17 true)
+layout_of Store = layout 11 7 (field 15 17 true)
+layout_of Branch = layout 7 11 (field 15 17 true)
+layout_of Jump = layout 7 11 (field 11 21 true)
+layout_of System = layout 7 11 (field 0 7 false)
 
 -- A place for a number, or for a register.
 pub data OperandPlace : Bool → Place → Type 0 where

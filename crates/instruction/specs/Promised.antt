@@ -1,5 +1,5 @@
 -- What the code's values mean in terms of the definitions, and what its functions promise.
-use Rattle.std.specs.Prelude.{ℕ, ◌≡◌, false, List, [], ◌∷◌, get_or, ℤ, Some, None}
+use Rattle.std.specs.Prelude.{ℕ, ◌≡◌, List, [], ◌∷◌, get_or, ℤ, Some, None}
 use Rattle.std.specs.Prelude.{Option as StdOption}
 use Rattle.std.proofs.Math.Option.{Option, none, some}
 use Rattle.text_lexical.specs.Bytes.{bytes, same, find}
@@ -7,6 +7,7 @@ use Rattle.text_lexical.specs.Promised.{index_of, register_at, whole_meant, whol
 use Rattle.text_lexical.specs.declared.register.Register.{Register}
 use Rattle.text_lexical.specs.declared.register.Register.TheVariants.{R0}
 use Rattle.text_lexical.specs.declared.number.Whole.{Whole}
+use Rattle.text_lexical.specs.declared.number.Whole.TheVariants.{NotNegative}
 use Rattle.instruction.specs.Table.{Place, reg, num, mark, Form, R, I, Shift, Load, Store, Branch, Jump, System, places, Row, row_named}
 use Rattle.instruction.specs.Operands.{Instruction as Meant, Operands as MeantOperands}
 use Rattle.instruction.specs.declared.instruction.Instruction.{Instruction}
@@ -114,7 +115,7 @@ found_meant None = none
 -- ---- instructions
 
 abbrev pub no_number_lem : Whole
-no_number_lem = record { negative = false; magnitude = 0 }
+no_number_lem = NotNegative 0
 
 abbrev pub operands : Register → Register → Register → Whole → Operands
 operands a b c n = record { first = a; second = b; third = c; number = n }

@@ -1,33 +1,71 @@
-// The fields of a word above its opcode: where they begin, and what they hold. Encoding and decoding take them from here.
+// The fields of a word: where each begins, how many bits it has, and whether it holds numbers below zero. Which form has which is told next to
+// the form's operands (`form::Form::layout`); encoding and decoding take them from there.
+ghost use Rattle.std.specs.Prelude.{◌≡◌, ◌<◌, ◌^◌};
 
-// What 1 counts in a field that begins at bit 7, at bit 11 and at bit 15.
-pub const LOW: u32 = 0x80;
+// A field: its lowest bit, its width in bits, and whether it is signed, so that half of its numbers are below zero. It has its lowest bit and not
+// what 1 counts there, since a field is looked up: to shift by its bit is quick, where to divide is not.
+#[derive(Clone, Copy)]
+pub struct Field {
+    pub bit: u32,
+    pub width: u32,
+    pub signed: bool,
+}
 
-pub const HIGH: u32 = 0x800;
+impl Field {
+    // How many numbers the field has.
+    pub fn size(self) -> u32
+        requires { self.width < 32 }
+        ensures { result ≡ 2 ^ self.width }
+    {
+        1 << self.width
+    }
+}
 
-pub const TOP: u32 = 0x8000;
+// The opcode, below all other fields. That it begins at bit 0 is known to encoding, which adds it as it is, and to decoding, which takes a
+// remainder by `OPCODES`.
+pub const OPCODE: Field = Field {
+    bit: 0,
+    width: 7,
+    signed: false,
+};
 
-// How many numbers a register's field holds.
-pub const REGISTERS: u32 = text_lexical::register::REGISTERS as u32;
+// How many opcodes there may be. That is the size of their field, by a shift of its own, since a constant calls no function.
+pub const OPCODES: u32 = 1 << OPCODE.width;
 
-// How many numbers a shift's amount has.
-pub const AMOUNTS: u32 = 0x100;
+// How many bits a register has.
+pub const REGISTER_WIDTH: u32 = 4;
 
-// Half of the numbers that a signed field holds: an immediate has seventeen bits, the distance of `jal` twenty-one.
-pub const IMMEDIATE_HALF: u32 = 0x10000;
+// The bits at which registers begin: one after the other, from the opcode's end on.
+pub const LOW: u32 = OPCODE.width;
 
-pub const OFFSET_HALF: u32 = 0x100000;
+pub const HIGH: u32 = LOW + REGISTER_WIDTH;
 
-// The largest number of a field, its bits all set: an immediate, the distance of `jal`, and a shift's amount.
-pub const IMMEDIATE: u64 = 2 * IMMEDIATE_HALF as u64 - 1;
+const TOP: u32 = HIGH + REGISTER_WIDTH;
 
-pub const OFFSET: u64 = 2 * OFFSET_HALF as u64 - 1;
+// The third register of an instruction that has three.
+pub const THIRD: Field = Field {
+    bit: TOP,
+    width: REGISTER_WIDTH,
+    signed: false,
+};
 
-pub const AMOUNT: u64 = AMOUNTS as u64 - 1;
+// The number of an instruction with two registers, but for a shift's.
+pub const IMMEDIATE: Field = Field {
+    bit: TOP,
+    width: 17,
+    signed: true,
+};
 
-// Words below have no unused bit set: with three registers, with a shift's amount, and with an opcode alone.
-pub const REGISTERS_END: u32 = REGISTERS * TOP;
+// The amount of a shift.
+pub const AMOUNT: Field = Field {
+    bit: TOP,
+    width: 8,
+    signed: false,
+};
 
-pub const AMOUNT_END: u32 = AMOUNTS * TOP;
-
-pub const OPCODE_END: u32 = LOW;
+// The distance of `jal`.
+pub const OFFSET: Field = Field {
+    bit: HIGH,
+    width: 21,
+    signed: true,
+};

@@ -1,13 +1,14 @@
-// The operands of a form, described once: which operands it has, and which mark follows each. Whoever reads operands goes through this
-// description from left to right.
+// A form, described once: which operands it has, which mark follows each, and in which fields of a word they stand. Whoever reads operands goes
+// through the operands from left to right.
 ghost use Rattle.std.specs.Prelude.{◌≡◌};
 ghost use Rattle.instruction.specs.Promised.{form_meant};
-ghost use Rattle.instruction.specs.Forms.{operand_list, is_number, mark_of};
+ghost use Rattle.instruction.specs.Forms.{operand_list, is_number, mark_of, layout_of};
 
+use crate::field::{AMOUNT, Field, HIGH, IMMEDIATE, LOW, OFFSET, OPCODE, THIRD};
 use refusal::refusal::Refusal;
 
 // The forms of instructions.
-#[derive(Clone, Copy, PartialEq, Eq)]
+#[derive(Clone, Copy)]
 pub enum Form {
     // `rd, rs1, rs2`
     R,
@@ -28,7 +29,7 @@ pub enum Form {
 }
 
 // An operand, a register or a number, with the mark that follows it.
-#[derive(Clone, Copy, PartialEq, Eq)]
+#[derive(Clone, Copy)]
 pub enum Operand {
     RegisterComma,
     NumberOpening,
@@ -42,6 +43,16 @@ pub enum Operand {
 pub struct Mark {
     pub byte: u8,
     pub refusal: Refusal,
+}
+
+// Where the operands of a form stand in its word: the bits at which the first two registers of a line begin, and the highest field, above which
+// no bit is used. That field is the number's, the third register's, or, without operands, the opcode's. Where a form has no such register, the
+// bits are there all the same, so that all forms are decoded alike; `Instruction::from_parts` drops what the form has not.
+#[derive(Clone, Copy)]
+pub struct Layout {
+    pub first: u32,
+    pub second: u32,
+    pub highest: Field,
 }
 
 // The operands of each form, left to right. They are looked up: forms follow each other in no order, and a branch for each would often
@@ -68,11 +79,30 @@ static MARKS: [Option<Mark>; 5] = [
     None, // Number
 ];
 
+// The layout of each form's word: decoding looks it up, for the same reason.
+#[rattlefmt::skip]
+static LAYOUTS: [Layout; 8] = [
+    Layout { first: LOW, second: HIGH, highest: THIRD }, // R
+    Layout { first: LOW, second: HIGH, highest: IMMEDIATE }, // I
+    Layout { first: LOW, second: HIGH, highest: AMOUNT }, // Shift
+    Layout { first: LOW, second: HIGH, highest: IMMEDIATE }, // Load
+    Layout { first: HIGH, second: LOW, highest: IMMEDIATE }, // Store
+    Layout { first: LOW, second: HIGH, highest: IMMEDIATE }, // Branch
+    Layout { first: LOW, second: HIGH, highest: OFFSET }, // Jump
+    Layout { first: LOW, second: HIGH, highest: OPCODE }, // System
+];
+
 impl Form {
     pub fn operands(self) -> &'static [Operand]
         ensures { result.now ≡ operand_list (form_meant self) }
     {
         OPERANDS[self as usize]
+    }
+
+    pub fn layout(self) -> Layout
+        ensures { result ≡ layout_of (form_meant self) }
+    {
+        LAYOUTS[self as usize]
     }
 }
 

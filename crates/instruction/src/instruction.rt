@@ -82,7 +82,8 @@ pub struct Operands {
 }
 
 impl Operands {
-    // The operands of a line, from three registers and a number.
+    // The operands of a line, from three registers and a number. Registers come as an array here, since the loop that reads a line puts each by its
+    // count, and have names in the struct, since the fifty cases take them by name.
     pub fn new(registers: [Register; 3], number: Whole) -> Operands
         ensures { result ≡ operands_with registers number }
     {

@@ -5,11 +5,11 @@ ghost use Rattle.text_lexical.specs.Promised.{packed};
 ghost use Rattle.instruction.specs.Table.{table, row_coded};
 ghost use Rattle.instruction.specs.Promised.{row_of, form_meant, found_meant};
 
-use crate::field::OPCODE_END;
+use crate::field::OPCODES;
 use crate::form::Form;
 
 // The mnemonics in the order of the table.
-#[derive(Clone, Copy, PartialEq, Eq)]
+#[derive(Clone, Copy)]
 pub enum Mnemonic {
     Add,
     Sub,
@@ -156,7 +156,7 @@ static SLOTS: [Option<Mnemonic>; PLACES] = [
 
 // The mnemonic of each opcode: a table of its own beside the rows, for the same reason.
 #[rattlefmt::skip]
-static CODED: [Option<Mnemonic>; OPCODE_END as usize] = [
+static CODED: [Option<Mnemonic>; OPCODES as usize] = [
     Some(Mnemonic::Add), Some(Mnemonic::Sub), Some(Mnemonic::Mul), Some(Mnemonic::Mulh), Some(Mnemonic::Divu), Some(Mnemonic::Remu),
     Some(Mnemonic::Div), Some(Mnemonic::Rem), Some(Mnemonic::Addi), None, None, None, None, None, None, None, Some(Mnemonic::And),
     Some(Mnemonic::Or), Some(Mnemonic::Xor), Some(Mnemonic::Andi), Some(Mnemonic::Ori), Some(Mnemonic::Xori), None, None,

@@ -1,16 +1,18 @@
 -- What decoded values mean in terms of the definitions, and what the functions that encode, decode and write promise.
-use Rattle.std.specs.Prelude.{ℕ, ◌+◌, ◌^◌, ◌≤◌, ◌≡◌, true, List, ◌∷◌, ◌++◌, ℤ, Result, Ok, Err}
+use Rattle.std.specs.Prelude.{ℕ, ◌+◌, ◌^◌, ◌≤◌, ◌≡◌, true, false, ltb, List, ◌∷◌, ◌++◌, ℤ, Result, Ok, Err, Some, None}
+use Rattle.std.specs.Prelude.{Option as StdOption}
 use Rattle.std.proofs.Math.Option.{Option}
 use Rattle.text_lexical.specs.Numbers.{meant_by}
 use Rattle.text_lexical.specs.Promised.{index_of, whole_meant, whole_for}
 use Rattle.text_lexical.specs.declared.register.Register.{Register}
-use Rattle.instruction.specs.Table.{a-comma, an-opening, a-closing, Place, Form, places}
-use Rattle.instruction.specs.Operands.{Operands}
+use Rattle.text_lexical.specs.declared.number.Whole.{Whole}
+use Rattle.instruction.specs.Table.{a-comma, an-opening, a-closing, Form, places}
 use Rattle.instruction.specs.Text.{register_text, separator_text, operands_text}
-use Rattle.instruction.specs.Words.{fields, registers_in, number_in, instruction_of}
+use Rattle.instruction.specs.Words.{fields, field_at, instruction_of}
 use Rattle.instruction.specs.Promised.{row_of, parts_of, instruction_meant}
 use Rattle.instruction.specs.declared.instruction.Instruction.{Instruction}
 use Rattle.instruction.specs.declared.opcode.Mnemonic.{Mnemonic}
+use Rattle.instruction.specs.declared.field.Field.{Field}
 use Rattle.refusal.specs.Refusals.{answered}
 use Rattle.refusal.specs.declared.refusal.Refusal.{Refusal}
 
@@ -30,19 +32,16 @@ pub record DecodesTo (word : ℕ) (r : Result Instruction Refusal) : Type 0 wher
 unfoldable pub form_word : Form → Mnemonic → List ℕ → Option ℤ → ℕ
 form_word f m rs n = (row_of m).opcode + fields (places f) rs n
 
--- The operands that a word holds at places.
-abbrev pub operands_in : ℕ → List Place → Operands
-operands_in w ps = record { registers = registers_in w ps; number = number_in w ps }
+-- A field of a word: it begins no higher than bit 15, has at most twenty-one bits, and ends within the thirty-two of a word.
+pub record IsField (f : Field) : Type 0 where
+  pub begins : f.bit ≤ 15
+  pub narrow : f.width ≤ 21
+  pub ends : f.bit + f.width ≤ 32
 
--- A power of two, for a field of at most 21 bits.
-pub record Power (modulus : ℕ) : Type 0 where
-  pub width : ℕ
-  pub is_power : modulus ≡ 2 ^ width
-  pub most : width ≤ 21
-
--- The number that a field means as signed, whichever power of two its values are below.
-pub record Signed (modulus field : ℕ) (z : ℤ) : Type 0 where
-  pub at_width : (k : ℕ) → modulus ≡ 2 ^ k → z ≡ meant_by true k field
+-- The number that a field means, where no bit above the field is set.
+abbrev pub highest_number : ℕ → Field → StdOption Whole
+highest_number word f =
+    elim (ltb word (2 ^ (f.bit + f.width))) [ true ↦ Some (whole_for (meant_by f.signed f.width (field_at word f.bit f.width))) | false ↦ None ]
 
 -- ---- the texts of forms, in pieces
 

@@ -21,7 +21,7 @@ fn put_number<S: Sink>(sink: &mut S, number: Whole)
     if number.is_negative() {
         sink.put(b'-');
     }
-    sink.put_decimal(number.magnitude);
+    sink.put_decimal(number.magnitude());
 }
 
 fn put_register<S: Sink>(sink: &mut S, register: Register)
@@ -60,7 +60,7 @@ pub fn put_mnemonic<S: Sink>(sink: &mut S, mnemonic: Mnemonic)
     sink.put_bytes(&letters.bytes[..letters.length]);
 }
 
-// A mnemonic and its first operand, a register.
+// A mnemonic, a space, and the first operand: a register with a comma and a space after it.
 fn put_start<S: Sink>(sink: &mut S, mnemonic: Mnemonic, first: Register)
     requires { S.Fits sink.old (start_text mnemonic first) }
     ensures { S.Took sink.old (start_text mnemonic first) sink.new }
@@ -70,7 +70,8 @@ fn put_start<S: Sink>(sink: &mut S, mnemonic: Mnemonic, first: Register)
     put_next(sink, first);
 }
 
-// Each form's text is two or three pieces, and differs in which: one function for all would choose among them again.
+// The text of a form with operands is two or three pieces, and differs in which: one function for all would choose among them again. Without
+// operands the mnemonic is all of it.
 
 // A mnemonic and `rd, rs1, rs2`.
 pub fn put_r_type<S: Sink>(

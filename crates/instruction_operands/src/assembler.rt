@@ -16,7 +16,7 @@ use instruction::instruction::Operands;
 use instruction::opcode::Mnemonic;
 use refusal::refusal::Refusal;
 use text::lexer::{Kind, Token};
-use text::parser::{KEPT, Line};
+use text::parser::Line;
 use text_lexical::number::Whole;
 use text_lexical::register::Register;
 
@@ -60,7 +60,8 @@ struct Tokens<'a> {
 }
 
 impl Tokens<'_> {
-    // The kind of the next token. Where there is none, the form has more operands than the line.
+    // The kind of the next token. There always is one: of the nine tokens of a record at least six follow the mnemonic, and no form has more.
+    // It is total all the same, and answers as a wrong count does.
     fn take(&mut self) -> Result<Kind, Refusal>
         ensures { KindTaken self.old result self.new }
     {
@@ -97,10 +98,10 @@ impl OperandSource for Tokens<'_> {
 
 // The operands of a form, from the tokens after the one at `at`.
 // A type for a place from 0 to 2 would ask the same where a place is made, and each use would have to read it out again.
-fn parse_operands(form: Form, tokens: [Token; KEPT], at: usize) -> Result<Operands, Refusal>
-    requires tokens_kept { length tokens ≡ kept }
+fn parse_operands(form: Form, tokens: &[Token], at: usize) -> Result<Operands, Refusal>
+    requires tokens_kept { length tokens.now ≡ kept }
     requires place_in_range { at ≤ 2 }
-    ensures { Reads (places (form_meant form)) tokens at result }
+    ensures { Reads (places (form_meant form)) tokens.now at result }
 {
     let mut source = Tokens {
         left: &tokens[at + 1..],
@@ -109,25 +110,27 @@ fn parse_operands(form: Form, tokens: [Token; KEPT], at: usize) -> Result<Operan
 }
 
 // The instruction of a mnemonic's row, by the operand tokens after the one at `at`. That this is 2 at most is for `parse_operands`.
-fn parse_row(mnemonic: Mnemonic, line: Line, at: usize) -> Result<Parsed, Refusal>
-    requires token_there { at < line.count }
+fn parse_row(mnemonic: Mnemonic, line: &Line, at: usize) -> Result<Parsed, Refusal>
+    requires token_there { at < line.now.count }
     requires place_in_range { at ≤ 2 }
-    requires tokens_kept { length line.tokens ≡ kept }
-    ensures { RowIs mnemonic line at result }
+    requires tokens_kept { length line.now.tokens ≡ kept }
+    ensures { RowIs mnemonic line.now at result }
 {
     let form = mnemonic.form();
     if line.count - at - 1 != operand_count(form) {
         return Err(Refusal::OperandCount);
     }
-    let operands = parse_operands(form, line.tokens, at)?;
+    let operands = parse_operands(form, &line.tokens, at)?;
     Ok(Parsed { mnemonic, operands })
 }
 
-// The instruction whose mnemonic is the token at `at`. A label's two tokens stand before it, at most.
-pub fn parse_instruction(source: &[u8], line: Line, at: usize) -> Result<Parsed, Refusal>
-    requires kept_line { Kept source.now line }
+// The instruction whose mnemonic is the token at `at`. A label's two tokens stand before it, at most. It is public and total, so it asks itself
+// whether the token is there and an Identifier, though `image_line: record`, its one caller besides tests, knows the first of each line, and
+// the second of some.
+pub fn parse_instruction(source: &[u8], line: &Line, at: usize) -> Result<Parsed, Refusal>
+    requires kept_line { Kept source.now line.now }
     requires place_in_range { at ≤ 2 }
-    ensures { ParsedIs source.now line at result }
+    ensures { ParsedIs source.now line.now at result }
 {
     if line.count <= at {
         return Err(Refusal::MnemonicExpected);

@@ -26,7 +26,7 @@ pub(crate) fn read(text: &[u8], from: usize, place: usize) -> Result<Instruction
     requires place_in_range { place ≤ 2 }
 {
     let line = tokenize(text, run_end::<Margin>(text, from))?;
-    let parsed = parse_instruction(text, line, place)?;
+    let parsed = parse_instruction(text, &line, place)?;
     Ok(Instruction::from_parts(parsed.mnemonic, parsed.operands))
 }
 

@@ -6,10 +6,12 @@ use mathlib.Core.Bool.{Bool, true, false}
 use mathlib.Core.Logic.{inl, inr}
 use mathlib.Core.List.{List, [], ◌∷◌}
 use lib.ListN.{length, take, drop, get_or, length-drop}
+use lib.Dec.{eqb}
+use borrow.Author.Tests.{not-false, eqb-true}
 use Rattle.std.specs.Prelude.{Some, None}
 use Rattle.std.specs.Prelude.{Option as Maybe}
 use Rattle.text_lexical.specs.Bytes.{every, before, run, inside, margin}
-use Rattle.text_lexical.proofs.Tests.{split}
+use Rattle.text_lexical.proofs.Tests.{split, no_both}
 use Rattle.text_lexical.proofs.Strings.{run-over, run-le, run-no, run_end, take-run, every-run, every-mono}
 use Rattle.text.specs.Places.{rest_at, left_at, end_at, StartsAt}
 use Rattle.text.specs.Promised.{ending_at}
@@ -38,15 +40,19 @@ newline-outside : (b : ℕ) → b ≡ 10 → inside b ≡ false
 unfolding inside
 newline-outside b e = rw e
 
+outside-newline : (b : ℕ) → inside b ≡ false → b ≡ 10
+unfolding inside
+outside-newline b e = eqb-true b 10 (not-false (eqb b 10) e)
+
 -- Where the line ends, as a run.
 pub end-run : (s : List ℕ) (at : ℕ) → end_at s at ≡ at + run inside (drop at s)
 unfolding end_at rest_at run
 end-run s at = refl
 
 -- It ends at byte 10 and at the text's end.
-ends-here : (s : List ℕ) (stop : ℕ) → (stop < length s → get_or s stop 0 ≡ 10) → end_at s stop ≡ stop
+ends-here : (s : List ℕ) (stop : ℕ) → (stop < length s → inside (get_or s stop 0) ≡ false) → end_at s stop ≡ stop
 ends-here s stop f =
-    end-run s stop ∙ split stop (length s) (λ m. omega (arith, run-no inside s stop m (newline-outside _ (f m)))) (λ m. omega (arith, run_end inside s stop m))
+    end-run s stop ∙ split stop (length s) (λ m. omega (arith, run-no inside s stop m (f m))) (λ m. omega (arith, run_end inside s stop m))
 
 -- ---- the answers
 
@@ -56,17 +62,20 @@ module _ (s : List ℕ) (at stop : ℕ) (l : at ≤ length s) (q : stop ≡ at +
   ended n = ap Some (margin-on s at stop l q).2 ∙ rw (ending_at, n)
 
   -- The line's end: byte 10, or the text's end.
-  pub line-here : (stop < length s → get_or s stop 0 ≡ 10) → Some stop ≡ ending_at s at
-  line-here f = ap Some (sym (ends-here s stop f)) ∙ ended (nothing_left s at l (λ m. inl (rw q at (f (rw q m)))))
+  pub line-here : (stop < length s → inside (get_or s stop 0) ≡ false) → Some stop ≡ ending_at s at
+  line-here f = ap Some (sym (ends-here s stop f)) ∙ ended (nothing_left s at l (λ m. inl (rw q at (outside-newline _ (f (rw q m))))))
 
   -- A comment, up to whose end the line goes on.
   pub comment-here : get_or s stop 0 ≡ 35 → Some (stop + run inside (drop stop s)) ≡ ending_at s at
   comment-here e = ap Some (sym (end-run s stop)) ∙ ended (nothing_left s at l (λ m. inr (rw q at e)))
 
-  pub other-here : stop < length s → (get_or s stop 0 ≡ 10 → ⊥) → (get_or s stop 0 ≡ 35 → ⊥) → None ≡ ending_at s at
+  pub other-here : stop < length s → inside (get_or s stop 0) ≡ true → (get_or s stop 0 ≡ 35 → ⊥) → None ≡ ending_at s at
   unfolding ending_at
-  other-here m f g = go (left_at s at) refl
+  other-here m i g = go (left_at s at) refl
     where
+      f : get_or s stop 0 ≡ 10 → ⊥
+      f n = no_both i (newline-outside (get_or s stop 0) n)
+
       go : (u : List ℕ) → left_at s at ≡ u → ◌≡◌ {A = Maybe ℕ} None (elim u [ [] ↦ Some (end_at s at) | b ∷ v ↦ None ])
       go [] e = absurd (something-left s at (rw q at m) (rw q at f) (rw q at g) e)
       go (b ∷ v) e = refl

@@ -27,6 +27,7 @@ use Rattle.text_lexical.proofs.Values.{fits-is, large_is}
 use Rattle.text_lexical.proofs.Registers.{register-index}
 use Rattle.text.specs.Tokens.{is_register, Class, Number, Hex, Binary, Directive, Mark, longest, Token, identifier, register, number, hex, binary, directive, within, number_token, pattern_token, register_token, mark_token, token_of, sized, matched, front}
 use Rattle.text.specs.NameSets.{Naming}
+use Rattle.text_lexical.proofs.Numbers.{abs_minus}
 use Rattle.text.specs.Promised.{kind_meant, pattern_kind, kind_for, token_at, number_start, number_scan, IsDecimal, PrefixIs, Prefixed, NoWord}
 use Rattle.text.specs.declared.lexer.Kind.{Kind}
 use Rattle.text.specs.declared.lexer.Kind.TheVariants.{Identifier as IdentifierKind, Register as RegisterKind, NoRegister, Number as NumberKind, Negative}
@@ -35,7 +36,6 @@ use Rattle.text.specs.declared.lexer.Scan.TheVariants.{Found, Bad}
 use Rattle.text.proofs.Scanning.{matching, word_class, at_least_one, radix_or, digit_scan, dot_scan, scan, longest-scan, digit-from, digit-not-start}
 use Rattle.text.proofs.Tokens.{front-scan}
 use Rattle.text.proofs.Left.{front_at}
-use Rattle.text.proofs.Meanings.{abs-minus}
 
 -- ---- places
 
@@ -86,11 +86,19 @@ pub number-digit : (b : ℕ) → number_start b ≡ true → (b ≡ 45 → ⊥) 
 unfolding number_start
 number-digit b h f = or_elim (digit b) (eqb b 45) h (λ d. d) (λ e. absurd (f (eqb-true b 45 e)))
 
--- What is answered where a number may begin is the token there, unless it is bad.
-pub number-begins : (names : List Name) (s : List ℕ) (at : ℕ) (r : Scan) → r ≡ number_scan names s at → (r ≡ Bad → ⊥)
+-- Where a number begins the token there is answered, and none where none does.
+pub number-begins : (names : List Name) (s : List ℕ) (at : ℕ) (r : Scan) → Some r ≡ number_scan names s at
     → (number_start (get_or s at 0) ≡ true) × (r ≡ token_at names s at)
 unfolding number_scan
-number-begins names s at r e f = by-test (number_start (get_or s at 0)) (λ t. (t, rw (number_scan, t) at e)) (λ n. absurd (f (rw (number_scan, n) at e)))
+number-begins names s at r e =
+    by-test (number_start (get_or s at 0))
+    (λ t. let q : Some r ≡ Some (token_at names s at) = rw (number_scan, t) at e in (t, cc))
+    (λ n. let q : Some r ≡ None = rw (number_scan, n) at e in let z : ◌≡◌ {A = ℕ} 0 1 = cc in absurd (omega arith))
+
+pub no-number-begins : (names : List Name) (s : List ℕ) (at : ℕ) → None ≡ number_scan names s at → number_start (get_or s at 0) ≡ false
+unfolding number_scan
+no-number-begins names s at e =
+    not-true (number_start (get_or s at 0)) (λ t. let q : None ≡ Some (token_at names s at) = rw (number_scan, t) at e in let z : ◌≡◌ {A = ℕ} 0 1 = cc in omega arith)
 
 digit-no-minus : (b : ℕ) → digit b ≡ true → eqb b 45 ≡ false
 digit-no-minus b h = let l = digit-from b h in ne_eqb b 45 (λ e. omega arith)
@@ -102,7 +110,7 @@ number-kind s at e n h l d = rw (part-cons s at e h l, digit-no-minus (get_or s 
 
 minus-kind : (s : List ℕ) (at e n : ℕ) → at < e → at < length s → get_or s at 0 ≡ 45
     → kind_for (number (minus n)) (take (e - at) (drop at s)) ≡ Negative n
-minus-kind s at e n h l d = rw (part-cons s at e h l, d, abs-minus n)
+minus-kind s at e n h l d = rw (part-cons s at e h l, d, abs_minus n)
 
 digits-one : (b : ℕ) → digit_scan b [] ≡ matching (suc (run digit [])) Number
 unfolding digit_scan run before
@@ -163,10 +171,6 @@ module _ (radix : Radix) (s : List ℕ) (begin : ℕ) (d : Digits) (q : Digits-a
   value-large e = large_is (value_of (base_of radix) (take (d.end - begin) (drop begin s))) (sym e ∙ q.value-is)
 
 -- ---- marks
-
-pub mark-no : (b : ℕ) → (b ≡ 44 → ⊥) → (b ≡ 58 → ⊥) → (b ≡ 40 → ⊥) → (b ≡ 41 → ⊥) → mark b ≡ false
-unfolding mark
-mark-no b f g h k = rw (ne_eqb b 44 f, ne_eqb b 58 g, ne_eqb b 40 h, ne_eqb b 41 k)
 
 -- A mark's byte begins no other token.
 mark-alone : (b : ℕ) → mark b ≡ true → (name_start b ≡ false) × (number_start b ≡ false) × (b ≡ 46 → ⊥)
@@ -442,13 +446,9 @@ module _ (names : List Name) where
         (rw (w, drop-cons s at 0 (omega arith), b, drop-cons s (suc at) 0 (omega arith))
         (dot-first (get_or s (suc at) 0 ∷ drop (suc (suc at)) s) ∙ rw (dot_scan, rw (add-one at) at n)))
 
-    pub mark-none : (s : List ℕ) (at : ℕ) → at < length s → NoWord names s at → mark (get_or s at 0) ≡ false → token_at names s at ≡ Bad
-    unfolding number_scan
+    pub mark-none : (s : List ℕ) (at : ℕ) → at < length s → NoWord s at → mark (get_or s at 0) ≡ false → token_at names s at ≡ Bad
     mark-none s at l w k =
-        by-test (number_start (get_or s at 0))
-        (λ t. rw (number_scan, t) at w.no_number)
-        (λ n. sym (at_none s at
-        (rw (drop-cons s at 0 l) (front-none _ (scan-other (get_or s at 0) (drop (suc at) s) false w.no_start n w.no_dot k)))))
+        sym (at_none s at (rw (drop-cons s at 0 l) (front-none _ (scan-other (get_or s at 0) (drop (suc at) s) false w.no_start w.no_number w.no_dot k))))
 
     pub mark-front : (s : List ℕ) (at : ℕ) (t : Token) → at < length s → mark (get_or s at 0) ≡ true → mark_token (get_or s at 0 ∷ []) ≡ some t
         → front names (drop at s) ≡ sized 1 (some t)

@@ -1,6 +1,7 @@
 pub mod Scanning
 pub mod Tokens
 pub mod Lines
+pub mod Marks
 pub mod Left
 pub mod Endings
 pub mod Meanings

@@ -1,5 +1,5 @@
 -- A token's kind, by its meaning and its spelling, means that token again, has the sign of that spelling, and the token's number.
-use Prim.Native.Nat.{ℕ, zero, suc, ◌^◌}
+use Prim.Native.Nat.{ℕ, ◌^◌}
 use mathlib.Core.Path.{◌≡◌, refl, ap}
 use native.Mathlib.Omega.{arith}
 use mathlib.Core.Bool.{Bool, true, false}
@@ -7,7 +7,7 @@ use mathlib.Core.Option.{Option, none, some}
 use mathlib.Core.List.{List, [], ◌∷◌}
 use lib.ListN.{take, drop, get_or}
 use lib.Dec.{leb, ltb, eqb}
-use lib.IntN.{pos, nat_abs}
+use lib.IntN.{pos}
 use borrow.Author.Tests.{ltb-true, eqb-true, eq-eqb}
 use Rattle.text_lexical.specs.Bytes.{value, same}
 use Rattle.text_lexical.specs.Numbers.{value_of, minus}
@@ -15,7 +15,7 @@ use Rattle.text_lexical.specs.Names.{Name, named}
 use Rattle.text_lexical.proofs.Tests.{by-test, no_both}
 use Rattle.text_lexical.proofs.Strings.{found}
 use Rattle.text_lexical.proofs.Registers.{index-register}
-use Rattle.text_lexical.proofs.Numbers.{whole-meant}
+use Rattle.text_lexical.proofs.Numbers.{whole-meant, abs_minus}
 use Rattle.text.specs.Tokens.{Class, Register, Identifier, Number, Hex, Binary, Directive, Mark, Match, Token, identifier, register, number, hex, binary, directive, comma, colon, opening, closing, within, number_token, pattern_token, register_token, mark_token, token_of, Sized, sized, matched, front, longest}
 use Rattle.text.specs.Values.{read_number}
 use Rattle.text.specs.NameSets.{is_numbered, Naming}
@@ -23,12 +23,6 @@ use Rattle.refusal.specs.Refusals.{refusals}
 use Rattle.text.specs.Promised.{extract_for, extracted, extract_meant, kind_meant, register_kind, kind_for}
 use Rattle.text.specs.declared.lexer.Kind.{Kind}
 use Rattle.text.specs.declared.lexer.Kind.TheVariants.{Identifier as IdentifierKind, Register as RegisterKind, NoRegister, Number as NumberKind, Negative, Hex as HexKind, Binary as BinaryKind, Directive as DirectiveKind, Comma, Colon, LParen, RParen}
-
--- The magnitude of -n.
-pub abs-minus : (n : ℕ) → nat_abs (minus n) ≡ n
-unfolding minus
-abs-minus zero = refl
-abs-minus (suc n) = refl
 
 -- Where there is no token there is none.
 no-token : {t : Token} → ◌≡◌ {A = Option Token} none (some t) → ⊥
@@ -57,7 +51,7 @@ number-means [] m h = absurd (no-token h)
 number-means (b ∷ s) m h =
     by-test (eqb b 45)
     (λ e. within-means (b ∷ s) (leb (value_of 10 s) (2 ^ 63)) (number (minus (value_of 10 s))) m (rw (number_token, e) at h)
-    (rw e (ap (λ (n : ℕ). number (minus n)) (abs-minus (value_of 10 s)))))
+    (rw e (ap (λ (n : ℕ). number (minus n)) (abs_minus (value_of 10 s)))))
     (λ e. within-means (b ∷ s) (ltb (value_of 10 (b ∷ s)) (2 ^ 63)) (number (pos (value_of 10 (b ∷ s)))) m (rw (number_token, e) at h) (rw e))
 
 mark-means : (u : List ℕ) (m : Token) → mark_token u ≡ some m → Means m u

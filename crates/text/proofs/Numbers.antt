@@ -28,7 +28,7 @@ use Rattle.text.specs.declared.parser.NumberAt.{NumberAt}
 use Rattle.text.proofs.Scanning.{matching, word_class, dot_scan, scan}
 use Rattle.text.proofs.Tokens.{front-scan}
 use Rattle.text.proofs.Left.{front_at}
-use Rattle.text.proofs.Fronts.{no-number-start}
+use Rattle.text.proofs.Fronts.{no-number-start, number-begins, no-number-begins}
 
 -- ---- what is found
 
@@ -131,10 +131,11 @@ module _ (names : List Name) (s : List ℕ) (at : ℕ) where
         (λ l. rw (drop-cons s at 0 l) (scan-none (get_or s at 0) (drop (suc at) s) (f l)))
         (λ l. rw (drop_of_length-le s l)))
 
-    -- What is answered where a number may begin is the number there.
-    pub number-is : (r : Scan) → r ≡ number_scan names s at → number_of r ≡ number_at names s at
-    unfolding number_scan number_at
-    number-is r e =
-        by-test (number_start (get_or s at 0))
-        (λ t. ap number_of (rw (number_scan, t) at e))
-        (λ n. ap number_of (rw (number_scan, n) at e) ∙ number_none (λ l. n))
+    -- Where a number begins, the number there is that of the token.
+    pub number-is : (r : Scan) → Some r ≡ number_scan names s at → number_of r ≡ number_at names s at
+    unfolding number_at
+    number-is r e = ap number_of (number-begins names s at r e).1
+
+    -- Where none begins there is none.
+    pub no-number-is : None ≡ number_scan names s at → None ≡ number_at names s at
+    no-number-is e = number_none (λ l. no-number-begins names s at e)

@@ -9,14 +9,15 @@ use lib.ListN.{length, take, drop, get_or, length-drop}
 use lib.Seq.{get_or-take, get_or-drop}
 use lib.Dec.{eqb}
 use borrow.Author.Tests.{eqb-true, eqb-false}
-use Rattle.text_lexical.specs.Bytes.{blank, mark, run}
+use Rattle.std.specs.Prelude.{Some}
+use Rattle.text_lexical.specs.Bytes.{blank, run}
 use Rattle.text_lexical.specs.Names.{Name}
 use Rattle.text_lexical.proofs.Tests.{by-test}
 use Rattle.text_lexical.proofs.Strings.{run-over, run-no, run-stop}
-use Rattle.text.specs.Tokens.{Token as Meant, mark_token, Sized, longest, matched, front, infront, tokens}
+use Rattle.text.specs.Tokens.{Token as Meant, Sized, longest, matched, front, infront, tokens}
 use Rattle.text.specs.NameSets.{Naming}
 use Rattle.text.specs.Places.{left_at, end_at}
-use Rattle.text.specs.Promised.{kind_meant, kind_for, meant, found_at, token_at, stands_at, past, scan_at, number_start}
+use Rattle.text.specs.Promised.{kind_for, meant, found_at, token_at, stands_at, past, scan_at, number_start, mark_kind}
 use Rattle.text.specs.declared.lexer.Kind.{Kind}
 use Rattle.text.specs.declared.lexer.Kind.TheVariants.{Number, Negative}
 use Rattle.text.specs.declared.lexer.Token.{Token}
@@ -25,6 +26,7 @@ use Rattle.text.specs.declared.lexer.Scan.TheVariants.{Found, Bad, End}
 use Rattle.text.proofs.Left.{solid, digit-solid, high-solid, mark-solid, solid-plain, blank-inside, blanks_at, front_at, left-byte, solid-left, found-at, found-solid, nothing_left, none_read, left-read-bad, end_on}
 use Rattle.text.proofs.Endings.{run-within}
 use Rattle.text.proofs.Meanings.{front-means, kind-sign}
+use Rattle.text.proofs.Marks.{marked}
 use Rattle.text.proofs.Fronts.{at-found, mark-front, number-digit}
 
 -- ---- places
@@ -138,15 +140,15 @@ module _ (names : List Name) where
   module _ (ok : Naming names) where
     -- ---- a mark
 
-    pub mark-step : (s : List ℕ) (at : ℕ) (k : Kind) (t : Meant) → at < length s → mark (get_or s at 0) ≡ true
-        → mark_token (get_or s at 0 ∷ []) ≡ some t → ((u : List ℕ) → kind_meant k u ≡ t) → ((u : List ℕ) → kind_for t u ≡ k)
+    pub mark-step : (s : List ℕ) (at : ℕ) (k : Kind) → at < length s → Some k ≡ mark_kind (get_or s at 0)
         → Found (record { kind = k; start = at; length = at + 1 - at }) (at + 1) ≡ scan_at names s at
-    mark-step s at k t l h e m g =
+    mark-step s at k l e =
+        let m = marked (get_or s at 0) k e in
         let one : at + 1 - at ≡ 1 = omega arith in
         let u = take (at + 1 - at) (drop at s) in
-        solid-step s at _ l (mark-solid (get_or s at 0) h)
-        (at-found names ok s at (at + 1) k (omega arith) (ap (λ (x : Meant). kind_for x u) (m u) ∙ g u)
-        (mark-front names ok s at t l h e ∙ rw (one, m (take 1 (drop at s)))))
+        solid-step s at _ l (mark-solid (get_or s at 0) m.is_mark)
+        (at-found names ok s at (at + 1) k (omega arith) (ap (λ (x : Meant). kind_for x u) (m.means u) ∙ m.made u)
+        (mark-front names ok s at m.token l m.is_mark m.token-is ∙ rw (one, m.means (take 1 (drop at s)))))
 
     -- ---- how the line goes on
 

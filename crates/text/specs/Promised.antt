@@ -2,7 +2,7 @@
 use Rattle.std.specs.Prelude.{ℕ, zero, suc, ◌+◌, ◌-◌, ◌≤◌, ◌<◌, ◌≡◌, Bool, true, false, ◌||◌, List, [], ◌∷◌, ◌++◌, map, length, take, drop, get_or, replicate, eqb, ℤ, pos, nat_abs, Some, None, Ok, Err}
 use Rattle.std.specs.Prelude.{Option as Maybe, Result as Answer}
 use Rattle.std.proofs.Math.Option.{Option, none, some}
-use Rattle.text_lexical.specs.Bytes.{Result, value, refused, digit, name_start, blank, margin, run}
+use Rattle.text_lexical.specs.Bytes.{Result, value, refused, digit, name_start, blank, margin, mark, run}
 use Rattle.text_lexical.specs.Numbers.{minus}
 use Rattle.text_lexical.specs.Names.{Name}
 use Rattle.text_lexical.specs.Promised.{index_of, register_at, whole_meant, whole_for}
@@ -12,7 +12,7 @@ use Rattle.text_lexical.specs.declared.number.Whole.{Whole}
 use Rattle.refusal.specs.Refusals.{refusal_at, answered}
 use Rattle.refusal.specs.declared.refusal.Refusal.{Refusal}
 use Rattle.refusal.specs.declared.refusal.Refusal.TheVariants.{BadToken}
-use Rattle.text.specs.Tokens.{identifier, register, number, hex, binary, directive, comma, colon, opening, closing, Number as NumberClass, longest, Sized, front}
+use Rattle.text.specs.Tokens.{identifier, register, number, hex, binary, directive, comma, colon, opening, closing, Number as NumberClass, longest, mark_token, Sized, front}
 use Rattle.text.specs.Tokens.{Token as Meant}
 use Rattle.text.specs.Values.{read_number}
 use Rattle.text.specs.Lines.{kept}
@@ -91,6 +91,15 @@ kind_for colon u = Colon
 kind_for opening u = LParen
 kind_for closing u = RParen
 
+-- The kind of a token with a spelling, if it is one.
+abbrev pub kind_made : List ℕ → Option Meant → Maybe Kind
+kind_made u none = None
+kind_made u (some t) = Some (kind_for t u)
+
+-- The kind of the mark that a byte is, if it is one.
+unfoldable pub mark_kind : ℕ → Maybe Kind
+mark_kind b = elim (mark b) [ true ↦ kind_made (b ∷ []) (mark_token (b ∷ [])) | false ↦ None ]
+
 -- Whether a kind is the mark of a byte.
 abbrev pub mark_of_byte : Kind → ℕ → Bool
 mark_of_byte Comma b = eqb b 44
@@ -153,9 +162,9 @@ number_at names s at = number_of (token_at names s at)
 unfoldable pub number_start : ℕ → Bool
 number_start b = digit b || eqb b 45
 
--- The token at a place where a number begins; no token where none does.
-unfoldable pub number_scan : List Name → List ℕ → ℕ → Scan
-number_scan names s at = elim (number_start (get_or s at 0)) [ true ↦ token_at names s at | false ↦ Bad ]
+-- The token at a place, if a number begins there.
+unfoldable pub number_scan : List Name → List ℕ → ℕ → Maybe Scan
+number_scan names s at = elim (number_start (get_or s at 0)) [ true ↦ Some (token_at names s at) | false ↦ None ]
 
 -- Decimal digits at a place, which no longer match begins.
 pub record IsDecimal (names : List Name) (s : List ℕ) (at : ℕ) : Type 0 where
@@ -174,12 +183,12 @@ pub record Prefixed (s : List ℕ) (at : ℕ) (radix : Radix) : Type 0 where
   pub is_zero : get_or s at 0 ≡ 48
   pub is_prefix : PrefixIs radix (get_or s (at + 1) 0)
 
--- At a place stands neither a blank nor a word nor a directive, and no number but a bad one.
-pub record NoWord (names : List Name) (s : List ℕ) (at : ℕ) : Type 0 where
+-- At a place stands no blank, and neither a word nor a directive nor a number begins there.
+pub record NoWord (s : List ℕ) (at : ℕ) : Type 0 where
   pub no_blank : blank (get_or s at 0) ≡ false
   pub no_start : name_start (get_or s at 0) ≡ false
   pub no_dot : get_or s at 0 ≡ 46 → ⊥
-  pub no_number : number_scan names s at ≡ Bad
+  pub no_number : number_start (get_or s at 0) ≡ false
 
 -- ---- the reader
 

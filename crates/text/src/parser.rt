@@ -16,10 +16,9 @@ pub fn extract_number(kind: Kind) -> Result<Whole, Refusal>
     ensures { result ≡ extracted kind }
 {
     match kind {
-        Kind::Number(magnitude) | Kind::Hex(magnitude) | Kind::Binary(magnitude) => Ok(Whole {
-            negative: false,
-            magnitude,
-        }),
+        Kind::Number(magnitude) | Kind::Hex(magnitude) | Kind::Binary(magnitude) => {
+            Ok(Whole::NotNegative(magnitude))
+        }
         Kind::Negative(magnitude) => Ok(Whole::minus(magnitude)),
         _ => Err(Refusal::NumberExpected),
     }
@@ -41,9 +40,10 @@ pub fn number_at(text: &[u8], at: usize) -> Option<NumberAt>
     if text.len() <= at {
         return None;
     }
-    let Scan::Found { token, next } = crate::lexer::number(text, at) else {
+    let Scan::Found { token, next } = crate::lexer::number(text, at)? else {
         return None;
     };
+    // Each token that `number` finds is one, so there is always a number.
     let Ok(number) = extract_number(token.kind) else {
         return None;
     };

@@ -1,4 +1,5 @@
 pub mod Tests
+pub mod NameBytes
 pub mod Strings
 pub mod Numbers
 pub mod Keys

@@ -69,6 +69,13 @@ Few n = (pair n).first + (pair n).digits ≤ 17
 few : Each Few 0 8
 few = (omega arith, (omega arith, (omega arith, (omega arith, (omega arith, (omega arith, (omega arith, (omega arith, tt))))))))
 
+-- No letter has more names than there are digits.
+abbrev Ten : ℕ → Type 0
+Ten n = (pair n).digits ≤ 10
+
+ten : Each Ten 0 8
+ten = (omega arith, (omega arith, (omega arith, (omega arith, (omega arith, (omega arith, (omega arith, (omega arith, tt))))))))
+
 abbrev ByDigit : ℕ → Type 0
 ByDigit n = Each (Run (λ b. (pair n).letter ∷ b ∷ []) (48 - (pair n).first)) 48 ((pair n).digits)
 
@@ -146,13 +153,16 @@ pub no-pair : (a b : ℕ) → get_or PAIRS (a % 8) None ≡ None → none ≡ na
 no-pair a b h =
     no-letter a b (λ e. let one : 1 ≡ a = rw h at e in let some_pair : get_or PAIRS 1 None ≡ None = rw (← one) at h in let z : ◌≡◌ {A = ℕ} 0 1 = cc in absurd (omega arith))
 
-pub no_second : (a b : ℕ) → (48 ≤ b → b - 48 < (pair (a % 8)).digits → ⊥) → (b ≡ (pair (a % 8)).other → ⊥) → none ≡ name_number (named present (a ∷ b ∷ []))
+pub no_second : (a b : ℕ) → (48 ≤ b → b ≤ 57 → b - 48 < (pair (a % 8)).digits → ⊥) → (b ≡ (pair (a % 8)).other → ⊥) → none ≡ name_number (named present (a ∷ b ∷ []))
 unfolding listed
 no_second a b f g =
     none_named (a ∷ b ∷ []) (not-true (listed (a ∷ b ∷ [])) (λ t.
     let (l, r) = (and-eq-true_iff (eqb ((pair (a % 8)).letter) a) _).0 t in
     or_elim (leb 48 b && ltb (b - 48) ((pair (a % 8)).digits)) (eqb b ((pair (a % 8)).other)) r
-    (λ d. let (x, y) = (and-eq-true_iff (leb 48 b) (ltb (b - 48) ((pair (a % 8)).digits))).0 d in f (leb-true 48 b x) (ltb-true (b - 48) ((pair (a % 8)).digits) y))
+    (λ d. let (x, y) = (and-eq-true_iff (leb 48 b) (ltb (b - 48) ((pair (a % 8)).digits))).0 d in
+    let l = leb-true 48 b x in
+    let k = ltb-true (b - 48) ((pair (a % 8)).digits) y in
+    f l (omega (arith, in-run Ten 0 8 (a % 8) (omega arith) (omega arith) ten)) k)
     (λ o. g (eqb-true b ((pair (a % 8)).other) o))))
 
 pub no-three : (a b c : ℕ) → (a ≡ 114 → b ≡ 49 → between 48 53 c ≡ true → ⊥) → none ≡ name_number (named present (a ∷ b ∷ c ∷ []))

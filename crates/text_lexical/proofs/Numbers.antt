@@ -4,17 +4,17 @@ use Prim.Native.Nat.{ℕ, zero, suc, ◌+◌, ◌-◌, ◌*◌, ◌/◌, ◌%◌
 use native.Mathlib.Nat.{div-add-mod', suc-mul, mul-add-mod_self_right, pow-suc, mod-lt, mod-eq_of_lt}
 use native.Mathlib.Omega.{arith}
 use mathlib.Core.Logic.{◌↔◌}
-use mathlib.Core.Bool.{Bool, true, false, ◌&&◌, true≢false}
+use mathlib.Core.Bool.{Bool, true, false, true≢false}
 use mathlib.Core.List.{List, [], ◌∷◌, ◌++◌}
 use lib.ListN.{length, length-append}
-use lib.IntN.{ℤ, pos, negsuc, ◌+ℤ◌, ◌-ℤ◌, ◌*ℤ◌, +ℤ_assoc, +ℤ_comm, +ℤ-neg_ℤ_cancel, -ℤ-+ℤ_cancel, *ℤ_comm, *ℤ-zero, suc_ℤ-*ℤ}
+use lib.IntN.{ℤ, pos, negsuc, nat_abs, ◌+ℤ◌, ◌-ℤ◌, ◌*ℤ◌, +ℤ_assoc, +ℤ_comm, +ℤ-neg_ℤ_cancel, -ℤ-+ℤ_cancel, *ℤ_comm, *ℤ-zero, suc_ℤ-*ℤ}
 use lib.Pow.{pow_pos}
 use lib.Dec.{ltb}
 use borrow.Author.Tests.{lt-ltb, le-ltb, le-leb}
 use Rattle.text_lexical.specs.Bytes.{digit, every}
 use Rattle.text_lexical.specs.Numbers.{digit_value, value_from, value_of, minus, is_negative, residue, meant_by, decimal_in, decimal}
-use Rattle.text_lexical.specs.Promised.{signed_meant, whole_meant, whole_for, remainder, Reduced}
-use Rattle.text_lexical.specs.declared.number.Whole.{Whole}
+use Rattle.text_lexical.specs.Promised.{whole_meant, whole_for, remainder, Reduced}
+use Rattle.text_lexical.specs.declared.number.Whole.TheVariants.{Negative}
 use Rattle.text_lexical.proofs.Tests.{split, true-between}
 use Rattle.text_lexical.proofs.Strings.{every_append, every-cons}
 
@@ -108,33 +108,21 @@ residue-meant true k v h =
     (λ l. rw (meant_by, le-ltb (v + v) (2 ^ k) l, mod-eq_of_lt {n = 2 ^ k - suc v} {m = 2 ^ k} (omega (arith, pow_pos k))) (omega arith))
 
 -- A number below 0 is not 0.
-pub negative-some : (w : Whole) → is_negative (whole_meant w) ≡ true → 1 ≤ w.magnitude
-unfolding is_negative minus
-negative-some w h = go w.negative w.magnitude h
-  where
-    go : (b : Bool) (n : ℕ) → is_negative (signed_meant b n) ≡ true → 1 ≤ n
-    go true zero h = absurd (true≢false (sym h))
-    go true (suc n) h = omega arith
-    go false n h = absurd (true≢false (sym h))
+pub negative-some : (z : ℤ) → is_negative z ≡ true → 1 ≤ nat_abs z
+unfolding is_negative
+negative-some (pos n) h = absurd (true≢false (sym h))
+negative-some (negsuc n) h = omega arith
 
 -- What a number below 0 leaves, as the code finds it, and what any other does.
-pub remainder-negative : (most : ℕ) (w : Whole) → is_negative (whole_meant w) ≡ true → remainder (suc most) (whole_meant w) ≡ most - (w.magnitude - 1) % suc most
-unfolding is_negative minus
-remainder-negative most w h = go w.negative w.magnitude h
-  where
-    go : (b : Bool) (n : ℕ) → is_negative (signed_meant b n) ≡ true → remainder (suc most) (signed_meant b n) ≡ most - (n - 1) % suc most
-    go true zero h = absurd (true≢false (sym h))
-    go true (suc n) h = let e : suc n - 1 ≡ n = omega arith in rw e (omega arith)
-    go false n h = absurd (true≢false (sym h))
+pub remainder-negative : (most : ℕ) (z : ℤ) → is_negative z ≡ true → remainder (suc most) z ≡ most - (nat_abs z - 1) % suc most
+unfolding is_negative
+remainder-negative most (pos n) h = absurd (true≢false (sym h))
+remainder-negative most (negsuc n) h = let e : suc n - 1 ≡ n = omega arith in rw e (omega arith)
 
-pub remainder-other : (most : ℕ) (w : Whole) → is_negative (whole_meant w) ≡ false → remainder (suc most) (whole_meant w) ≡ w.magnitude % suc most
-unfolding is_negative minus
-remainder-other most w h = go w.negative w.magnitude h
-  where
-    go : (b : Bool) (n : ℕ) → is_negative (signed_meant b n) ≡ false → remainder (suc most) (signed_meant b n) ≡ n % suc most
-    go true zero h = refl
-    go true (suc n) h = absurd (true≢false h)
-    go false n h = refl
+pub remainder-other : (most : ℕ) (z : ℤ) → is_negative z ≡ false → remainder (suc most) z ≡ nat_abs z % suc most
+unfolding is_negative
+remainder-other most (pos n) h = refl
+remainder-other most (negsuc n) h = absurd (true≢false h)
 
 -- A remainder modulo a power of two is the residue of that width.
 remainder-residue : (k : ℕ) (z : ℤ) → remainder (2 ^ k) z ≡ residue k z
@@ -154,21 +142,22 @@ unfolding minus
 whole-meant (pos n) = refl
 whole-meant (negsuc n) = refl
 
--- -n is negative, unless it is 0.
-pub whole-minus : (n : ℕ) → whole_for (minus n) ≡ record { negative = ltb 0 n; magnitude = n }
+-- -n is negative, unless it is 0,
+pub whole_minus : (n : ℕ) → 0 < n → whole_for (minus n) ≡ Negative n
 unfolding minus
-whole-minus zero = refl
-whole-minus (suc n) = rw (lt-ltb 0 (suc n) (omega arith))
+whole_minus zero h = absurd (omega arith)
+whole_minus (suc n) h = refl
 
--- By sign and magnitude a number is negative exactly where both say so.
-pub negative-whole : (w : Whole) → is_negative (whole_meant w) ≡ (w.negative && ltb 0 w.magnitude)
+-- and it has that sign and that magnitude.
+pub negative_minus : (n : ℕ) → is_negative (minus n) ≡ ltb 0 n
 unfolding is_negative minus
-negative-whole w = go w.negative w.magnitude
-  where
-    go : (b : Bool) (n : ℕ) → is_negative (signed_meant b n) ≡ (b && ltb 0 n)
-    go true zero = refl
-    go true (suc n) = sym (lt-ltb 0 (suc n) (omega arith))
-    go false n = refl
+negative_minus zero = refl
+negative_minus (suc n) = sym (lt-ltb 0 (suc n) (omega arith))
+
+pub abs_minus : (n : ℕ) → nat_abs (minus n) ≡ n
+unfolding minus
+abs_minus zero = refl
+abs_minus (suc n) = refl
 
 -- ---- two numbers leave the same if and only if 2^k divides their difference
 

@@ -7,7 +7,7 @@ use mathlib.Core.List.{List, [], ◌∷◌}
 use lib.ListN.{length, take, drop, get_or, length-take, length-drop, drop_of_length-le, take-append-drop}
 use lib.Seq.{drop-cons, drop-drop}
 use lib.Dec.{leb, ltb, eqb}
-use borrow.Author.Tests.{lt-ltb, le-ltb, leb-true, ltb-true, eqb-true}
+use borrow.Author.Tests.{lt-ltb, le-ltb, le-leb, leb-true, ltb-true, eqb-true}
 use Rattle.std.specs.Char.{digit_value as rank}
 use Rattle.std.specs.Prelude.{Option as CodeOption, Some, None, SomeIff, MatchOption}
 use Rattle.text_lexical.specs.Bytes.{between, digit, hex_digit, binary_digit, every, before, run}
@@ -16,7 +16,7 @@ use Rattle.text_lexical.specs.Promised.{fitting, base_of, is_digit_of, digit_of,
 use Rattle.text_lexical.specs.declared.number.Radix.{Radix}
 use Rattle.text_lexical.specs.declared.number.Radix.TheVariants.{Binary, Decimal, Hex}
 use Rattle.text_lexical.specs.declared.number.Digits.{Digits}
-use Rattle.text_lexical.proofs.Tests.{split, by-test, not-true, each_below, below-each}
+use Rattle.text_lexical.proofs.Tests.{split, by-test, not-true, no_both, between-true, each_below, below-each}
 use Rattle.text_lexical.proofs.Strings.{every_append, every-cons, ends, before-append, part-more}
 use Rattle.text_lexical.proofs.Numbers.{value_from-append}
 
@@ -83,6 +83,18 @@ digit-some radix b d e = by-test (is_digit_of radix b) (λ t. let q : Some d ≡
 pub digit-none : (radix : Radix) (b : ℕ) → None ≡ digit_of radix b → is_digit_of radix b ≡ false
 unfolding digit_of
 digit-none radix b e = not-true (is_digit_of radix b) (λ t. let q : None ≡ Some (digit_value b) = rw (digit_of, t) at e in let z : ◌≡◌ {A = ℕ} 0 1 = cc in omega arith)
+
+-- A decimal digit is one of ten bytes, and its value the byte's number among them.
+pub decimal-some : (b d : ℕ) → Some d ≡ digit_of Decimal b → (48 ≤ b) × (b ≤ 57) × (d ≡ b - 48)
+unfolding digit digit_value
+decimal-some b d e =
+    let (t, q) = digit-some Decimal b d e in
+    let (l, h) = between-true 48 57 b t in
+    (l, h, rw (digit_value, le-leb b 57 h) at q)
+
+pub decimal-none : (b : ℕ) → None ≡ digit_of Decimal b → 48 ≤ b → b ≤ 57 → ⊥
+unfolding digit between
+decimal-none b e l h = no_both (rw (le-leb 48 b l, le-leb b 57 h)) (digit-none Decimal b e)
 
 -- ---- digits at a place of a text, byte by byte
 

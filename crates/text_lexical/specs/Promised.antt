@@ -13,6 +13,7 @@ use Rattle.text_lexical.specs.declared.number.Radix.{Radix}
 use Rattle.text_lexical.specs.declared.number.Radix.TheVariants.{Binary, Decimal, Hex}
 use Rattle.text_lexical.specs.declared.number.Digits.{Digits}
 use Rattle.text_lexical.specs.declared.number.Whole.{Whole}
+use Rattle.text_lexical.specs.declared.number.Whole.TheVariants.{NotNegative, Negative}
 
 -- ---- registers
 
@@ -61,6 +62,10 @@ packed (b ∷ s) = b + 256 * packed s
 unfoldable pub key_of : List ℕ → CodeOption ℕ
 key_of s = elim (leb (length s) 7) [ true ↦ Some (packed s) | false ↦ None ]
 
+-- A byte of a name in lower case, as keys have it; none where no name has the byte.
+unfoldable pub name_byte : ℕ → CodeOption ℕ
+name_byte b = elim (name_part b) [ true ↦ Some (lower b) | false ↦ None ]
+
 -- The key of a name in lower case, if each byte is part of one.
 unfoldable pub name_key : List ℕ → CodeOption ℕ
 name_key s = elim (every name_part s) [ true ↦ key_of (map lower s) | false ↦ None ]
@@ -94,17 +99,14 @@ digits_at s at radix =
       end = at + run (is_digit_of radix) (drop at s);
     }
 
-abbrev pub signed_meant : Bool → ℕ → ℤ
-signed_meant true n = minus n
-signed_meant false n = pos n
-
 abbrev pub whole_meant : Whole → ℤ
-whole_meant w = signed_meant w.negative w.magnitude
+whole_meant (NotNegative n) = pos n
+whole_meant (Negative n) = minus n
 
 -- The one that is read for a number: negative exactly below zero.
 abbrev pub whole_for : ℤ → Whole
-whole_for (pos n) = record { negative = false; magnitude = n }
-whole_for (negsuc n) = record { negative = true; magnitude = suc n }
+whole_for (pos n) = NotNegative n
+whole_for (negsuc n) = Negative (suc n)
 
 -- What a whole number leaves modulo another, from 0 on.
 abbrev pub remainder : ℕ → ℤ → ℕ

@@ -2,7 +2,6 @@
 // in `bytes`.
 ghost use Rattle.std.specs.Prelude.{◌≡◌, [], ◌∷◌, ◌+◌, ◌^◌, ◌≤◌, ◌<◌, length};
 ghost use Rattle.std.proofs.Math.Option.{some};
-ghost use Rattle.text_lexical.specs.Bytes.{lower};
 ghost use Rattle.text_lexical.specs.Names.{named, present};
 ghost use Rattle.text_lexical.specs.Promised.{name_meant, name_number, register_number, name_key};
 ghost use Rattle.text_lexical.specs.Words.{Roomy, with_byte, WordIs, up_to, RegisterWordIs, LettersOf};
@@ -85,26 +84,24 @@ fn two_bytes(first: u8, second: u8) -> RegisterName
     if pair.letter != first {
         return RegisterName::Other;
     }
-    if b'0' <= second {
-        let digit = second - b'0';
-        if digit < pair.digits {
-            return numbered(pair.first + digit);
-        }
+    match crate::number::decimal(second) {
+        Some(digit) if digit < pair.digits => numbered(pair.first + digit),
+        _ if second == pair.other => numbered(pair.number),
+        _ => RegisterName::Other,
     }
-    if second == pair.other {
-        return numbered(pair.number);
-    }
-    RegisterName::Other
 }
 
 // The register that three bytes name: r10 to r15.
 fn three_bytes(first: u8, second: u8, third: u8) -> RegisterName
     ensures { name_meant result ≡ name_number (named present (first ∷ second ∷ third ∷ [])) }
 {
-    if first != b'r' || second != b'1' || !crate::bytes::within(b'0', b'5', third) {
+    if first != b'r' || second != b'1' {
         return RegisterName::Other;
     }
-    numbered(10 + (third - b'0'))
+    match crate::number::decimal(third) {
+        Some(digit) if digit < 6 => numbered(10 + digit),
+        _ => RegisterName::Other,
+    }
 }
 
 // The register that four bytes name: zero.
@@ -182,13 +179,13 @@ struct Packed {
 const UNPACKED: Packed = Packed { sum: 0, scale: 1 };
 
 impl Packed {
-    // A byte more, in lower case.
+    // A byte more.
     fn with(self, b: u8) -> Packed
         requires { Roomy self }
-        ensures { result ≡ with_byte self (lower b) }
+        ensures { result ≡ with_byte self b }
     {
         Packed {
-            sum: self.sum + u64::from(crate::bytes::to_lower(b)) * self.scale,
+            sum: self.sum + u64::from(b) * self.scale,
             scale: self.scale * BYTE,
         }
     }
@@ -211,13 +208,12 @@ pub fn lower_word(text: &[u8], at: usize) -> Word
 {
     let mut packed = UNPACKED;
     for i in at..text.len() {
-        let b = text[i];
-        if !crate::bytes::is_name_part(b) {
+        let Some(b) = crate::bytes::name_byte(text[i]) else {
             return Word {
                 key: Some(packed.key()),
                 end: i,
             };
-        }
+        };
         if KEY_BYTES <= i - at {
             return Word {
                 key: None,

@@ -1,6 +1,6 @@
 // Numbers: digits at a place of a text, their value where it fits 64 bits, whole numbers, and their residues. The place is asked to be within the
 // text, as in `bytes`.
-ghost use Rattle.std.specs.Prelude.{◌≡◌, suc, ◌+◌, ◌*◌, ◌%◌, ◌≤◌, length, None, MatchOption};
+ghost use Rattle.std.specs.Prelude.{◌≡◌, suc, ◌+◌, ◌*◌, ◌%◌, ◌≤◌, length, pos, nat_abs, None, MatchOption};
 ghost use Rattle.text_lexical.specs.Promised.{base_of, digit_of, digits_at, fitting, whole_meant, whole_for, Reduced};
 ghost use Rattle.text_lexical.specs.Numbers.{minus, is_negative};
 
@@ -19,12 +19,21 @@ pub struct Digits {
     pub end: usize,
 }
 
-// A whole number by its sign and its magnitude; -0 is 0. No type of 64 bits has both 2^64 - 1 and -2^63, and one of 128, by its alignment, would
-// make each instruction a third larger.
-#[derive(Clone, Copy, Default)]
-pub struct Whole {
-    pub negative: bool,
-    pub magnitude: u64,
+// A whole number by its sign and its magnitude. `Negative(0)` means 0 too, but what is read or decoded is settled: its 0 has no sign. No type of
+// 64 bits has both 2^64 - 1 and -2^63, and one of 128, by its alignment, would make each instruction a third larger. The sign is no `bool`
+// beside the magnitude: a number is copied at every line, and the padding after a `bool` would be copied in pieces.
+#[derive(Clone, Copy)]
+pub enum Whole {
+    NotNegative(u64),
+    Negative(u64),
+}
+
+impl Default for Whole {
+    fn default() -> Whole
+        ensures { result ≡ whole_for (pos 0) }
+    {
+        Whole::NotNegative(0)
+    }
 }
 
 impl Radix {
@@ -41,6 +50,14 @@ impl Radix {
     {
         char::from(b).to_digit(self.base())
     }
+}
+
+// The value of a decimal digit, as a byte: so are the numbers of registers, in whose names digits stand.
+pub(crate) fn decimal(b: u8) -> Option<u8>
+    ensures { result ≡ digit_of Radix.Decimal b }
+{
+    let digit = Radix::Decimal.digit(b)?;
+    Some(digit as u8)
 }
 
 // The value of digits with one more, where it fits. The compiler makes one multiplication with a test of it, and no division.
@@ -82,20 +99,35 @@ fn wrapped(n: u64, most: u64) -> u64
 
 impl Whole {
     // A number that is spelled with `-`. -0 is 0, which has no sign.
+    #[tactic(auto, using(crate::proofs::Numbers::whole_minus), unfolding(crate::specs::Numbers::minus))]
     pub fn minus(magnitude: u64) -> Whole
         ensures { result ≡ whole_for (minus magnitude) }
     {
-        Whole {
-            negative: 0 < magnitude,
-            magnitude,
+        match magnitude {
+            0 => Whole::NotNegative(0),
+            _ => Whole::Negative(magnitude),
         }
     }
 
     // Whether the number is below 0, as no 0 is, whatever its sign.
+    #[tactic(auto, using(crate::proofs::Numbers::negative_minus), unfolding(crate::specs::Numbers::is_negative))]
     pub fn is_negative(self) -> bool
         ensures { result ≡ is_negative (whole_meant self) }
     {
-        self.negative && 0 < self.magnitude
+        match self {
+            Whole::NotNegative(_) => false,
+            Whole::Negative(magnitude) => 0 < magnitude,
+        }
+    }
+
+    // The number without its sign.
+    #[tactic(auto, using(crate::proofs::Numbers::abs_minus))]
+    pub fn magnitude(self) -> u64
+        ensures { result ≡ nat_abs (whole_meant self) }
+    {
+        match self {
+            Whole::NotNegative(magnitude) | Whole::Negative(magnitude) => magnitude,
+        }
     }
 
     // What the number leaves modulo `most` + 1: its low bits, where `most` is so many ones.
@@ -103,8 +135,8 @@ impl Whole {
         ensures { Reduced (suc most) (whole_meant self) result }
     {
         if self.is_negative() {
-            return most - wrapped(self.magnitude - 1, most);
+            return most - wrapped(self.magnitude() - 1, most);
         }
-        wrapped(self.magnitude, most)
+        wrapped(self.magnitude(), most)
     }
 }

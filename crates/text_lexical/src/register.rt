@@ -5,7 +5,7 @@ ghost use Rattle.text_lexical.specs.Promised.{index_of};
 // How many there are.
 pub const REGISTERS: u8 = 16;
 
-#[derive(Clone, Copy, PartialEq, Eq)]
+#[derive(Clone, Copy, PartialEq)]
 pub enum Register {
     R0,
     R1,

@@ -5,7 +5,7 @@ use Prim.Native.Nat.{ℕ, zero, suc, ◌+◌, ◌/◌, ◌%◌, ◌*◌, ◌^◌
 use native.Mathlib.Omega.{arith}
 use lib.ListN.{length, take, drop, length-append, take-append-drop}
 use borrow.Author.Tests.{lt-ltb, le-ltb}
-use Rattle.text_lexical.specs.Numbers.{minus, decimal_in, decimal, signed_decimal}
+use Rattle.text_lexical.specs.Numbers.{decimal_in, decimal}
 use native.Mathlib.Nat.{mod-eq_of_lt, pow-suc}
 use Rattle.std.specs.Fmt.{decimal as std_decimal}
 use Rattle.std.proofs.lemmas.Fmt.{decimal_by_steps}
@@ -37,18 +37,6 @@ decimal-more n h =
 -- There is one digit more than a tenth of the number has.
 pub decimal-longer : (n : ℕ) → 10 ≤ n → length (decimal n) ≡ length (decimal (n / 10)) + 1
 decimal-longer n h = ap length (decimal-more n h) ∙ length-append (decimal (n / 10)) _
-
--- ---- the sign
-
-pub signed-minus : (n : ℕ) → 0 < n → signed_decimal (minus n) ≡ 45 ∷ decimal n
-unfolding minus signed_decimal
-signed-minus zero h = absurd (omega arith)
-signed-minus (suc n) h = refl
-
-pub signed-zero : (n : ℕ) → n ≤ 0 → signed_decimal (minus n) ≡ decimal n
-unfolding minus signed_decimal
-signed-zero zero h = refl
-signed-zero (suc n) h = absurd (omega arith)
 
 -- ---- as the library prints
 

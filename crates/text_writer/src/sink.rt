@@ -29,7 +29,7 @@ pub trait Sink {
 }
 
 // How many digits a number has.
-pub fn decimal_length(n: u64) -> usize
+fn decimal_length(n: u64) -> usize
     ensures value { result ≡ length (decimal n) }
     ensures bound { result ≤ 20 }
 {

@@ -14,23 +14,23 @@ abbrev past : Token
 past = record { kind = Identifier; start = 0; length = 0 }
 
 pub returns-then-line-ne3 : goal.returns-then-line-ne3
-returns-then-line-ne3 c = sym (config-count (settings_meant c.args.config) (record_meant c.args.source.now c.args.line) c.if-line-ne3.true)
+returns-then-line-ne3 c = sym (config-count (settings_meant c.args.config) (record_meant c.args.source.now c.args.line.now) c.if-line-ne3.true)
 
 pub returns-in_default : goal.returns-in_default
-returns-in_default c = sym (config-key (settings_meant c.args.config) c.args.source.now c.args.line past c.requires.places c.if-line-ne3.false c.in_default.not-Identifier)
+returns-in_default c = sym (config-key (settings_meant c.args.config) c.args.source.now c.args.line.now past c.requires.places c.if-line-ne3.false c.in_default.not-Identifier)
 
 pub returns-in_err-whole : goal.returns-in_err-whole
 returns-in_err-whole c =
     let passed : c.from_residual.result ≡ Err c.in_err-whole.field-0.0 = search rules in
     rw passed
-    (sym (config-number (settings_meant c.args.config) c.args.source.now c.args.line past c.requires.places c.if-line-ne3.false c.in-Identifier.is _
+    (sym (config-number (settings_meant c.args.config) c.args.source.now c.args.line.now past c.requires.places c.if-line-ne3.false c.in-Identifier.is _
     (sym (ap extract_meant c.in_err-whole.ensures))))
 
 pub returns : goal.returns
 returns c =
-    let t = get_or c.args.line.tokens 1 past in
+    let t = get_or c.args.line.now.tokens 1 past in
     let n : t.start + t.length - t.start ≡ t.length = omega arith in
     c.set_field.ensures
     ∙ ap₂ (λ (n v : ℕ). checked (set_field (settings_meant c.args.config) (take n (drop t.start c.args.source.now)) v)) n (c.residue.ensures.at_width 8 refl)
-    ∙ sym (config-sets (settings_meant c.args.config) c.args.source.now c.args.line past c.requires.places c.if-line-ne3.false c.in-Identifier.is
+    ∙ sym (config-sets (settings_meant c.args.config) c.args.source.now c.args.line.now past c.requires.places c.if-line-ne3.false c.in-Identifier.is
     (whole_meant c.in_ok-whole.whole) (sym (ap extract_meant c.in_ok-whole.ensures)))

@@ -1,25 +1,35 @@
 -- `image_assembler::assembler::walk` meets its contract.
+use Rattle.std.proofs.Common.{rules, ◌≡◌, Err}
 use Rattle.text_lexical.specs.Names.{present}
 use Rattle.text.proofs.NameSets.{present-naming}
-use Rattle.image_assembler.proofs.Walks.{walking-begin, walking-reads, walking-enterable, walking_on, nearer, walking-ends}
+use Rattle.image_assembler.proofs.Walks.{walks-refused, walking-begin, walking-label, walking-ends, walking-enterable, walking_ended, walking_on, nearer}
 use Rattle.image_assembler.proofs.assembler.walk.Goals as goal
 
-pub loop-at-init : goal.loop-at-init
-loop-at-init c = walking-begin present c.requires c.begin-next.ensures
+pub returns-in_err-cursor : goal.returns-in_err-cursor
+returns-in_err-cursor c =
+    let passed : c.from_residual.result ≡ Err c.in_err-cursor.field-0.0 = search rules in
+    rw passed (walks-refused c.requires present c.in_err-cursor.ensures)
 
-pub enter-entered-requires-clause-tree : goal.enter-entered-requires-clause-tree
-enter-entered-requires-clause-tree c = (walking-reads present-naming c.loop-at.invariant c.in-AtLabel.ensures).linked
-
-pub enter-entered-requires-clause-enterable : goal.enter-entered-requires-clause-enterable
-enter-entered-requires-clause-enterable c = walking-enterable (walking-reads present-naming c.loop-at.invariant c.in-AtLabel.ensures)
-
-pub loop-at-preserved : goal.loop-at-preserved
-loop-at-preserved c =
-    let e = c.enter-entered.ensures in
-    walking_on (walking-reads present-naming c.loop-at.invariant c.in-AtLabel.ensures) e.enters e.tree_after e.counted e.lent c.go_on-next.ensures
-
-pub loop-at-smaller : goal.loop-at-smaller
-loop-at-smaller c = nearer c.in-AtLabel.ensures c.go_on-next.ensures
+pub loop-verdict-init : goal.loop-verdict-init
+loop-verdict-init c = walking-begin c.requires present c.in_ok-cursor.ensures
 
 pub returns-in-Ended : goal.returns-in-Ended
-returns-in-Ended c = walking-ends (walking-reads present-naming c.loop-at.invariant c.in-Ended.ensures)
+returns-in-Ended c = walking-ends present-naming c.loop-verdict.invariant c.in-Ended.ensures
+
+pub enter-entered-requires-clause-enterable : goal.enter-entered-requires-clause-enterable
+enter-entered-requires-clause-enterable c = walking-enterable (walking-label present-naming c.loop-verdict.invariant c.in-AtLabel.ensures)
+
+pub returns-in-Ended-go_on : goal.returns-in-Ended-go_on
+returns-in-Ended-go_on c =
+    let e = c.enter-entered.ensures in
+    walking_ended (walking-label present-naming c.loop-verdict.invariant c.in-AtLabel.ensures) e.enters e.tree_after e.counted e.lent c.go_on.ensures c.in-Ended-go_on.is
+
+pub loop-verdict-preserved : goal.loop-verdict-preserved
+loop-verdict-preserved c =
+    let e = c.enter-entered.ensures in
+    walking_on (walking-label present-naming c.loop-verdict.invariant c.in-AtLabel.ensures) e.enters e.tree_after e.counted e.lent c.go_on.ensures c.in-From.is
+
+pub loop-verdict-smaller : goal.loop-verdict-smaller
+loop-verdict-smaller c =
+    let e = c.enter-entered.ensures in
+    nearer (walking-label present-naming c.loop-verdict.invariant c.in-AtLabel.ensures) e.enters e.tree_after e.counted e.lent c.go_on.ensures c.in-From.is c.in-AtLabel.ensures

@@ -3,8 +3,8 @@ use Rattle.text_lexical.specs.Names.{present}
 use Rattle.image_assembler.proofs.Walks.{Walking, left}
 use Rattle.image_assembler.proofs.assembler.walk.Given as goal
 
-abbrev pub invariant-loop-at : goal.invariant-loop-at
-invariant-loop-at l = Walking present l.fn.labels l.labels l.next
+abbrev pub invariant-loop-verdict : goal.invariant-loop-verdict
+invariant-loop-verdict l = Walking present l.fn.labels l.labels l.cursor
 
-abbrev pub decreases-loop-at : goal.decreases-loop-at
-decreases-loop-at l = left l.source l.next
+abbrev pub decreases-loop-verdict : goal.decreases-loop-verdict
+decreases-loop-verdict l = left l.source l.cursor

@@ -9,9 +9,10 @@ pub returns-then-clean-source : goal.returns-then-clean-source
 returns-then-clean-source c =
     let s = c.args.source.now in
     let clean : c.ascii_end-clean.result ≡ run ascii s = c.ascii_end-clean.ensures ∙ omega arith in
-    rw c.refused_at.ensures (begins-high c.requires (rw (← clean) c.if-clean-source.true) (c.line_number-line.ensures ∙ ap (λ n. length (lines (take n s))) clean))
+    begins-high s (rw (← clean) c.if-clean-source.true) (c.line_number.ensures ∙ ap (λ n. length (lines (take n s))) clean)
 
 pub returns : goal.returns
 returns c =
-    let clean : c.ascii_end-clean.result ≡ run ascii c.args.source.now = c.ascii_end-clean.ensures ∙ omega arith in
-    begins-first c.requires c.begin.result c.begin.ensures (rw (← clean) c.if-clean-source.false)
+    let s = c.args.source.now in
+    let clean : c.ascii_end-clean.result ≡ run ascii s = c.ascii_end-clean.ensures ∙ omega arith in
+    begins-first s c.begin.result c.begin.ensures (rw (← clean) c.if-clean-source.false)

@@ -3,7 +3,7 @@ use Rattle.std.proofs.Common.{rules, arith, ◌≡◌, sym, ◌∙◌, ◌+◌}
 use Rattle.std.specs.Prelude.{Err}
 use lib.ListN.{get_or, drop}
 use Rattle.instruction.specs.Table.{places}
-use Rattle.instruction.specs.Promised.{form_meant, no_number_lem}
+use Rattle.instruction.specs.Promised.{form_meant}
 use Rattle.instruction.specs.declared.form.Operand.TheVariants.{RegisterComma}
 use Rattle.instruction_operands.proofs.Sources.{MarkAhead, up-begin, next-up, room-ahead, register-next, number-next, operand-refused, mark-none, mark-next, mark-refused, up-end}
 use Rattle.instruction_operands.proofs.source.read_operands.Goals as goal
@@ -11,8 +11,7 @@ use Rattle.instruction_operands.proofs.source.read_operands.Goals.{then-is_numbe
 
 pub loop-operand-init : goal.loop-operand-init
 loop-operand-init g c =
-    let e : c.default-number.result ≡ no_number_lem = λ j. record { negative = c.default-number.ensures.0 j; magnitude = c.default-number.ensures.1 j } in
-    rw e (up-begin g.met.S.OperandSource.laws (form_meant c.args.form) c.operands-operand-items.ensures)
+    rw c.default-number.ensures (up-begin g.met.S.OperandSource.laws (form_meant c.args.form) c.operands-operand-items.ensures)
 
 pub returns-in_err-number : goal.returns-in_err-number
 returns-in_err-number g c =

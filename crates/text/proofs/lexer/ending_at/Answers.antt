@@ -1,13 +1,10 @@
 -- `text::lexer::ending_at` meets its contract.
-use Rattle.std.proofs.Common.{arith, ap, ◌∙◌, Some}
+use Rattle.std.proofs.Common.{arith, ap, sym, ◌∙◌, Some}
 use Rattle.text.proofs.Endings.{line-here, comment-here, other-here}
 use Rattle.text.proofs.lexer.ending_at.Goals as goal
 
 pub returns-then-text-stop : goal.returns-then-text-stop
 returns-then-text-stop c = line-here c.args.text.now c.args.at c.run_end-stop.result c.requires c.run_end-stop.ensures (λ m. absurd (omega arith))
-
-pub returns-in-10 : goal.returns-in-10
-returns-in-10 c = line-here c.args.text.now c.args.at c.run_end-stop.result c.requires c.run_end-stop.ensures (λ m. c.in-10.is)
 
 pub returns-in-35 : goal.returns-in-35
 returns-in-35 c =
@@ -15,4 +12,8 @@ returns-in-35 c =
 
 pub returns-in_default : goal.returns-in_default
 returns-in_default c =
-    other-here c.args.text.now c.args.at c.run_end-stop.result c.requires c.run_end-stop.ensures c.if-text-stop.false (λ e. omega arith) (λ e. omega arith)
+    other-here c.args.text.now c.args.at c.run_end-stop.result c.requires c.run_end-stop.ensures c.if-text-stop.false (sym c.has.ensures ∙ c.if-has.true) (λ e. omega arith)
+
+pub returns-in_default-2 : goal.returns-in_default-2
+returns-in_default-2 c =
+    line-here c.args.text.now c.args.at c.run_end-stop.result c.requires c.run_end-stop.ensures (λ m. sym c.has.ensures ∙ c.if-has.false)

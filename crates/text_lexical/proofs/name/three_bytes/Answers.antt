@@ -1,9 +1,10 @@
 -- `text_lexical::name::three_bytes` meets its contract.
 use Rattle.std.proofs.Common.{◌≡◌, ◌+◌, ◌-◌, ◌∙◌, sym, arith}
-use Rattle.text_lexical.proofs.Tests.{no_both, between-true}
+use Rattle.text_lexical.proofs.Tests.{between-true}
+use Rattle.text_lexical.proofs.Values.{decimal-some, decimal-none}
 use Rattle.text_lexical.proofs.Naming.{no-three, three-named}
 use Rattle.text_lexical.proofs.name.three_bytes.Goals as goal
-use Rattle.text_lexical.proofs.name.three_bytes.Goals.{then-first-ne114-via-then-first-ne114, then-first-ne114-via-else-first-ne114+then-second-ne49, then-first-ne114-via-else-first-ne114+else-second-ne49+then-not-within}
+use Rattle.text_lexical.proofs.name.three_bytes.Goals.{then-first-ne114-via-then-first-ne114, then-first-ne114-via-else-first-ne114+then-second-ne49}
 
 pub returns-then-first-ne114 : goal.returns-then-first-ne114
 returns-then-first-ne114 c =
@@ -11,14 +12,21 @@ returns-then-first-ne114 c =
     no-three a.first a.second a.third (λ x y z. elim c.then-first-ne114.branch [
       | then-first-ne114-via-then-first-ne114 w ↦ w.if-first-ne114.true x
       | then-first-ne114-via-else-first-ne114+then-second-ne49 w ↦ w.if-second-ne49.true y
-      | then-first-ne114-via-else-first-ne114+else-second-ne49+then-not-within w ↦ no_both z (sym w.within.ensures ∙ w.if-not-within.true)
     ])
 
-pub overflow_sub-third : goal.overflow_sub-third
-overflow_sub-third c = omega (arith, between-true 48 53 c.args.third (sym c.within.ensures ∙ c.if-not-within.false))
+pub returns-in-Some : goal.returns-in-Some
+returns-in-Some c =
+    let (l, h, e) = decimal-some c.args.third c.in-Some.digit (sym c.in-Some.is ∙ c.decimal.ensures) in
+    let n : 10 + c.in-Some.digit ≡ c.args.third - 38 = omega arith in
+    c.numbered.ensures ∙ rw (c.if-first-ne114.false, c.if-second-ne49.false, n) (three-named c.args.third l (omega arith))
 
-pub returns : goal.returns
-returns c =
-    let (l, h) = between-true 48 53 c.args.third (sym c.within.ensures ∙ c.if-not-within.false) in
-    let e : 10 + (c.args.third - 48) ≡ c.args.third - 38 = omega arith in
-    c.numbered.ensures ∙ rw (c.if-first-ne114.false, c.if-second-ne49.false, e) (three-named c.args.third l h)
+pub returns-in_default : goal.returns-in_default
+returns-in_default c =
+    let (l, h, e) = decimal-some c.args.third c.in-Some.digit (sym c.in-Some.is ∙ c.decimal.ensures) in
+    no-three c.args.first c.args.second c.args.third (λ x y z. omega (arith, between-true 48 53 c.args.third z))
+
+pub returns-in_default-2 : goal.returns-in_default-2
+returns-in_default-2 c =
+    no-three c.args.first c.args.second c.args.third (λ x y z.
+    let (l, h) = between-true 48 53 c.args.third z in
+    decimal-none c.args.third (sym c.in_default.is ∙ c.decimal.ensures) l (omega arith))

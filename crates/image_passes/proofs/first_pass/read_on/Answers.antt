@@ -1,5 +1,5 @@
 use Rattle.image_passes.proofs.Scanning.{scans_label, scans_on}
-use Rattle.image_passes.proofs.first_pass.scan.Goals as goal
+use Rattle.image_passes.proofs.first_pass.read_on.Goals as goal
 
 pub returns-in-Some : goal.returns-in-Some
 returns-in-Some c = scans_label c.loop-length.invariant c.read_line-read.ensures c.rest_of-rest.ensures c.in-Some.is c.at_label.ensures
