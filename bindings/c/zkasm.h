@@ -60,7 +60,7 @@ enum zkasm_refusal {
     ZKASM_OPENING_EXPECTED = 20,  /* '(' is expected */
     ZKASM_CLOSING_EXPECTED = 21,  /* ')' is expected */
     ZKASM_TOO_MANY_WORDS = 22,    /* a 32,769th instruction */
-    /* zkasm_assemble, after the last line */
+    /* zkasm_assemble, after the last line, and after 33 and 34 */
     ZKASM_IMAGE_TOO_SHORT = 23, /* the image buffer is too short: answer.needed; no line */
     /* zkasm_open and zkasm_list */
     ZKASM_HEADER_CUT = 24,    /* the image has fewer than 32 bytes */
@@ -72,7 +72,10 @@ enum zkasm_refusal {
     ZKASM_UNUSUAL_HEADER = 29, /* flags, entry, data, bss or stack size is not as zkasm_assemble writes it, or over 32,768 words */
     ZKASM_UNKNOWN_OPCODE = 30, /* a word with an unknown opcode: answer.index */
     ZKASM_UNUSED_BIT = 31,     /* a word with an unused bit set: answer.index */
-    ZKASM_TEXT_TOO_SHORT = 32  /* the text buffer is too short: answer.needed */
+    ZKASM_TEXT_TOO_SHORT = 32, /* the text buffer is too short: answer.needed */
+    /* zkasm_assemble, after the last line and before 23: the first line whose target is one of these; line */
+    ZKASM_NO_SUCH_LABEL = 33, /* the last operand of jal or of a branch names a label that the source does not have */
+    ZKASM_LABEL_TOO_FAR = 34  /* a branch's label is outside -65,536..65,535 bytes from its own address */
 };
 
 /* An entry of the label table. */
@@ -93,7 +96,8 @@ typedef struct zkasm_assembled {
     uint64_t needed;     /* 23: the length that the image buffer must have */
 } zkasm_assembled;
 
-/* Assembles a source.
+/* Assembles a source. The last operand of jal and of the six branches is a number or a label anywhere in the source, which means the bytes
+ * from the instruction's own address to the label's.
  *   source, source_length   the text, any bytes; it need not end in a newline or in 0
  *   table, table_length     room for labels: one entry each, in the order of the source. Entries past answer->labels keep their values
  *   image, image_length     room for the image. Accepted: its first 32 + 4 * words bytes are written, the header and then a word each,

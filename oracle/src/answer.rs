@@ -5,6 +5,7 @@ use zkir_assembler::error::AssemblerError;
 use zkir_spec::{Config, ConfigError, Program};
 
 use crate::limits::{MOST_SOURCE_BYTES, MOST_WORDS};
+use crate::targets::Targeted;
 
 #[derive(Clone, Debug, PartialEq, Eq)]
 pub enum Answer {
@@ -57,24 +58,40 @@ impl Answer {
     }
 }
 
-/// The reference's answer. The reference knows none of document 01's added limits, so it is asked
-/// only where they do not matter.
+/// The reference's answer, with labels as jump targets. The reference knows none of document 01's
+/// added limits, so it is asked only where they do not matter.
 pub fn answer(source: &[u8]) -> Answer {
     assert!(source.len() <= MOST_SOURCE_BYTES, "the source is too long");
-    let text = ascii(source).expect("the source is ASCII");
-    let answer = ask(text);
+    let targeted = Targeted::new(ascii(source).expect("the source is ASCII"));
+    let lines = ask(targeted.lines());
     assert!(
-        words_before(text, &answer) <= MOST_WORDS,
+        words_before(targeted.lines(), &lines) <= MOST_WORDS,
         "the source has too many instructions"
     );
-    answer
+    targeted.settled(lines)
+}
+
+/// A refusal that needs no length.
+pub(crate) fn refusal(
+    number: u32,
+    rust_line: usize,
+    true_line: usize,
+    labels: Vec<Label>,
+) -> Answer {
+    Answer::Refused {
+        number,
+        rust_line,
+        true_line,
+        labels,
+        needed: 0,
+    }
 }
 
 pub(crate) fn ascii(source: &[u8]) -> Option<&str> {
     std::str::from_utf8(source).ok().filter(|s| s.is_ascii())
 }
 
-/// The reference's answer, whatever the added limits say.
+/// The reference's own answer, whatever the added limits say.
 pub(crate) fn ask(text: &str) -> Answer {
     match assemble(text) {
         Ok(program) => accepted(text, &program),
@@ -130,13 +147,8 @@ fn refused(text: &str, error: &AssemblerError) -> Answer {
     let fault = ends.partition_point(|end| assemble(&text[..*end]).is_ok());
     let true_line = fault + 1;
     let line = start_of(&ends, true_line)..ends[fault];
-    Answer::Refused {
-        number,
-        rust_line,
-        true_line,
-        labels: placed(text, entered_before(text, line, number)),
-        needed: 0,
-    }
+    let labels = placed(text, entered_before(text, line, number));
+    refusal(number, rust_line, true_line, labels)
 }
 
 /// The labels entered before the fault in a line: those of the lines above it, and its own if the

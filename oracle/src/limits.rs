@@ -1,6 +1,7 @@
 //! Document 01's added limits, laid over the reference's answer.
 
-use crate::answer::{ascii, ask, line_ends, words_before, words_in, Answer, Label};
+use crate::answer::{ascii, ask, line_ends, refusal, words_before, words_in, Answer, Label};
+use crate::targets::Targeted;
 
 pub const MOST_SOURCE_BYTES: usize = 1_048_576;
 pub const MOST_WORDS: usize = 32_768;
@@ -23,9 +24,10 @@ impl<'s> Asked<'s> {
     pub fn new(source: &'s [u8]) -> Self {
         let (answer, many) = match before_any_line(source) {
             Ok(text) => {
-                let answer = ask(text);
-                let many = line_of_excess(text, &answer);
-                (answer, many)
+                let targeted = Targeted::new(text);
+                let lines = ask(targeted.lines());
+                let many = line_of_excess(targeted.lines(), &lines);
+                (targeted.settled(lines), many)
             }
             Err(refused) => (refused, None),
         };
@@ -49,7 +51,7 @@ impl<'s> Asked<'s> {
     pub fn within(&self, table: usize, room: usize) -> Answer {
         // A label that the reference enters stands on a line without 3 and 4, and 5 comes before
         // the line's other faults. An instruction that the reference takes has no faults, so 22 is
-        // left.
+        // left. What an answer has after its last line, 33 or 34, comes after both, and before 23.
         let labels = self.answer.labels();
         let full = labels.get(table).map(|label| self.line_of(label));
         match (full, self.many) {
@@ -113,14 +115,4 @@ fn line_of_excess(text: &str, answer: &Answer) -> Option<usize> {
         Answer::Refused { true_line, .. } => &ends[..true_line - 1],
     };
     Some(1 + taken.partition_point(|end| words_in(&text[..*end]) <= MOST_WORDS))
-}
-
-fn refusal(number: u32, rust_line: usize, true_line: usize, labels: Vec<Label>) -> Answer {
-    Answer::Refused {
-        number,
-        rust_line,
-        true_line,
-        labels,
-        needed: 0,
-    }
 }

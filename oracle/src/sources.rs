@@ -33,6 +33,9 @@ pub(crate) fn sources() -> Vec<Vec<u8>> {
     all.extend(every_setting());
     all.extend(every_byte());
     all.extend(every_short_line());
+    all.extend(every_target());
+    all.extend(far_targets());
+    all.extend(TARGETS.iter().map(|source| source.to_vec()));
     for kind in KINDS {
         all.extend(SEEDS.map(|seed| gen::source(kind, seed)));
     }
@@ -242,6 +245,45 @@ fn every_byte() -> Vec<Vec<u8>> {
 fn every_short_line() -> Vec<Vec<u8>> {
     let lines = |tokens| (0..gen::short_lines(tokens)).map(move |at| gen::short_line(tokens, at));
     lines(1).chain(lines(2)).collect()
+}
+
+/// For each mnemonic with a number a name in its place: the label stands on the line itself, before
+/// it, behind it, in another case, or nowhere.
+fn every_target() -> Vec<Vec<u8>> {
+    let mut sources = Vec::new();
+    for row in ROWS {
+        if !row.form.places().contains(&Place::Number) {
+            continue;
+        }
+        let line = plain(&row, ["r9", "r4", "r13"], "to");
+        sources.push(format!("to: {line}"));
+        sources.push(format!("to: ecall\necall\n{line}\necall\n"));
+        sources.push(format!("ecall\n{line}\nebreak\necall\nto: ecall\n"));
+        sources.push(format!("ecall\n{line}\nTo: ecall\n"));
+        sources.push(format!("too:\nt:\n{line}"));
+    }
+    sources.into_iter().map(String::into_bytes).collect()
+}
+
+/// The words between a label and the instruction that names it: as many as a branch goes over, and
+/// one more, either way.
+fn far_targets() -> Vec<Vec<u8>> {
+    let mut sources = Vec::new();
+    for row in ROWS {
+        if !matches!(row.form, Form::Branch | Form::Jump) {
+            continue;
+        }
+        let line = plain(&row, ["r9", "r4", "r13"], "far");
+        for words in [16_382, 16_383] {
+            let between = "ecall\n".repeat(words);
+            sources.push(format!("{line}\n{between}far: ebreak"));
+            sources.push(format!("far: ebreak\n{between}{line}\n"));
+        }
+        let between = "ecall\n".repeat(16_384);
+        sources.push(format!("ebreak\nfar:\n{between}\n{line}\nebreak"));
+        sources.push(format!("far: ebreak\n{between}{line}\n"));
+    }
+    sources.into_iter().map(String::into_bytes).collect()
 }
 
 /// Chosen sources: lines and their ends, labels, settings, directives, long lines.
@@ -541,4 +583,93 @@ const LINES: &[&[u8]] = &[
     b"((((((((((((((((((((",
     b"1 2 3 4 5 6 7 8 9 10 11 12 13 14 15 16 17 18 19 20",
     b"add add add add add add add add add add add add add add",
+];
+
+/// Chosen sources with labels as jump targets.
+const TARGETS: &[&[u8]] = &[
+    // Where a target may stand, and how its line is spelled.
+    b"x: jal r1,x",
+    b"x:jal r1,x#x",
+    b"  x : jal\tr1 , x \t# jal r1, y\r\n",
+    b"x: JAL r1, x",
+    b"x: Jal r1, X\nX:",
+    b"x: jal r1, x\x0b",
+    b"x: jal r1,\x0bx",
+    b"x: jal r1, x\rx",
+    b"jal r1, a_very_long_label_name_\na_very_long_label_name_: ecall",
+    b"jal r1, _\n_:",
+    b"jal r1, r16\nr16:",
+    b"jal r1, R1\nR1:",
+    b"jal r1, s2\ns2: ecall",
+    b"jal r1, a6\na6: ecall",
+    b"jal r1, jal\njal: jal r2, jal",
+    b"jal r1, ecall\necall: ecall",
+    b"jal r1, limb_bits\nlimb_bits:\n.config limb_bits 24",
+    b"config: jal r1, config",
+    // Where none may stand, or what is none.
+    b"jal x, x\nx:",
+    b"jal r1 x\nx:",
+    b"jal r1 5x\nx:",
+    b"jal r1 0x\nx:",
+    b"jal r1, 5x\nx:",
+    b"jal r1, 0x\nx:",
+    b"jal r1, -x\nx:",
+    b"jal r1, x5\nx5:",
+    b"jal r1, x.y\nx:",
+    b"jal r1, x x\nx:",
+    b"jal r1, x:\nx:",
+    b"jal r1, x,\nx:",
+    b"jal r1, (x)\nx:",
+    b"jal r1, x + 4\nx:",
+    b"jal r1, .x\nx:",
+    b"jal r1, r1\nx:",
+    b"jal r1, sp\nx:",
+    b"jal r1, a5\nx:",
+    b"jal r1, ,\nx:",
+    b"jal r1, $\nx:",
+    b"jal x\nx:",
+    b"jal r1,\nx:",
+    b"jal a5, x\nx:",
+    b"jal r1: x\nx:",
+    b"beq x, r1, x\nx:",
+    b"beq r1, x, x\nx:",
+    b"beq r1, x, 4\nx:",
+    b"beq r1, a5, x\nx:",
+    b"beq r1, r2 x, x\nx:",
+    b"beq r1, r2, x, x\nx:",
+    b"beq r1, r2, r3\nx:",
+    b"beq r1, r2\nx:",
+    b"beqx r1, r2, x\nx:",
+    b"beqz r1, x\nx:",
+    b"j x\nx:",
+    b"lw r1, x(r2)\nx:",
+    b"sw r1, x(r2)\nx:",
+    b".jal r1, x",
+    b".text jal r1, x",
+    b"x: .jal r1, x",
+    b".config limb_bits x\nx:",
+    b"addi r1, r2, x\nx:",
+    // Which address is meant.
+    b"a: jal r1, b\nb: jal r1, a",
+    b"a:\nb:\nc: bne r1, r2, a\nbne r1, r2, b\nbne r1, r2, c",
+    b"jal r1, end\n\n# c\n.text\n.config limb_bits 24\necall\nend:",
+    b"jal r1, a\nab: ecall\na: ecall\nA: ecall\n_a: ecall",
+    b"jal r1, ab\nab: ecall\na: ecall\nabc: ecall",
+    b"a: ecall\nbeq r1, r2, a\nbeq r1, r2, -4\nbeq r1, r2, 0",
+    b"ecall\nblt r1, r2, last\nbge r1, r2, last\nlast:",
+    // Which refusal comes first.
+    b"jal r1, x",
+    b"jal r1, x\njal r1, y\n",
+    b"jal r1, x\njal r1, y\nx:",
+    b"jal r1, y\njal r1, x\nx:",
+    b"a:\n\njal r1, x # c\n\nb:",
+    b"jal r1, x\nbogus",
+    b"jal r1, x\n$",
+    b"jal r1, x\na:\na:",
+    b"jal r1, x\n.config limb_bits 15",
+    b"jal r1, x\naddi r1, r2, x\nx:",
+    b"bogus\njal r1, x",
+    b"x: jal r1, x\nx: jal r1, x",
+    b"x: jal r1, y\nx:",
+    b"y: ecall\nx: jal r1, z",
 ];

@@ -15,6 +15,7 @@ use crate::isa::{Form, Place, Row, REGISTERS, ROWS};
 use crate::list::escape;
 use crate::model::{line_of, unused_bits};
 use crate::sources::{plain, sources};
+use crate::targets::Targeted;
 use crate::tokens::content;
 
 /// The seed of the random words, and how many there are.
@@ -69,14 +70,19 @@ fn write_answer(out: &mut String, line: &str) {
     if content(line).starts_with('.') {
         return;
     }
-    let answer = answer(line.as_bytes());
+    // Of a label that the instruction names the line alone tells where it stands.
+    let targeted = Targeted::new(line);
+    let answer = answer(targeted.lines().as_bytes());
     // A label and its colon stand before the mnemonic.
     let place = 2 * answer.labels().len();
     match &answer {
         Answer::Accepted { image, words, .. } if *words == 1 => {
             let word = image[32..].try_into().expect("one word");
             write_line(out, line, place);
-            *out += &format!("u {}\n", as_read(line, place));
+            for target in targeted.targets() {
+                *out += &format!("n {} {}\n", target.span.start, target.span.len());
+            }
+            *out += &format!("u {}\n", as_read(targeted.lines(), place));
             write_word(out, u32::from_le_bytes(word));
         }
         Answer::Refused { number, .. } if matches!(number, 8 | 14..=21) => {
@@ -135,6 +141,7 @@ fn lines() -> Vec<String> {
     all.extend(every_spelling());
     all.extend(every_register());
     all.extend(every_field_end());
+    all.extend(every_target());
     let mut seen = HashSet::new();
     all.retain(|line| seen.insert(line.clone()));
     all
@@ -209,6 +216,22 @@ fn every_field_end() -> Vec<String> {
         }
         let most = format!("0x{:x}", u64::MAX);
         lines.push(plain(&row, ["r1", "r2", "r3"], &most));
+    }
+    lines
+}
+
+/// For each mnemonic that takes a label: names of it, alone on the line and not.
+fn every_target() -> Vec<String> {
+    let mut lines = Vec::new();
+    for row in ROWS {
+        if !matches!(row.form, Form::Branch | Form::Jump) {
+            continue;
+        }
+        for name in ["x", "_", "r16", "Add", "a_longer_name_42"] {
+            let line = plain(&row, ["r6", "r14", "r1"], name);
+            lines.push(line.clone());
+            lines.push(format!(" \tlabel : {line}\t# {name}"));
+        }
     }
     lines
 }

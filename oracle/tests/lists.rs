@@ -130,16 +130,25 @@ fn the_list_of_sources_covers_all_that_the_rust_refuses() {
     let sources: BTreeSet<_> = records.iter().map(|record| &record.source).collect();
     assert_eq!(sources.len(), records.len(), "a source stands twice");
     let found: Vec<u32> = counts(&records).into_keys().collect();
-    let wanted: Vec<u32> = [0, 3, 4].into_iter().chain(6..=21).collect();
+    let wanted = [0, 3, 4].into_iter().chain(6..=21).chain(33..=34);
+    let wanted: Vec<u32> = wanted.collect();
     assert_eq!(found, wanted);
 }
 
 #[test]
-fn the_list_by_hand_covers_the_added_limits() {
+fn the_list_by_hand_covers_the_added_limits_and_targets() {
     let counts = counts(&read(BY_HAND));
-    for number in [1, 2, 5, 22, 23] {
+    for (number, least) in [
+        (1, 10),
+        (2, 10),
+        (5, 10),
+        (22, 10),
+        (23, 10),
+        (33, 6),
+        (34, 5),
+    ] {
         assert!(
-            counts[&number] >= 10,
+            counts[&number] >= least,
             "{number} stands only {} times",
             counts[&number]
         );

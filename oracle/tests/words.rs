@@ -143,6 +143,33 @@ fn every_field_is_at_its_ends_and_beyond() {
     }
 }
 
+/// A label that an instruction names is the last token of its line, and the instruction's own number
+/// is 0.
+#[test]
+fn every_target_is_where_the_list_says() {
+    let mut mnemonics = BTreeSet::new();
+    for record in records() {
+        let Some(place) = line(&record, "n") else {
+            continue;
+        };
+        let (start, length) = place.split_once(' ').unwrap();
+        let source = std::str::from_utf8(&record.source).unwrap();
+        let (front, target) = source.split_at(start.parse().unwrap());
+        let (target, behind) = target.split_at(length.parse().unwrap());
+        assert!(front.ends_with([',', ' ', '\t']), "{source}");
+        assert!(!target.starts_with(|letter: char| letter.is_ascii_digit()));
+        assert!(target
+            .chars()
+            .all(|it| it.is_ascii_alphanumeric() || it == '_'));
+        let behind = behind.split('#').next().unwrap();
+        assert!(behind.trim().is_empty(), "{source}");
+        let text = line(&record, "u").unwrap();
+        assert!(text.ends_with(", 0"), "{text}");
+        mnemonics.insert(text.split(' ').next().unwrap().to_string());
+    }
+    assert_eq!(mnemonics.len(), 7);
+}
+
 #[test]
 fn every_opcode_and_every_bit_stands_in_a_word_alone() {
     let records = records();

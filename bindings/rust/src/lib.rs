@@ -63,7 +63,8 @@ pub struct AssembleRefusal {
     pub needed: Option<usize>,
 }
 
-/// Assembles a source.
+/// Assembles a source. The last operand of `jal` and of the six branches is a number or a label anywhere in the source, which means the
+/// bytes from the instruction's own address to the label's.
 ///
 /// The labels are entered into the table in the order of the source, after a refusal too; entries past their count keep their values.
 /// The image is written to the front of its buffer, and later bytes keep their values; a refusal leaves the whole buffer as it was.

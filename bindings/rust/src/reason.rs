@@ -59,6 +59,8 @@ reasons! {
     30 UnknownOpcode "the word has an unknown opcode",
     31 UnusedBit "the word has an unused bit set",
     32 TextTooShort "the text buffer is too short",
+    33 NoSuchLabel "there is no such label",
+    34 LabelTooFar "the label is too far away for a branch",
 }
 
 impl Reason {

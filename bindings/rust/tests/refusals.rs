@@ -21,9 +21,9 @@ fn refusal(source: &[u8]) -> AssembleRefusal {
 }
 
 #[test]
-fn reasons_are_numbered_from_1_to_32() {
+fn reasons_are_numbered_from_1_to_34() {
     let numbers: Vec<u32> = Reason::ALL.iter().map(|reason| reason.number()).collect();
-    assert_eq!(numbers, (1..=32).collect::<Vec<u32>>());
+    assert_eq!(numbers, (1..=34).collect::<Vec<u32>>());
 }
 
 #[test]
@@ -51,6 +51,7 @@ fn sources_are_refused_by_their_number() {
         (19, 1, 1, 0, b"add r1 r2 r3 r4 r5"),
         (20, 1, 1, 0, b"lw r1, 4, r2)"),
         (21, 1, 1, 0, b"lw r1, 4(r2("),
+        (33, 2, 2, 1, b"a: ecall\njal ra, A"),
     ];
     for &(number, rust_line, line, labels, source) in cases {
         let expected = AssembleRefusal {
@@ -72,6 +73,9 @@ fn limits_are_refused() {
     let many = refusal(&b"ecall\n".repeat(32_769));
     assert_eq!(many.reason, Reason::TooManyWords);
     assert_eq!((many.rust_line, many.line), (32_769, 32_769));
+    let far = refusal(&[&b"far:"[..], &b"\necall".repeat(16_385), b"\nbne r1, r2, far"].concat());
+    assert_eq!(far.reason, Reason::LabelTooFar);
+    assert_eq!((far.rust_line, far.line, far.labels), (16_387, 16_387, 1));
     let short = zkasm::assemble(b"ecall", &mut [], &mut [0; 35]).unwrap_err();
     assert_eq!(short.reason, Reason::ImageTooShort);
     assert_eq!((short.line, short.needed), (0, Some(36)));

@@ -10,7 +10,7 @@ const STACK: usize = 32 << 10;
 fn source(bytes: usize, last: &str) -> Vec<u8> {
     let mut source = b".config limb_bits 20\n.text\n".to_vec();
     for number in 0.. {
-        let line = format!("l{number}: sw a1, -4(sp) # a store to the stack\nm{number}:\naddi a0, zero, 0x7f\n");
+        let line = format!("l{number}: sw a1, -4(sp) # a store to the stack\nm{number}:\nbne a0, zero, l{number}\n");
         if source.len() + line.len() + last.len() > bytes {
             break;
         }

@@ -49,6 +49,18 @@ fn instructions_have_their_words() {
 }
 
 #[test]
+fn a_label_is_named_as_a_target() {
+    assert_eq!(words("x: jal r0, x"), [0x00000048]);
+    assert_eq!(
+        words("beq r1, r2, end\nadd r1, r2, r3\nend:"),
+        [0x000410C0, 0x00019080]
+    );
+    assert_eq!(reason("jal ra, nope"), Reason::NoSuchLabel);
+    assert_eq!(reason("jal r1, a5"), Reason::NumberExpected);
+    assert_eq!(reason("jalr r1, r2, x\nx:"), Reason::NumberExpected);
+}
+
+#[test]
 fn settings_are_taken_modulo_256() {
     let settings = assembled(".config limb_bits 276").unwrap().1;
     assert_eq!(settings.limb_bits, 20);

@@ -72,7 +72,7 @@ never-23 names source room size h = go (reading names source room) (reading-mean
     go : (a : Reading) → MeansIf names source a → OfAnswer reading_numbers a → assemble_number (answer_of (fitted size a)) ≡ 23 → ⊥
     go (rejected r) m n e = not-missing reading_numbers 23 r.number refl n e
     go (accepted st) m n e =
-        let f : fitted size (accepted st) ≡ accepted st = rw (fitted, le-leb (32 + 4 * length st.instructions) size (omega (arith, m.few))) in
+        let f : fitted size (accepted st) ≡ accepted st = rw (fitted, le-leb (32 + 4 * st.words) size (omega (arith, m.few))) in
         let z : ◌≡◌ {A = ℕ} 0 23 = sym (ap (λ (w : Reading). assemble_number (answer_of w)) f) ∙ e in
         omega arith
 

@@ -32,7 +32,7 @@ use Rattle.guarantees.proofs.Demand3.{demand-3}
 
 -- ---- assembling
 
-accepts : (a : Reading) (x : Answer) → x ≡ answer_of a → (IsRefusal x → ⊥) → is_accepted a ≡ true
+pub accepts : (a : Reading) (x : Answer) → x ≡ answer_of a → (IsRefusal x → ⊥) → is_accepted a ≡ true
 unfolding answer_of is_accepted
 accepts (accepted st) x e k = refl
 accepts (rejected r) x e k = absurd (k (subst IsRefusal (sym e) tt))
@@ -49,7 +49,7 @@ module _ (names : List Name) (source : List ℕ) (room : ℕ) (image image' : Li
   answers =
       let a = accepted-assembles names source room (length image) k in
       let n = ap (λ (w : Reading). length (entered w)) a.answer in
-      e ∙ ap answer_of a.answer ∙ (λ i. assembled (length (a.means.instructions i)) (sym n i) (a.means.setup i))
+      e ∙ ap answer_of a.answer ∙ (λ i. assembled (a.means.words i) (sym n i) (a.means.setup i))
 
   fills : image' ≡ over (image_of names source) image
   unfolding image_after
@@ -88,7 +88,7 @@ accepted-is-called names source table image k =
       image = image;
       table' = over (map entry_of (entered w)) table;
       image' = image_after names source w image;
-      answer = Ok (record { words = length st.instructions; labels = length st.labels; config = config_for st.setup });
+      answer = Ok (record { words = st.words; labels = length st.labels; config = config_for st.setup });
       promised = record { answer = sym (ap answer_of a.answer); table_holds = refl; image_holds = refl };
       not_refused = λ r. r;
     }

@@ -10,7 +10,6 @@ use lib.Dec.{leb, eqb}
 use lib.IntN.{ℤ}
 use borrow.Author.Tests.{leb-true, le-leb, eqb-true, not-true}
 use Rattle.text_lexical.specs.Bytes.{bytes, letter, digit, between, name_start, name_part, every, same, is_some, each}
-use Rattle.text_lexical.specs.Names.{Name}
 use Rattle.text_lexical.proofs.Tests.{both, or_elim, no_both}
 use Rattle.text.specs.Tokens.{is_identifier, is_register}
 use Rattle.text.proofs.Lines.{visible}
@@ -30,7 +29,7 @@ use Rattle.image.proofs.Images.{byte, image-length}
 use Rattle.image.proofs.Listed.{words-of-image, settings-of-image, image-listed, listed-usual}
 use Rattle.image.proofs.Walking.{reading-means, accepted-assembles}
 use Rattle.image.proofs.ConfigLines.{Key, settings-pass}
-use Rattle.image.proofs.Round.{Keys, AllRead, instructions_in, text-reading}
+use Rattle.image.proofs.Round.{Keys, text-instructions, text-reading}
 use Rattle.image.proofs.Fitting.{AllFit, source_fits, fit_words, fit-decoded, words-read, words-again}
 use Rattle.guarantees.specs.NameSets.{keys, NameSet}
 use Rattle.guarantees.specs.Promises.{bits_for, Same, Agree, AreBytes, Demand3}
@@ -90,8 +89,7 @@ record Imaged (N : NameSet) (s : List ℕ) (size : ℕ) : Type 0 where
 imaged : (N : NameSet) (s : List ℕ) (t size : ℕ) → Accepted N.names s t size → Imaged N s size
 imaged N s t size h =
     let a = accepted-assembles N.names s t size h in
-    let e : length (map word_of (instructions_of N.names s)) ≡ length a.state.instructions
-    = length-map (instructions_of N.names s) word_of ∙ ap length (sym a.means.instructions) in
+    let e : length (map word_of (instructions_of N.names s)) ≡ a.state.words = length-map (instructions_of N.names s) word_of ∙ sym a.means.words in
     record { few = rw e a.means.few; fits = source_fits N.names N.naming s; room = rw e a.fits }
 
 -- an image tells its settings and its words
@@ -156,12 +154,9 @@ keys_of N =
       addr_limbs = key_of N addr_limbs_key refl c refl;
     }
 
-instructions-length : (names : List Name) (ws : List ℕ) (r : AllRead names ws) → length (instructions_in names ws r) ≡ length ws
-instructions-length names ws r = sym (length-map (instructions_in names ws r) word_of) ∙ ap length (words-again names ws r)
-
-fitted-yes : (st : State) (size : ℕ) → image_length (length st.instructions) ≤ size → is_accepted (fitted size (accepted st)) ≡ true
+fitted-yes : (st : State) (size : ℕ) → image_length st.words ≤ size → is_accepted (fitted size (accepted st)) ≡ true
 unfolding fitted is_accepted
-fitted-yes st size h = rw (fitted, le-leb (image_length (length st.instructions)) size h)
+fitted-yes st size h = rw (fitted, le-leb (image_length st.words) size h)
 
 text-back : (N : NameSet) (b : List ℕ) (t size : ℕ) → AreBytes b → listing_fault b ≡ none → length b ≤ size
     → Accepted N.names (text_of b) t size × (image_of N.names (text_of b) ≡ b)
@@ -171,13 +166,14 @@ text-back N b t size h e l =
     let c = (header_of b).setup in
     let ws = words_of (code_of b) in
     let r = words-read N.names N.naming N.mnemonics_free ws u.words in
-    let is = instructions_in N.names ws r in
-    let d = text-reading N.names N.naming.identifiers (keys_of N) c (good c u.settings-good) t ws r u.few in
+    let g = good c u.settings-good in
+    let d = text-reading N.names N.naming.identifiers (keys_of N) c g ws r t u.few in
+    let k = text-instructions N.names N.naming.identifiers (keys_of N) c g ws r in
     let m = rw d at (reading-means N.names (text_of b) t) in
     let back : image c ws [] ≡ b = ap (image c ws) (sym u.no-data) ∙ u.is-image h in
-    let n : image_length (length is) ≡ length b = ap image_length (instructions-length N.names ws r) ∙ omega (arith, image-length c ws [], ap length back) in (
+    let n : image_length (length ws) ≡ length b = omega (arith, image-length c ws [], ap length back) in (
       ap (λ (a : Assembled). is_accepted (fitted size a)) d ∙ fitted-yes _ size (omega arith),
-      ap₂ (λ (x : Settings) (y : List Instruction). image x (map word_of y) []) (sym m.setup) (sym m.instructions)
+      ap₂ (λ (x : Settings) (y : List Instruction). image x (map word_of y) []) (sym m.setup) k
           ∙ ap (λ (x : List ℕ). image c x []) (words-again N.names ws r) ∙ back,
     )
 

@@ -7,3 +7,4 @@ pub mod Demand1
 pub mod Calls
 pub mod Numbered
 pub mod Longest
+pub mod Targets

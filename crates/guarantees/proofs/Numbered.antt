@@ -10,13 +10,12 @@ use Rattle.text_lexical.specs.Bytes.{ascii, every, each}
 use Rattle.text_lexical.specs.Names.{Name}
 use Rattle.text.specs.Lines.{Line, lines, indent, read_line}
 use Rattle.instruction.specs.Table.{places, row_coded}
-use Rattle.instruction.specs.Operands.{Instruction}
 use Rattle.instruction.specs.Words.{unused_from, instruction_of}
 use Rattle.image.specs.Program.{Header, magic, version, header_size, header_of, code_of, image_length}
 use Rattle.image.specs.Opening.{header_fault, opening_fault}
 use Rattle.image.specs.Listing.{words_of, text_of, Refusal, refusal, is_usual, words_fault, listing_fault, Listing, written, rejected as unwritten, listing}
-use Rattle.image.specs.Assembling.{State, start, Step, next, stop, is_known, enter, Context, Effect, nothing, sets, codes, faulty, Read, read_on, entering, most_words, with_instruction, doing, step, context_of, Walk, finished, stopped, walk, Assembled, accepted, rejected, refusing, read_to, most_bytes, reading, fitted, assembling}
-use Rattle.image.proofs.Refused.{by-test, by-option, OfResult, by_result, OfFault, by-fault, OfEffect, of-settings, of-line}
+use Rattle.image.specs.Assembling.{State, start, Step, next, stop, is_known, enter, Context, Effect, nothing, sets, codes, faulty, Read, read_on, reads, entering, most_words, with_instruction, doing, step, context_of, Walk, finished, stopped, walk, fault_in, Assembled, accepted, rejected, refusing, line_refused, read_to, most_bytes, reading, fitted, assembling}
+use Rattle.image.proofs.Refused.{by-test, by-option, OfResult, by_result, OfFault, by-fault, OfEffect, of-settings, of-line, of-fault}
 use Rattle.guarantees.specs.Calls.{reading_numbers, assembling_numbers, opening_numbers, textless_numbers, listing_numbers, is_one_of, OneOf}
 
 -- One of some numbers is one of more.
@@ -43,16 +42,16 @@ line-numbered : (c : Context) (o : Option Line) → OfLine (read_on c o).effect
 unfolding each
 line-numbered = of-line (is_one_of reading_numbers) refl
 
-of_word : (st : State) (i : Instruction) → OfStep (with_instruction st i)
+of_word : (st : State) → OfStep (with_instruction st)
 unfolding with_instruction
-of_word st i = by-test OfStep (ltb (length st.instructions) most_words) tt refl
+of_word st = by-test OfStep (ltb st.words most_words) tt refl
 
 of-doing : (e : Effect) (d : Step) → OfLine e → OfStep d → OfStep (doing e d)
 unfolding doing
 of-doing e (stop n st) h k = k
 of-doing nothing (next st) h k = tt
 of-doing (sets s) (next st) h k = tt
-of-doing (codes i) (next st) h k = of_word st i
+of-doing (codes d) (next st) h k = of_word st
 of-doing (faulty n) (next st) h k = h
 
 of-label : (room : ℕ) (st : State) (at : ℕ) (o : Option (List ℕ)) → OfStep (entering room st at o)
@@ -86,21 +85,21 @@ abbrev pub OfAnswer : List ℕ → Assembled → Type 0
 OfAnswer ns (accepted st) = Unit {0}
 OfAnswer ns (rejected r) = OneOf ns r.number
 
-of-read : (w : Walk) → OfWalk w → OfAnswer reading_numbers (read_to w)
-unfolding read_to refusing
-of-read (finished st) h = tt
-of-read (stopped n line st) h = h
+of-read : (rs : List Read) (w : Walk) → OfWalk w → OfAnswer reading_numbers (read_to rs w)
+unfolding read_to line_refused refusing
+of-read rs (finished st) h = by-fault (OfAnswer reading_numbers) (fault_in rs) (of-fault (OneOf reading_numbers) refl refl rs) tt (λ f k. k)
+of-read rs (stopped n line st) h = h
 
 pub reading-numbered : (names : List Name) (s : List ℕ) (room : ℕ) → OfAnswer reading_numbers (reading names s room)
 unfolding reading refusing
 reading-numbered names s room =
     let P = OfAnswer reading_numbers in
-    by-test P (leb (length s) most_bytes) (by-test P (every ascii s) (of-read (walk names room 1 0 start (lines s)) (of-walk names room 1 0 start (lines s))) refl) refl
+    by-test P (leb (length s) most_bytes) (by-test P (every ascii s) (of-read (reads names s) (walk names room 1 0 start (lines s)) (of-walk names room 1 0 start (lines s))) refl) refl
 
 of-fitted : (size : ℕ) (a : Assembled) → OfAnswer reading_numbers a → OfAnswer assembling_numbers (fitted size a)
 unfolding fitted refusing
 of-fitted size (rejected r) h = one-of-more reading_numbers (23 ∷ []) r.number h
-of-fitted size (accepted st) h = by-test (OfAnswer assembling_numbers) (leb (image_length (length st.instructions)) size) tt refl
+of-fitted size (accepted st) h = by-test (OfAnswer assembling_numbers) (leb (image_length st.words) size) tt refl
 
 pub assembling-numbered : (names : List Name) (s : List ℕ) (room size : ℕ) → OfAnswer assembling_numbers (assembling names s room size)
 unfolding assembling

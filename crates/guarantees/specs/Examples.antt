@@ -70,6 +70,13 @@ unfoldable pub unstarred : List Example
 unstarred =
     gives ".config limb_bits 24" (settings_are 24 2 2)
     ∷ gives ".config limb_bits 24\n.config limb_bits 276" (settings_are 20 2 2)
+    -- Document 02, a: a label on the line itself, after it and before it; none, and no Identifier.
+    ∷ gives "x: jal r0, x" (words_are (0x00000048 ∷ []))
+    ∷ gives "beq r1, r2, end\nadd r1, r2, r3\nend:" (words_are (0x000410C0 ∷ 0x00019080 ∷ []))
+    ∷ gives "a: ecall\njal r0, a" (words_are (0x00000050 ∷ 0xFFFFE048 ∷ []))
+    ∷ gives "jal ra, nope" (refused_with 33 1 1 0)
+    ∷ gives "jal ra, nope\nfoo r1" (refused_with 15 2 2 0)
+    ∷ gives "jal r1, a5" (refused_with 8 0 1 0)
     ∷ []
 
 -- What the program prints for its example.

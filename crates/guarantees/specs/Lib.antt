@@ -2,3 +2,4 @@ pub mod NameSets
 pub mod Promises
 pub mod Examples
 pub mod Calls
+pub mod Targets

@@ -18,7 +18,7 @@ use Rattle.text.specs.Values.{read_number}
 use Rattle.text.specs.Lines.{Line, lines, line_of, read_line}
 use Rattle.text.proofs.Tokens.{tokens-nil, Within64, reads-directive, reads-space, reads-identifier, reads-decimal}
 use Rattle.text.proofs.Lines.{visible, closed-append, Trimmed, decimal-visible, decimal-closed, high-plain, read-visible}
-use Rattle.instruction.specs.Operands.{Instruction, read_identifier, read_instruction, behind}
+use Rattle.instruction.specs.Operands.{Draft, read_identifier, read_instruction, behind}
 use Rattle.image.specs.Settings.{Settings, begin, settings_fault, set_field, checked, configured_by, configured_with, configured}
 use Rattle.instruction.specs.Kinds.{Kind, empty, labelled, config, ignored, plain, kind_of}
 use Rattle.image.specs.Assembling.{Context, Effect, nothing, sets, codes, faulty, setting, coding, after_label, read_kind, read_on, changed_by, context_after, reads_from, reads}
@@ -73,7 +73,7 @@ good-configured s l = go (eqb l.count 3)
 GoodOn : Effect → Type 0
 GoodOn (sets s) = settings_fault s ≡ none
 GoodOn nothing = Unit {0}
-GoodOn (codes i) = Unit {0}
+GoodOn (codes d) = Unit {0}
 GoodOn (faulty n) = Unit {0}
 
 good-setting : (r : Result Settings) → GoodIf r → GoodOn (setting r)
@@ -81,9 +81,9 @@ unfolding setting GoodOn
 good-setting (value s) g = g
 good-setting (refused n) g = tt
 
-good-coding : (r : Result Instruction) → GoodOn (coding r)
+good-coding : (r : Result Draft) → GoodOn (coding r)
 unfolding coding GoodOn
-good-coding (value i) = tt
+good-coding (value d) = tt
 good-coding (refused n) = tt
 
 good-after : (l : Line) → GoodOn (after_label l)
@@ -111,7 +111,7 @@ good-changed : (s : Settings) → settings_fault s ≡ none → (e : Effect) →
 unfolding changed_by GoodOn
 good-changed s h (sets s') g = g
 good-changed s h nothing g = h
-good-changed s h (codes i) g = h
+good-changed s h (codes d) g = h
 good-changed s h (faulty n) g = h
 
 good-from : (names : List Name) (c : Context) (s : Settings) → settings_fault s ≡ none → (ls : List (List ℕ)) → settings_fault (settings_in s (reads_from names c ls)) ≡ none

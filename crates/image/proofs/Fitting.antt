@@ -1,30 +1,31 @@
 -- The instructions of a source fit their forms, so their words decode again; and the text of a word that decodes reads as its
 -- instruction.
 use mathlib.Core.Path.{◌≡◌, refl, ap, ◌∙◌}
-use Prim.Native.Nat.{ℕ}
+use Prim.Native.Nat.{ℕ, ◌+◌}
 use mathlib.Core.Bool.{true, not}
 use mathlib.Core.Option.{Option, none, some}
-use mathlib.Core.List.{List, [], ◌∷◌, ◌++◌, map, flat_map}
+use mathlib.Core.List.{List, [], ◌∷◌, ◌++◌, map}
 use lib.Dec.{eqb}
+use lib.IntN.{ℤ}
 use borrow.Author.Tests.{not-true}
-use Rattle.text_lexical.specs.Bytes.{Result, value, refused, each}
+use Rattle.text_lexical.specs.Bytes.{Result, value, refused, is_some, each}
 use Rattle.text_lexical.specs.Names.{Name}
 use Rattle.text_lexical.proofs.Tests.{both}
 use Rattle.text.specs.Tokens.{Token, identifier, is_register}
 use Rattle.text.specs.Lines.{Line, lines, line_of, read_line}
 use Rattle.text.specs.NameSets.{Naming}
 use Rattle.instruction.specs.Table.{table}
-use Rattle.instruction.specs.Operands.{Instruction, read_instruction, behind, mark_byte}
+use Rattle.instruction.specs.Operands.{Instruction, Amount, Draft, read_instruction, behind, mark_byte}
 use Rattle.instruction.specs.Words.{word_of}
-use Rattle.instruction.specs.Fits.{Fits, reduced_to}
+use Rattle.instruction.specs.Fits.{places_of, has_number, Fits, reduced_to}
 use Rattle.instruction.proofs.Rows.{carried}
 use Rattle.instruction.proofs.Decoding.{decode-encode, word_bound, decoded-fits, decoded-reduced, encode-decode}
-use Rattle.instruction.proofs.Reading.{numbered_token, read_fits, line-numbered, behind-numbered}
+use Rattle.instruction.proofs.Reading.{numbered_token, DraftFits, read_fits, line-numbered, behind-numbered}
 use Rattle.instruction.proofs.Text.{operand_tokens, no_colon, no-colon, tokens-kept, tokens-read, text-visible, text-line}
 use Rattle.image.specs.Settings.{Settings, begin, configured}
 use Rattle.instruction.specs.Kinds.{Kind, empty, labelled, config, ignored, plain, identifier_kind, kind_of}
-use Rattle.image.specs.Assembling.{Context, nothing, setting, coding, after_label, read_kind, read_on, context_after, reads_from, reads}
-use Rattle.image.specs.Meaning.{coded_by, coded_in, instructions_of}
+use Rattle.image.specs.Assembling.{Context, Effect, nothing, sets, codes, faulty, setting, coding, after_label, read_kind, read_on, context_after, reads_from, reads, words_of, address_in}
+use Rattle.image.specs.Meaning.{resolved, settled, coded_by, coded_in, instructions_of}
 use Rattle.image.proofs.Images.{Words}
 use Rattle.image.proofs.Listed.{Decoded, AllDecoded}
 use Rattle.image.proofs.Round.{Reads, AllRead, instructions_in}
@@ -39,52 +40,78 @@ fit_append : (is js : List Instruction) → AllFit is → AllFit js → AllFit (
 fit_append [] js a b = b
 fit_append (i ∷ is) js a b = (a.0, fit_append is js a.1 b)
 
-fit-read : (l : Line) → each numbered_token l.first ≡ true → AllFit (coded_by (coding (read_instruction l)))
-unfolding coding coded_by
+-- What a line has of an instruction fits.
+abbrev EffectFits : Effect → Type 0
+EffectFits (codes d) = DraftFits d
+EffectFits nothing = Unit {0}
+EffectFits (sets s) = Unit {0}
+EffectFits (faulty n) = Unit {0}
+
+fit-read : (l : Line) → each numbered_token l.first ≡ true → EffectFits (coding (read_instruction l))
+unfolding coding
 fit-read l h = go (read_instruction l) refl
   where
-    go : (r : Result Instruction) → read_instruction l ≡ r → AllFit (coded_by (coding r))
-    go (value i) e = (read_fits l i h e, tt)
+    go : (r : Result Draft) → read_instruction l ≡ r → EffectFits (coding r)
+    go (value d) e = read_fits l d h e
     go (refused n) e = tt
 
-fit-after : (l : Line) → each numbered_token l.first ≡ true → AllFit (coded_by (after_label l))
-unfolding after_label coded_by
+fit-after : (l : Line) → each numbered_token l.first ≡ true → EffectFits (after_label l)
+unfolding after_label
 fit-after l h = go l.first
   where
-    go : (ts : List Token) → AllFit (coded_by (elim ts [ [] ↦ nothing | t ∷ us ↦ coding (read_instruction l) ]))
+    go : (ts : List Token) → EffectFits (elim ts [ [] ↦ nothing | t ∷ us ↦ coding (read_instruction l) ])
     go [] = tt
     go (t ∷ us) = fit-read l h
 
-fit-setting : (r : Result Settings) → AllFit (coded_by (setting r))
-unfolding setting coded_by
+fit-setting : (r : Result Settings) → EffectFits (setting r)
+unfolding setting
 fit-setting (value s) = tt
 fit-setting (refused n) = tt
 
-fit-kind : (c : Context) (l : Line) (k : Kind) → each numbered_token l.first ≡ true → AllFit (coded_by (read_kind c l k).effect)
-unfolding read_kind coded_by
+fit-kind : (c : Context) (l : Line) (k : Kind) → each numbered_token l.first ≡ true → EffectFits (read_kind c l k).effect
+unfolding read_kind
 fit-kind c l (labelled s) h = fit-after (behind 2 l) (behind-numbered 2 l h)
 fit-kind c l plain h = fit-read l h
 fit-kind c l empty h = tt
 fit-kind c l config h = fit-setting (configured c.setup l)
 fit-kind c l ignored h = tt
 
-fit_on : (names : List Name) → Naming names → (c : Context) (l : List ℕ) → AllFit (coded_by (read_on c (read_line names l)).effect)
-unfolding read_on coded_by
+fit_on : (names : List Name) → Naming names → (c : Context) (l : List ℕ) → EffectFits (read_on c (read_line names l)).effect
+unfolding read_on
 fit_on names N c l = go (read_line names l) refl
   where
-    go : (o : Option Line) → read_line names l ≡ o → AllFit (coded_by (read_on c o).effect)
+    go : (o : Option Line) → read_line names l ≡ o → EffectFits (read_on c o).effect
     go none e = tt
     go (some x) e = fit-kind c x (kind_of x.first) (line-numbered names N l x e)
 
-fit-lines : (names : List Name) → Naming names → (c : Context) (ls : List (List ℕ)) → AllFit (coded_in (reads_from names c ls))
-unfolding coded_in reads_from flat_map
-fit-lines names N c [] = tt
-fit-lines names N c (l ∷ ls) =
-    fit_append (coded_by (read_on c (read_line names l)).effect) _ (fit_on names N c l) (fit-lines names N (context_after c (read_on c (read_line names l)).effect) ls)
+-- So does the instruction, whatever number a label comes to.
+fit-settled : (addresses : List ℕ → Option ℕ) (words : ℕ) (d : Draft) → DraftFits d → Fits (settled addresses words d)
+unfolding settled is_some
+fit-settled addresses words d f = record { in_table = f.in_table; registers = f.registers; number = go d.amount f.amount }
+  where
+    go : (o : Option Amount) → is_some o ≡ has_number (places_of d.row)
+        → is_some {A = ℤ} (elim o [ some a ↦ some (resolved addresses words a) | none ↦ none ]) ≡ has_number (places_of d.row)
+    go none h = h
+    go (some a) h = h
+
+fit-coded : (addresses : List ℕ → Option ℕ) (words : ℕ) (e : Effect) → EffectFits e → AllFit (coded_by addresses words e)
+unfolding coded_by
+fit-coded addresses words (codes d) f = (fit-settled addresses words d f, tt)
+fit-coded addresses words nothing f = tt
+fit-coded addresses words (sets s) f = tt
+fit-coded addresses words (faulty n) f = tt
+
+fit-lines : (names : List Name) → Naming names → (addresses : List ℕ → Option ℕ) (words : ℕ) (c : Context) (ls : List (List ℕ))
+    → AllFit (coded_in addresses words (reads_from names c ls))
+unfolding coded_in reads_from
+fit-lines names N addresses words c [] = tt
+fit-lines names N addresses words c (l ∷ ls) =
+    let e = (read_on c (read_line names l)).effect in
+    fit_append (coded_by addresses words e) _ (fit-coded addresses words e (fit_on names N c l)) (fit-lines names N addresses (words + words_of e) (context_after c e) ls)
 
 pub source_fits : (names : List Name) → Naming names → (source : List ℕ) → AllFit (instructions_of names source)
 unfolding instructions_of reads
-source_fits names N source = fit-lines names N (record { setup = begin }) (lines source)
+source_fits names N source = fit-lines names N (address_in 0 (reads names source)) 0 (record { setup = begin }) (lines source)
 
 -- ---- their words
 

@@ -5,9 +5,11 @@ pub mod Images
 pub mod Listed
 pub mod Lengths
 pub mod Walking
+pub mod Targets
 pub mod ConfigLines
 pub mod Round
 pub mod Fitting
 pub mod Checks
 pub mod Heads
 pub mod Over
+pub mod Placed

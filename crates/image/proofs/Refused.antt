@@ -1,9 +1,10 @@
--- What a line is refused for: a test that each number of one list passes is passed by the number of every line that is refused. The
--- walks take from it that such a number is a refusal's, and the guarantees that it is one of those that they list.
+-- What a line is refused for: a test that each number of one list passes is passed by the number of every line that is refused, and what
+-- holds of 33 and 34 holds of a line that names a label which it does not reach. The walks take from it that such a number is a refusal's,
+-- and the guarantees that it is one of those that they list.
 use mathlib.Core.Path.{◌≡◌, refl, sym, subst}
 use mathlib.Core.Bool.{true≢false}
 use borrow.Author.Tests.{eqb-true}
-use Rattle.std.specs.Prelude.{ℕ, ◌-◌, ◌%◌, Bool, true, false, List, [], ◌∷◌, map, length, drop, eqb, ℤ}
+use Rattle.std.specs.Prelude.{ℕ, suc, ◌+◌, ◌-◌, ◌%◌, Bool, true, false, List, [], ◌∷◌, map, length, drop, eqb}
 use Rattle.std.proofs.Math.Option.{Option, none, some}
 use Rattle.text_lexical.specs.Bytes.{Result, value, refused, between, same, lower, each}
 use Rattle.text_lexical.specs.Numbers.{residue}
@@ -12,11 +13,11 @@ use Rattle.text_lexical.proofs.Tests.{by-test as cases}
 use Rattle.text.specs.Tokens.{Token, identifier, register, number, hex, binary, directive, comma, colon, opening, closing}
 use Rattle.text.specs.Values.{read_number}
 use Rattle.text.specs.Lines.{Line}
-use Rattle.instruction.specs.Table.{Place, reg, num, mark, Separator, a-comma, an-opening, a-closing, places, Row, row_named}
-use Rattle.instruction.specs.Operands.{Operands, Instruction, read_identifier, read_register, read_place, read_operands, mark_byte, separator_byte, separator_refusal, with_register, with_number, made, read_row, read_mnemonic, read_instruction, behind}
+use Rattle.instruction.specs.Table.{Place, reg, num, mark, Separator, a-comma, an-opening, a-closing, Form, places, Row, row_named}
+use Rattle.instruction.specs.Operands.{Amount, exactly, to, DraftOperands, Draft, takes_label, read_identifier, read_register, read_exactly, read_amount, read_place, read_operands, mark_byte, separator_byte, separator_refusal, with_register, with_amount, made, read_row, read_mnemonic, read_instruction, behind}
 use Rattle.instruction.specs.Kinds.{Kind, empty, labelled, config, ignored, plain, kind_of}
 use Rattle.image.specs.Settings.{Settings, settings_fault, set_field, checked, configured_by, configured_with, configured, limb_bits_key, data_limbs_key, addr_limbs_key}
-use Rattle.image.specs.Assembling.{Context, Effect, nothing, sets, codes, faulty, setting, coding, after_label, read_kind, read_on}
+use Rattle.image.specs.Assembling.{Context, Effect, nothing, sets, codes, faulty, setting, coding, after_label, read_kind, read_on, Read, words_of, address_in, distance, in_reach, amount_fault, draft_fault, target_fault, Fault, first_fault, fault_in}
 
 -- ---- an answer by cases: what holds of each holds of it
 
@@ -57,7 +58,7 @@ by-fault P (some a) q h k = k a q
 abbrev pub OfEffect : (ℕ → Type 0) → Effect → Type 0
 OfEffect P nothing = Unit {0}
 OfEffect P (sets s) = Unit {0}
-OfEffect P (codes i) = Unit {0}
+OfEffect P (codes d) = Unit {0}
 OfEffect P (faulty n) = P n
 
 -- ---- settings
@@ -131,37 +132,49 @@ module _ (q : ℕ → Bool) (ok : each q line_numbers ≡ true) where
   of-mark an-opening = listed 20 refl
   of-mark a-closing = listed 21 refl
 
-  with-register : (n : ℕ) (rest : Result Operands) → Of rest → Of (with_register n rest)
+  of-exactly : (t : Token) → Of (read_exactly t)
+  unfolding read_exactly
+  of-exactly t = by_result P Of (read_number t) (of-number t) (λ z. tt) (λ n l. l)
+
+  of-amount : (label : Bool) (t : Token) → Of (read_amount label t)
+  unfolding read_amount
+  of-amount false t = of-exactly t
+  of-amount true t = by-option Of (read_identifier t) (of-exactly t) (λ s. tt)
+
+  with-register : (n : ℕ) (rest : Result DraftOperands) → Of rest → Of (with_register n rest)
   unfolding with_register
   with-register n (value o) k = tt
   with-register n (refused m) k = k
 
-  with-number : (z : ℤ) (rest : Result Operands) → Of rest → Of (with_number z rest)
-  unfolding with_number
-  with-number z (value o) k = tt
-  with-number z (refused m) k = k
+  with-amount : (a : Amount) (rest : Result DraftOperands) → Of rest → Of (with_amount a rest)
+  unfolding with_amount
+  with-amount a (value o) k = tt
+  with-amount a (refused m) k = k
 
-  of-place : (p : Place) (t : Token) (rest : Result Operands) → Of rest → Of (read_place p t rest)
+  of-place : (label : Bool) (p : Place) (t : Token) (rest : Result DraftOperands) → Of rest → Of (read_place label p t rest)
   unfolding read_place
-  of-place (reg bit) t rest k = by_result P Of (read_register t) (of-register t) (λ n. with-register n rest k) (λ n l. l)
-  of-place (num bit width signed) t rest k = by_result P Of (read_number t) (of-number t) (λ z. with-number z rest k) (λ n l. l)
-  of-place (mark m) t rest k = by-test Of (eqb (mark_byte t) (separator_byte m)) k (of-mark m)
+  of-place label (reg bit) t rest k = by_result P Of (read_register t) (of-register t) (λ n. with-register n rest k) (λ n l. l)
+  of-place label (num bit width signed) t rest k = by_result P Of (read_amount label t) (of-amount label t) (λ a. with-amount a rest k) (λ n l. l)
+  of-place label (mark m) t rest k = by-test Of (eqb (mark_byte t) (separator_byte m)) k (of-mark m)
 
-  of-operands : (ps : List Place) (ts : List Token) → Of (read_operands ps ts)
+  of-operands : (label : Bool) (ps : List Place) (ts : List Token) → Of (read_operands label ps ts)
   unfolding read_operands
-  of-operands [] ts = tt
-  of-operands (p ∷ ps) [] = listed 16 refl
-  of-operands (p ∷ ps) (t ∷ ts) = of-place p t (read_operands ps ts) (of-operands ps ts)
+  of-operands label [] ts = tt
+  of-operands label (p ∷ ps) [] = listed 16 refl
+  of-operands label (p ∷ ps) (t ∷ ts) = of-place label p t (read_operands label ps ts) (of-operands label ps ts)
 
   -- an instruction
-  of-made : (r : Row) (o : Result Operands) → Of o → Of (made r o)
+  of-made : (r : Row) (o : Result DraftOperands) → Of o → Of (made r o)
   unfolding made
   of-made r (value o) k = tt
   of-made r (refused n) k = k
 
   of-row : (r : Row) (count : ℕ) (ts : List Token) → Of (read_row r count ts)
   unfolding read_row
-  of-row r count ts = let ps = places r.form in by-test Of (eqb count (length ps)) (of-made r (read_operands ps ts) (of-operands ps ts)) (listed 16 refl)
+  of-row r count ts =
+      let label = takes_label r.form in
+      let ps = places r.form in
+      by-test Of (eqb count (length ps)) (of-made r (read_operands label ps ts) (of-operands label ps ts)) (listed 16 refl)
 
   of-mnemonic : (t : Token) (count : ℕ) (ts : List Token) → Of (read_mnemonic t count ts)
   unfolding read_mnemonic
@@ -195,10 +208,10 @@ module _ (q : ℕ → Bool) (ok : each q line_numbers ≡ true) where
   of-configured s l = by-test Of (eqb l.count 3) (of-setting-tokens s (drop 1 l.first)) (listed 6 refl)
 
   -- what it does
-  of-coding : (x : Result Instruction) → Of x → OfEffect P (coding x)
+  of-coding : (x : Result Draft) → Of x → OfEffect P (coding x)
   unfolding coding
   of-coding (refused n) k = k
-  of-coding (value i) k = tt
+  of-coding (value d) k = tt
 
   of-setting : (x : Result Settings) → Of x → OfEffect P (setting x)
   unfolding setting
@@ -221,3 +234,30 @@ module _ (q : ℕ → Bool) (ok : each q line_numbers ≡ true) where
   unfolding read_on
   of-line c none = listed 3 refl
   of-line c (some l) = of-kind c l (kind_of l.first)
+
+-- ---- labels that instructions name
+
+-- What holds of 33 and 34 holds of the number of the first line that names a label which it does not reach.
+module _ (P : ℕ → Type 0) (unknown : P 33) (far : P 34) (addresses : List ℕ → Option ℕ) where
+  of-amount-fault : (words : ℕ) (f : Form) (a : Amount) → OfFault P (amount_fault addresses words f a)
+  unfolding amount_fault
+  of-amount-fault words f (exactly z) = tt
+  of-amount-fault words f (to u) = by-option (OfFault P) (addresses u) unknown (λ a. by-test (OfFault P) (in_reach f (distance words a)) tt far)
+
+  of-target-fault : (words : ℕ) (e : Effect) → OfFault P (target_fault addresses words e)
+  unfolding target_fault draft_fault
+  of-target-fault words (codes d) = by-option (OfFault P) d.amount tt (of-amount-fault words d.row.form)
+  of-target-fault words nothing = tt
+  of-target-fault words (sets s) = tt
+  of-target-fault words (faulty n) = tt
+
+  of-first-fault : (line words : ℕ) (rs : List Read) → OfFault (λ (f : Fault). P f.number) (first_fault addresses line words rs)
+  unfolding first_fault
+  of-first-fault line words [] = tt
+  of-first-fault line words (r ∷ rs) =
+      by-fault (OfFault (λ (f : Fault). P f.number)) (target_fault addresses words r.effect) (of-target-fault words r.effect)
+      (of-first-fault (suc line) (words + words_of r.effect) rs) (λ n k. k)
+
+pub of-fault : (P : ℕ → Type 0) → P 33 → P 34 → (rs : List Read) → OfFault (λ (f : Fault). P f.number) (fault_in rs)
+unfolding fault_in
+of-fault P unknown far rs = of-first-fault P unknown far (address_in 0 rs) 1 0 rs

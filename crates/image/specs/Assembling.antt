@@ -1,10 +1,13 @@
--- Assembling: a source is read line by line; the first faulty line decides. Quotations are document 01's.
-use Rattle.std.specs.Prelude.{ℕ, suc, ◌+◌, ◌*◌, Bool, true, false, List, [], ◌∷◌, ◌++◌, length, leb, ltb, eqb}
+-- Assembling: a source is read line by line; the first faulty line decides. Quotations are document 01's, and document 02's where it is named.
+use Rattle.std.specs.Prelude.{ℕ, suc, ◌+◌, ◌-◌, ◌*◌, Bool, true, false, List, [], ◌∷◌, ◌++◌, length, leb, ltb, eqb, ℤ, pos}
 use Rattle.std.proofs.Math.Option.{Option, none, some}
 use Rattle.text_lexical.specs.Bytes.{Result, value, refused, ascii, every, same, before, find, is_some}
+use Rattle.text_lexical.specs.Numbers.{minus}
 use Rattle.text_lexical.specs.Names.{Name}
 use Rattle.text.specs.Lines.{Line, lines, indent, read_line}
-use Rattle.instruction.specs.Operands.{Instruction, read_instruction, behind}
+use Rattle.instruction.specs.Table.{Form, R, I, Shift, Load, Store, Branch, Jump, System}
+use Rattle.instruction.specs.Operands.{Amount, exactly, to, Draft, read_instruction, behind}
+use Rattle.instruction.specs.Words.{is_signed}
 use Rattle.instruction.specs.Kinds.{Kind, empty, labelled, config, ignored, plain, kind_of}
 use Rattle.image.specs.Settings.{Settings, begin, configured}
 use Rattle.image.specs.Program.{entry, image_length}
@@ -15,14 +18,14 @@ pub record Label : Type 0 where
   pub start : ℕ
   pub address : ℕ
 
--- What the lines so far have come to: the labels and the instructions in the order entered, and the settings.
+-- What the lines so far have come to: the labels in the order entered, how many words there are, and the settings.
 pub record State : Type 0 where
   pub labels : List Label
-  pub instructions : List Instruction
+  pub words : ℕ
   pub setup : Settings
 
 unfoldable pub start : State
-start = record { labels = []; instructions = []; setup = begin }
+start = record { labels = []; words = 0; setup = begin }
 
 -- What a line leads to: the next state, or a refusal and the state that it leaves.
 pub data Step : Type 0 where
@@ -35,18 +38,17 @@ pub data Step : Type 0 where
 unfoldable pub is_known : List Label → List ℕ → Bool
 is_known labels s = is_some (find (λ l. same l.spelling s) labels)
 
--- "the label's address": that of the label with a spelling, if there is one.
+-- "the label's address" (document 02, a): that of the label entered with a spelling, if there is one.
 unfoldable pub address_of : List Label → List ℕ → Option ℕ
 address_of labels s = elim (find (λ l. same l.spelling s) labels) [ none ↦ none | some l ↦ some l.address ]
 
 -- "its address is 0x1000 + 4 times the words before"
+unfoldable pub address_after : ℕ → ℕ
+address_after words = entry + 4 * words
+
 unfoldable pub with_label : State → ℕ → List ℕ → State
 with_label st at s =
-    record {
-      labels = st.labels ++ (record { spelling = s; start = at; address = entry + 4 * length st.instructions } ∷ []);
-      instructions = st.instructions;
-      setup = st.setup;
-    }
+    record { labels = st.labels ++ (record { spelling = s; start = at; address = address_after st.words } ∷ []); words = st.words; setup = st.setup }
 
 -- "4 duplicate label; 5 new label, table full"; the table has room for so many.
 unfoldable pub enter : ℕ → State → ℕ → List ℕ → Step
@@ -67,7 +69,7 @@ pub data Effect : Type 0 where
   nothing : Effect
   -- "`.config` ... sets a field to the value modulo 256 and checks it"
   sets : Settings → Effect
-  codes : Instruction → Effect
+  codes : Draft → Effect
   -- why it is refused
   faulty : ℕ → Effect
 
@@ -80,8 +82,8 @@ unfoldable pub setting : Result Settings → Effect
 setting (value s) = sets s
 setting (refused n) = faulty n
 
-unfoldable pub coding : Result Instruction → Effect
-coding (value i) = codes i
+unfoldable pub coding : Result Draft → Effect
+coding (value d) = codes d
 coding (refused n) = faulty n
 
 -- "What follows it must be an instruction", if anything follows.
@@ -107,7 +109,7 @@ read_on c (some l) = read_kind c l (kind_of l.first)
 unfoldable pub changed_by : Settings → Effect → Settings
 changed_by s (sets s') = s'
 changed_by s nothing = s
-changed_by s (codes i) = s
+changed_by s (codes d) = s
 changed_by s (faulty n) = s
 
 unfoldable pub context_after : Context → Effect → Context
@@ -130,25 +132,22 @@ entering room st at none = next st
 entering room st at (some s) = enter room st at s
 
 unfoldable pub with_settings : State → Settings → State
-with_settings st s = record { labels = st.labels; instructions = st.instructions; setup = s }
+with_settings st s = record { labels = st.labels; words = st.words; setup = s }
 
 -- "22 a 32,769th instruction"
 unfoldable pub most_words : ℕ
 most_words = 32768
 
-unfoldable pub with_instruction : State → Instruction → Step
-with_instruction st i =
-    elim (ltb (length st.instructions) most_words) [
-      | true ↦ next (record { labels = st.labels; instructions = st.instructions ++ (i ∷ []); setup = st.setup })
-      | false ↦ stop 22 st
-    ]
+unfoldable pub with_instruction : State → Step
+with_instruction st =
+    elim (ltb st.words most_words) [ true ↦ next (record { labels = st.labels; words = suc st.words; setup = st.setup }) | false ↦ stop 22 st ]
 
 -- Then it does what it does: "a refused line's own label counts if it was entered before the fault".
 unfoldable pub doing : Effect → Step → Step
 doing e (stop n st) = stop n st
 doing nothing (next st) = next st
 doing (sets s) (next st) = next (with_settings st s)
-doing (codes i) (next st) = with_instruction st i
+doing (codes d) (next st) = with_instruction st
 doing (faulty n) (next st) = stop n st
 
 -- A line whose content stands at a place of the source.
@@ -173,6 +172,72 @@ walk names room line at st (l ∷ ls) =
       | stop n st' ↦ stopped n line st'
     ]
 
+-- ---- labels that instructions name (document 02, a)
+
+-- How many words a line comes to.
+unfoldable pub words_of : Effect → ℕ
+words_of (codes d) = 1
+words_of nothing = 0
+words_of (sets s) = 0
+words_of (faulty n) = 0
+
+unfoldable pub is_labelled : Read → List ℕ → Bool
+is_labelled r u = elim r.label [ none ↦ false | some s ↦ same s u ]
+
+-- "a label anywhere in the source": the address of the one with a spelling, if there is one, among lines with so many words before them.
+unfoldable pub address_in : ℕ → List Read → List ℕ → Option ℕ
+address_in words [] u = none
+address_in words (r ∷ rs) u = elim (is_labelled r u) [ true ↦ some (address_after words) | false ↦ address_in (words + words_of r.effect) rs u ]
+
+-- "the label's address minus the instruction's own address, in bytes", for an instruction with so many words before it.
+unfoldable pub distance : ℕ → ℕ → ℤ
+distance words address =
+    elim (leb (address_after words) address) [ true ↦ pos (address - address_after words) | false ↦ minus (address_after words - address) ]
+
+-- "34 distance outside the branch's signed 17 bits"
+unfoldable pub in_reach : Form → ℤ → Bool
+in_reach Branch z = is_signed 17 z
+in_reach Jump z = true
+in_reach R z = true
+in_reach I z = true
+in_reach Shift z = true
+in_reach Load z = true
+in_reach Store z = true
+in_reach System z = true
+
+-- Why an amount is refused, where labels have these addresses: "33 no such label and 34".
+unfoldable pub amount_fault : (List ℕ → Option ℕ) → ℕ → Form → Amount → Option ℕ
+amount_fault addresses words f (exactly z) = none
+amount_fault addresses words f (to u) =
+    elim (addresses u) [ none ↦ some 33 | some a ↦ elim (in_reach f (distance words a)) [ true ↦ none | false ↦ some 34 ] ]
+
+unfoldable pub draft_fault : (List ℕ → Option ℕ) → ℕ → Draft → Option ℕ
+draft_fault addresses words d = elim d.amount [ none ↦ none | some a ↦ amount_fault addresses words d.row.form a ]
+
+unfoldable pub target_fault : (List ℕ → Option ℕ) → ℕ → Effect → Option ℕ
+target_fault addresses words (codes d) = draft_fault addresses words d
+target_fault addresses words nothing = none
+target_fault addresses words (sets s) = none
+target_fault addresses words (faulty n) = none
+
+-- A refusal's number, and its line.
+pub record Fault : Type 0 where
+  pub number : ℕ
+  pub line : ℕ
+
+-- "the first such line deciding", from the line with a number on, with so many words before it.
+unfoldable pub first_fault : (List ℕ → Option ℕ) → (line words : ℕ) → List Read → Option Fault
+first_fault addresses line words [] = none
+first_fault addresses line words (r ∷ rs) =
+    elim (target_fault addresses words r.effect) [
+      | some n ↦ some (record { number = n; line = line })
+      | none ↦ first_fault addresses (suc line) (words + words_of r.effect) rs
+    ]
+
+-- The first such line of a source.
+unfoldable pub fault_in : List Read → Option Fault
+fault_in rs = first_fault (address_in 0 rs) 1 0 rs
+
 -- ---- the answer
 
 -- "A refusal carries its number, the Rust's line and the true line (from 1)", "the label count, and 23 the needed length".
@@ -195,9 +260,13 @@ unfoldable pub refusing : ℕ → ℕ → ℕ → List Label → Option ℕ → 
 refusing n rust line labels needed =
     rejected (record { number = n; rust_line = rust; true_line = line; labels = labels; needed = needed })
 
-unfoldable pub read_to : Walk → Assembled
-read_to (finished st) = accepted st
-read_to (stopped n line st) = refusing n (rust_line_of n line) line st.labels none
+unfoldable pub line_refused : Fault → List Label → Assembled
+line_refused f labels = refusing f.number (rust_line_of f.number f.line) f.line labels none
+
+-- "both tested after the last line" (document 02, a)
+unfoldable pub read_to : List Read → Walk → Assembled
+read_to rs (finished st) = elim (fault_in rs) [ none ↦ accepted st | some f ↦ line_refused f st.labels ]
+read_to rs (stopped n line st) = line_refused (record { number = n; line = line }) st.labels
 
 -- "1 source over 1,048,576 bytes"
 unfoldable pub most_bytes : ℕ
@@ -211,7 +280,7 @@ reading names source room =
       | false ↦ refusing 1 0 0 [] none
       | true ↦ elim (every ascii source) [
         | false ↦ refusing 2 0 (length (lines (before ascii source))) [] none
-        | true ↦ read_to (walk names room 1 0 start (lines source))
+        | true ↦ read_to (reads names source) (walk names room 1 0 start (lines source))
       ]
     ]
 
@@ -219,10 +288,7 @@ reading names source room =
 unfoldable pub fitted : ℕ → Assembled → Assembled
 fitted size (rejected r) = rejected r
 fitted size (accepted st) =
-    elim (leb (image_length (length st.instructions)) size) [
-      | true ↦ accepted st
-      | false ↦ refusing 23 0 0 st.labels (some (image_length (length st.instructions)))
-    ]
+    elim (leb (image_length st.words) size) [ true ↦ accepted st | false ↦ refusing 23 0 0 st.labels (some (image_length st.words)) ]
 
 -- "Assembling takes a source, a label table (entries of start, length, address) and an image buffer": here their lengths.
 unfoldable pub assembling : List Name → List ℕ → ℕ → ℕ → Assembled

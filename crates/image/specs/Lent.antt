@@ -20,7 +20,7 @@ pub data Answer : Type 0 where
   refusal : (number rust_line true_line labels : ℕ) (needed : Option ℕ) → Answer
 
 unfoldable pub answer_of : Assembled → Answer
-answer_of (accepted st) = assembled (length st.instructions) (length st.labels) st.setup
+answer_of (accepted st) = assembled st.words (length st.labels) st.setup
 answer_of (rejected r) = refusal r.number r.rust_line r.true_line (length r.labels) r.needed
 
 -- The labels entered so far, after a refusal too: "Labels stand in the order entered".

@@ -1,28 +1,60 @@
 -- "Demand 3's words are read off source and image": the instructions, settings and image of a source, and when it is accepted;
--- when an image is listed. Quotations are document 01's.
-use Rattle.std.specs.Prelude.{ℕ, ◌≡◌, Bool, true, false}
-use mathlib.Core.List.{List, [], ◌∷◌, map, flat_map}
+-- when an image is listed. Quotations are document 01's, and document 02's where it is named.
+use Rattle.std.specs.Prelude.{ℕ, ◌+◌, ◌≡◌, Bool, true, false, ◌||◌, ℤ, pos}
+use Rattle.std.proofs.Math.Option.{Option, none, some}
+use mathlib.Core.List.{List, [], ◌∷◌, ◌++◌, map}
 use Rattle.text_lexical.specs.Names.{Name}
-use Rattle.instruction.specs.Operands.{Instruction}
+use Rattle.instruction.specs.Operands.{Instruction, Amount, exactly, to, Draft}
 use Rattle.instruction.specs.Words.{word_of}
 use Rattle.image.specs.Settings.{Settings, begin}
 use Rattle.image.specs.Program.{image}
-use Rattle.image.specs.Assembling.{Effect, nothing, sets, codes, faulty, Read, changed_by, reads, Assembled, accepted, rejected, assembling}
+use Rattle.image.specs.Assembling.{Effect, nothing, sets, codes, faulty, Read, changed_by, reads, words_of, address_in, distance, Assembled, accepted, rejected, assembling}
 use Rattle.image.specs.Listing.{Listing, written, rejected as unlisted, listing}
 
 -- ---- "A source's instructions are those on its lines, any label taken off, in line order"
 
-unfoldable pub coded_by : Effect → List Instruction
-coded_by (codes i) = i ∷ []
-coded_by nothing = []
-coded_by (sets s) = []
-coded_by (faulty n) = []
+-- "The number of such an instruction is from here the resolved distance" (document 02, a). An accepted source has each label that is named;
+-- in any other, 0 stands for the distance to one that it has not.
+unfoldable pub resolved : (List ℕ → Option ℕ) → ℕ → Amount → ℤ
+resolved addresses words (exactly z) = z
+resolved addresses words (to u) = elim (addresses u) [ some a ↦ distance words a | none ↦ pos 0 ]
 
-unfoldable pub coded_in : List Read → List Instruction
-coded_in rs = flat_map (λ r. coded_by r.effect) rs
+-- The instruction of a draft with so many words before it, where labels have these addresses.
+unfoldable pub settled : (List ℕ → Option ℕ) → ℕ → Draft → Instruction
+settled addresses words d = record { row = d.row; registers = d.registers; number = elim d.amount [ some a ↦ some (resolved addresses words a) | none ↦ none ] }
+
+unfoldable pub coded_by : (List ℕ → Option ℕ) → ℕ → Effect → List Instruction
+coded_by addresses words (codes d) = settled addresses words d ∷ []
+coded_by addresses words nothing = []
+coded_by addresses words (sets s) = []
+coded_by addresses words (faulty n) = []
+
+unfoldable pub coded_in : (List ℕ → Option ℕ) → ℕ → List Read → List Instruction
+coded_in addresses words [] = []
+coded_in addresses words (r ∷ rs) = coded_by addresses words r.effect ++ coded_in addresses (words + words_of r.effect) rs
 
 unfoldable pub instructions_of : List Name → List ℕ → List Instruction
-instructions_of names source = coded_in (reads names source)
+instructions_of names source = coded_in (address_in 0 (reads names source)) 0 (reads names source)
+
+-- ---- whether an instruction names a label (document 02, a)
+
+-- What stands for a number is a label.
+unfoldable pub is_target : Option Amount → Bool
+is_target none = false
+is_target (some (exactly z)) = false
+is_target (some (to u)) = true
+
+-- A line has an instruction with a label for its number,
+unfoldable pub names_target : Effect → Bool
+names_target (codes d) = is_target d.amount
+names_target nothing = false
+names_target (sets s) = false
+names_target (faulty n) = false
+
+-- and one of some lines has.
+unfoldable pub any_target : List Read → Bool
+any_target [] = false
+any_target (r ∷ rs) = names_target r.effect || any_target rs
 
 -- ---- "Final settings are 20, 2, 2 as changed by the `.config` lines in order."
 

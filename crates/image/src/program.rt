@@ -1,13 +1,13 @@
 // The header of an image: written, read and checked.
 ghost use Rattle.std.specs.Prelude.{◌≡◌, ◌+◌, ◌*◌, ◌≤◌, length};
 ghost use Rattle.refusal.specs.Refusals.{answered, fault_of};
-ghost use Rattle.image.specs.Assembling.{most_words};
+ghost use Rattle.image.specs.Assembling.{most_words, address_after};
 ghost use Rattle.image.specs.Program.{header_bytes, header_for, image_length, number_at, header_of};
 ghost use Rattle.image.specs.Opening.{header_fault, opening};
 ghost use Rattle.image.specs.Promised.{settings_meant, header_meant, opened_meant};
 
 use crate::config::Config;
-use crate::limits::{HEADER_SIZE, MAGIC, VERSION, WORD_SIZE};
+use crate::limits::{ENTRY, HEADER_SIZE, MAGIC, VERSION, WORD_SIZE};
 use refusal::refusal::Refusal;
 use text_writer::sink::Sink;
 
@@ -48,6 +48,15 @@ pub fn image_length(words: usize) -> usize
     ensures { result ≡ image_length words }
 {
     HEADER_SIZE + code_size(words)
+}
+
+// The address of the word that follows so many words.
+#[tactic(auto, unfolding(crate::specs::Assembling::most_words, crate::specs::Assembling::address_after, crate::specs::Program::entry))]
+pub fn address_after(words: usize) -> u64
+    requires { words ≤ most_words }
+    ensures { result ≡ address_after words }
+{
+    u64::from(ENTRY) + (WORD_SIZE * words) as u64
 }
 
 // Puts the header of a program with settings and a size of code. Entry and stack size are fixed byte strings, as document 01 names that

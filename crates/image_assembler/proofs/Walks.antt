@@ -1,11 +1,13 @@
 -- Laws of the first walk over a label table: how it begins, goes on from a label to the next, and what it comes to.
-use Rattle.std.specs.Prelude.{Result, Ok, Err, Some, None}
+use Rattle.std.specs.Prelude.{⊤, Result, Ok, Err, Some, None}
+use Rattle.std.specs.Borrow.{Bor}
 use Rattle.std.specs.Prelude.{Option as Maybe}
 use Prim.Native.Nat.{ℕ, ◌+◌, ◌-◌, ◌≤◌, ◌<◌}
 use mathlib.Core.Path.{◌≡◌, refl, sym, ap, ap₂, subst, ◌∙◌}
 use native.Mathlib.Omega.{arith}
 use native.Mathlib.Numerals.{add-one}
 use mathlib.Core.Bool.{Bool, true, false}
+use mathlib.Core.Option.{Option, none, some}
 use mathlib.Core.List.{List, [], ◌∷◌, ◌++◌, map, map-append}
 use lib.ListN.{length, take, set, length-map, length-append}
 use lib.Seq.{set_out}
@@ -16,30 +18,32 @@ use Rattle.text_lexical.specs.Names.{Name}
 use Rattle.refusal.specs.Refusals.{fault_of}
 use Rattle.text_lexical.proofs.Tests.{by-test}
 use Rattle.text.specs.NameSets.{Naming}
-use Rattle.image.specs.Assembling.{is_known, most_bytes}
+use Rattle.image.specs.Assembling.{is_known, address_of, reads, Fault, fault_in, most_bytes}
 use Rattle.image.specs.Assembling.{Label as Meant}
 use Rattle.image.specs.Lent.{over}
-use Rattle.image_labels.specs.Promised.{entry_of, InText, spelled, any_named, entry_fault, count_after, Enters, Spelled}
+use Rattle.image.specs.Promised.{settings_meant}
+use Rattle.image_labels.specs.Promised.{entry_of, InText, spelled, any_named, address_at, entry_fault, count_after, Enters, Spelled}
 use Rattle.image_labels.specs.Tree.{place_before, unlinked, Tree, TreeAfter, Enterable, Linked, SameLent}
-use Rattle.image_labels.proofs.Named.{spelled-long}
+use Rattle.image_labels.proofs.Named.{spelled-long, address-is}
 use Rattle.image_labels.specs.declared.label.Label.{Label}
 use Rattle.image_labels.specs.declared.label.Labels.{Labels}
-use Rattle.image_passes.specs.Promised.{Entry, Verdict, begun, followed, WalkEnds, Sound, Scannable, ReadsOn}
+use Rattle.image_passes.specs.Promised.{Entry, Verdict, begun, followed, WalkEnds, ReadingEnds, Sound, Scannable, ReadsOn, Entered, refused_for, Ready}
 use Rattle.image_passes.proofs.Reaching.{LabelNext, ReachedFrom, Progress, Resumes, with_entry, label_at}
-use Rattle.image_passes.proofs.Answers.{begins-stand}
+use Rattle.image_passes.proofs.Answers.{begins-stand, through-entered, through-ready, through-untargeted, through-accepts, through-refused}
 use Rattle.image_passes.proofs.Scanning.{reads-stand, goes-stand, NextLine, goes-line}
 use Rattle.image_passes.specs.declared.first_pass.Pass.{Pass}
 use Rattle.image_passes.specs.declared.first_pass.Pass.TheVariants.{AtLabel, Ended as PassEnded}
 use Rattle.image_passes.specs.declared.first_pass.Next.{Next}
 use Rattle.image_passes.specs.declared.first_pass.Next.TheVariants.{From, Ended as NextEnded}
 use Rattle.image_passes.specs.declared.first_pass.Cursor.{Cursor}
+use Rattle.image_passes.specs.declared.first_pass.Found.{Found}
 use Rattle.image_passes.specs.declared.first_pass.Stopped.{Stopped}
 use Rattle.image_passes.specs.declared.first_pass.LabelLine.{LabelLine}
 use Rattle.image.proofs.Over.{take-over, length_over, over-more}
-use Rattle.image_assembler.specs.Promised.{overlong, Finishable, Finishes, Starts, Holds, Walks, Assembles}
+use Rattle.image_assembler.specs.Promised.{overlong, Finishable, Finishes, Starts, Holds, Walks, Resolves, Assembles}
 use Rattle.image_assembler.specs.declared.assembler.Assembled.{Assembled}
 use Rattle.image_assembler.specs.declared.assembler.AssembleError.{AssembleError}
-use Rattle.image_assembler.proofs.Answers.{ends-ready, ends-answers, overlong-answers}
+use Rattle.image_assembler.proofs.Answers.{ends-answers, overlong-answers}
 
 -- ---- labels and their entries
 
@@ -78,7 +82,7 @@ counted ls l (Err r) = refl
 -- ---- the walk
 
 -- Labels have been entered since the walk began, and something holds of them.
-pub record Entered (old now : Labels) (Stands : List Meant → Type 0) : Type 0 where
+pub record LabelsSince (old now : Labels) (Stands : List Meant → Type 0) : Type 0 where
   pub labels : List Meant
   pub stands : Stands labels
   pub counted : now.count ≡ length labels
@@ -87,27 +91,27 @@ pub record Entered (old now : Labels) (Stands : List Meant → Type 0) : Type 0 
   pub lent : SameLent old now
 
 -- Something else holds of the same labels.
-standing : {old now : Labels} {P Q : List Meant → Type 0} → ((ls : List Meant) → P ls → Q ls) → Entered old now P → Entered old now Q
+standing : {old now : Labels} {P Q : List Meant → Type 0} → ((ls : List Meant) → P ls → Q ls) → LabelsSince old now P → LabelsSince old now Q
 standing f w = record { labels = w.labels; stands = f w.labels w.stands; counted = w.counted; holds = w.holds; linked = w.linked; lent = w.lent }
 
 -- The walk reads on from a line. A line has at most one label, so fewer labels have been entered than its number.
 pub record Walking (names : List Name) (old now : Labels) (c : Cursor) : Type 0 where
-  pub entered : Entered old now (λ ls. ReachedFrom names old.source.now (length old.table.now) ls c)
+  pub entered : LabelsSince old now (λ ls. ReachedFrom names old.source.now (length old.table.now) ls c)
   pub sound : Scannable old.source.now c
   pub few : now.count + 1 ≤ c.line
 
 -- It has come to a line whose label is to be entered.
 pub record Stopping (names : List Name) (old now : Labels) (p : LabelLine) : Type 0 where
-  pub entered : Entered old now (λ ls. LabelNext names old.source.now (length old.table.now) ls p)
+  pub entered : LabelsSince old now (λ ls. LabelNext names old.source.now (length old.table.now) ls p)
   pub sound : Sound old.source.now p
   pub few : now.count + 1 ≤ p.line
 
 -- It has ended.
 abbrev Ended : List Name → Labels → Labels → Verdict → Type 0
-Ended names old now v = Entered old now (λ ls. WalkEnds names old.source.now (length old.table.now) ls v)
+Ended names old now v = LabelsSince old now (λ ls. WalkEnds names old.source.now (length old.table.now) ls v)
 
-walks : {names : List Name} {old now : Labels} {v : Verdict} → Ended names old now v → Walks names old now v
-walks w = record { labels = w.labels; ends = w.stands; counted = w.counted; holds = w.holds; linked = w.linked; lent = w.lent }
+walks : {names : List Name} {old now : Labels} {v : Verdict} → Ended names old now v → now.count ≤ most_bytes → Walks names old now v
+walks w few = record { labels = w.labels; ends = w.stands; counted = w.counted; few = few; holds = w.holds; linked = w.linked; lent = w.lent }
 
 -- What is left, counted in lines.
 abbrev pub left : List ℕ → Cursor → ℕ
@@ -116,7 +120,7 @@ left s c = length s + 2 - c.line
 -- ---- how it begins
 
 module _ {old : Labels} (x : Starts old) where
-  none-entered : {P : List Meant → Type 0} → P [] → Entered old old P
+  none-entered : {P : List Meant → Type 0} → P [] → LabelsSince old old P
   unfolding unlinked over
   none-entered stands =
       let none : old.count ≡ 0 = x.none_entered in
@@ -139,7 +143,8 @@ module _ {old : Labels} (x : Starts old) where
 
   -- The source is refused before any line,
   pub walks-refused : (names : List Name) {t : Stopped} → Err t ≡ begun old.source.now → Walks names old old (Err t)
-  walks-refused names b = walks (none-entered (begins-stand names old.source.now x.short (length old.table.now) b))
+  unfolding most_bytes
+  walks-refused names b = walks (none-entered (begins-stand names old.source.now x.short (length old.table.now) b)) (omega (arith, x.none_entered))
 
   -- or the walk reads on from the first line, which is line 1.
   pub walking-begin : (names : List Name) {c : Cursor} → Ok c ≡ begun old.source.now → Walking names old old c
@@ -154,16 +159,16 @@ module _ {old : Labels} (x : Starts old) where
 -- ---- how it reads on
 
 module _ {names : List Name} {old now : Labels} {c : Cursor} (ok : Naming names) (w : Walking names old now c) where
-  reads : {p : Pass} → ReadsOn names old.source.now c p → Entered old now (λ ls. Progress names old.source.now (length old.table.now) ls p)
-  reads r = standing (λ ls h. reads-stand ok r w.sound (length old.table.now) ls h) w.entered
+  progress : {p : Pass} → ReadsOn names old.source.now c p → LabelsSince old now (λ ls. Progress names old.source.now (length old.table.now) ls p)
+  progress r = standing (λ ls h. reads-stand ok r w.sound (length old.table.now) ls h) w.entered
 
   -- To a label,
   pub walking-label : {p : LabelLine} → ReadsOn names old.source.now c (AtLabel p) → Stopping names old now p
-  walking-label r = record { entered = reads r; sound = r.sound; few = omega (arith, w.few, r.after) }
+  walking-label r = record { entered = progress r; sound = r.sound; few = omega (arith, w.few, r.after) }
 
   -- or to its end.
   pub walking-ends : {v : Verdict} → ReadsOn names old.source.now c (PassEnded v) → Walks names old now v
-  walking-ends r = walks (reads r)
+  walking-ends r = walks (progress r) (omega (arith, w.few, w.sound.few_lines, w.sound.in_text, w.sound.short))
 
 -- ---- how it goes on
 
@@ -217,7 +222,7 @@ module _ {s : List ℕ} {old table : List Label} (p : LabelLine) {ls : List Mean
 
 -- It stands at a label.
 module _ {names : List Name} {old now : Labels} {p : LabelLine} (w : Stopping names old now p) where
-  abbrev so-far : Entered old now (λ ls. LabelNext names old.source.now (length old.table.now) ls p)
+  abbrev so-far : LabelsSince old now (λ ls. LabelNext names old.source.now (length old.table.now) ls p)
   so-far = w.entered
 
   -- What entering the label asks for.
@@ -240,7 +245,7 @@ module _ {names : List Name} {old now : Labels} {p : LabelLine} (w : Stopping na
     linked-after (Ok u) f = f.1
     linked-after (Err r) f = rw (f.0, f.1) so-far.linked
 
-    goes : Entered old next (λ ls. Resumes names old.source.now (length old.table.now) ls n)
+    goes : LabelsSince old next (λ ls. Resumes names old.source.now (length old.table.now) ls n)
     goes =
         record {
           labels = with_entry e so-far.labels (label_at old.source.now p);
@@ -261,7 +266,7 @@ module _ {names : List Name} {old now : Labels} {p : LabelLine} (w : Stopping na
 
     -- It has ended,
     pub walking_ended : {v : Verdict} → n ≡ NextEnded v → Walks names old next v
-    walking_ended k = walks (rw k at goes)
+    walking_ended k = walks (rw k at goes) (omega (arith, more, at-most-one e, w.few, w.sound.line_fits, w.sound.short))
 
     -- or it reads on from a line after that of the label.
     module _ {c : Cursor} (k : n ≡ From c) where
@@ -278,16 +283,53 @@ module _ {names : List Name} {old now : Labels} {p : LabelLine} (w : Stopping na
 -- ---- what its end comes to
 
 module _ {names : List Name} {old new : Labels} {v : Verdict} (w : Walks names old new v) where
-  -- What `finish` asks for.
-  pub walks-ready : Finishable names old.source.now v
-  walks-ready = ends-ready names old.source.now (length old.table.now) w.labels v w.ends
+  same-source : new.source.now ≡ old.source.now
+  same-source = ap (λ (x : Bor (List ℕ)). x.now) w.lent.same_source
 
-  -- The second walk has ended too, and the entries are unlinked.
-  pub walks-end : {table' : List Label} {image image' : List ℕ} {r : Result Assembled AssembleError} → table' ≡ unlinked new.count new.table.now → Finishes names old.source.now new.count image image' r v
-      → Assembles names old.source.now old.table.now image table' image' r
-  walks-end {image = image} {image'} {r} e f =
-      let a = ends-answers names old.source.now (length old.table.now) new.count w.labels image image' r w.counted v w.ends f in
-      record { answer = a.answer; table_holds = e ∙ w.holds.table_is ∙ ap (λ (ls : List Meant). over (map entry_of ls) old.table.now) a.labels_are; image_holds = a.image_holds }
+  -- A source has been read where its verdict is known.
+  resolves : {v' : Verdict} → ReadingEnds names old.source.now (length old.table.now) w.labels v' → Finishable names new v' → Resolves names old new v'
+  resolves e f = record { labels = w.labels; ends = e; counted = w.counted; holds = w.holds; finishable = f; linked = w.linked; lent = w.lent }
+
+module _ {names : List Name} {old new : Labels} {f : Found} (w : Walks names old new (Ok f)) where
+  addresses-are : (u : List ℕ) → address_at old.source.now (take new.count (unlinked new.count new.table.now)) u ≡ address_of w.labels u
+  addresses-are u =
+      let h = w.holds in
+      ap (λ (n : ℕ). address_at old.source.now (take n (unlinked new.count new.table.now)) u) w.counted
+      ∙ ap (λ (ls : List Label). address_at old.source.now ls u) (firsts-are old.source.now old.table.now (unlinked new.count new.table.now) w.labels h.table_is)
+      ∙ address-is old.source.now u w.labels h.spelled
+
+  -- The source has been read to its end: its labels may be looked up.
+  pub walks-entered : Entered names new
+  walks-entered = through-entered w.ends new (same-source w) w.linked w.few addresses-are
+
+  -- None is refused,
+  resolves-without : fault_in (reads names old.source.now) ≡ none → Resolves names old new (Ok f)
+  resolves-without n =
+      resolves w (through-accepts w.ends n) (walks-entered, subst (λ (s : List ℕ). Ready names s f.words (settings_meant f.config)) (sym (same-source w)) (through-ready w.ends n))
+
+  -- since none is named,
+  pub resolves-untargeted : f.targets ≡ false → Resolves names old new (Ok f)
+  resolves-untargeted e = resolves-without (through-untargeted w.ends e)
+
+  -- or each was looked up;
+  pub resolves-checked : {u : ⊤} → Ok u ≡ refused_for (fault_in (reads names new.source.now)) → Resolves names old new (Ok f)
+  resolves-checked {u} e = resolves-without (go (fault_in (reads names old.source.now)) (rw (same-source w) at e))
+    where
+      go : (o : Option Fault) → ◌≡◌ {A = Result ⊤ Stopped} (Ok u) (refused_for o) → o ≡ none
+      go none h = refl
+      go (some x) h = let y : ◌≡◌ {A = ℕ} 0 1 = cc in absurd (omega arith)
+
+  -- or one is refused.
+  pub resolves-refused : {t : Stopped} → Err t ≡ refused_for (fault_in (reads names new.source.now)) → Resolves names old new (Err t)
+  resolves-refused e = resolves w (through-refused w.ends (rw (same-source w) at e)) tt
+
+-- The second walk has ended too, and the entries are unlinked.
+pub resolves-end : {names : List Name} {old new : Labels} {v : Verdict} → Resolves names old new v → {table' : List Label} {image image' : List ℕ} {r : Result Assembled AssembleError}
+    → table' ≡ unlinked new.count new.table.now → Finishes names new image image' r v → Assembles names old.source.now old.table.now image table' image' r
+resolves-end {names} {old} {new} {v} w {image = image} {image'} {r} e f =
+    let same : new.source.now ≡ old.source.now = ap (λ (x : Bor (List ℕ)). x.now) w.lent.same_source in
+    let a = ends-answers names old.source.now (length old.table.now) w.labels new image image' r same w.counted v w.ends f in
+    record { answer = a.answer; table_holds = e ∙ w.holds.table_is ∙ ap (λ (ls : List Meant). over (map entry_of ls) old.table.now) a.labels_are; image_holds = a.image_holds }
 
 -- ---- a source that is too long
 

@@ -13,7 +13,7 @@ use Rattle.image_labels.specs.Promised.{entry_of, Spelled}
 use Rattle.image_labels.specs.Tree.{unlinked, Bare, Linked, SameLent}
 use Rattle.image_labels.specs.declared.label.Label.{Label}
 use Rattle.image_labels.specs.declared.label.Labels.{Labels}
-use Rattle.image_passes.specs.Promised.{Verdict, WalkEnds, Ready, Fills}
+use Rattle.image_passes.specs.Promised.{Verdict, WalkEnds, ReadingEnds, Entered, Ready, Fills}
 use Rattle.image_passes.specs.declared.second_pass.TooShort.{TooShort as Short}
 use Rattle.image_assembler.specs.declared.assembler.Assembled.{Assembled}
 use Rattle.image_assembler.specs.declared.assembler.AssembleError.{AssembleError}
@@ -35,10 +35,10 @@ abbrev pub answer_for : Result ⊤ Short → ℕ → ℕ → Config → Result A
 answer_for (Ok u) words labels c = Ok (record { words = words; labels = labels; config = c })
 answer_for (Err short) words labels c = Err (TooShort labels short.needed)
 
--- What `finish` asks of a verdict.
-abbrev pub Finishable : List Name → List ℕ → Verdict → Type 0
-Finishable names s (Ok f) = Ready names s f.words (settings_meant f.config)
-Finishable names s (Err e) = Unit {0}
+-- What `finish` asks of labels and a verdict.
+abbrev pub Finishable : List Name → Labels → Verdict → Type 0
+Finishable names labels (Ok f) = Entered names labels × Ready names labels.source.now f.words (settings_meant f.config)
+Finishable names labels (Err e) = Unit {0}
 
 -- What a walk that has been finished comes to, with an image buffer before and after.
 pub record Completes (names : List Name) (s : List ℕ) (words labels : ℕ) (c : Config) (old new : List ℕ) (r : Result Assembled AssembleError) : Type 0 where
@@ -46,10 +46,10 @@ pub record Completes (names : List Name) (s : List ℕ) (words labels : ℕ) (c 
   pub fills : Fills names s words old new fill
   pub answer : r ≡ answer_for fill words labels c
 
--- What a first walk that has ended comes to, with so many labels, and an image buffer before and after.
-abbrev pub Finishes : List Name → List ℕ → ℕ → List ℕ → List ℕ → Result Assembled AssembleError → Verdict → Type 0
-Finishes names s labels old new r (Ok f) = Completes names s f.words labels f.config old new r
-Finishes names s labels old new r (Err e) = (r ≡ Err (Refused e.refusal e.rust_line e.line labels)) × (new ≡ old)
+-- What a source that was read comes to, with its labels, and an image buffer before and after.
+abbrev pub Finishes : List Name → Labels → List ℕ → List ℕ → Result Assembled AssembleError → Verdict → Type 0
+Finishes names labels old new r (Ok f) = Completes names labels.source.now f.words labels.count f.config old new r
+Finishes names labels old new r (Err e) = (r ≡ Err (Refused e.refusal e.rust_line e.line labels.count)) × (new ≡ old)
 
 -- ---- assembling
 
@@ -71,7 +71,18 @@ pub record Walks (names : List Name) (old new : Labels) (v : Verdict) : Type 0 w
   pub labels : List Meant
   pub ends : WalkEnds names old.source.now (length old.table.now) labels v
   pub counted : new.count ≡ length labels
+  pub few : new.count ≤ most_bytes
   pub holds : Holds old.source.now old.table.now (unlinked new.count new.table.now) labels
+  pub linked : Linked new
+  pub lent : SameLent old new
+
+-- A source has been read, with labels entered, which are counted and stand in the table as after the first walk.
+pub record Resolves (names : List Name) (old new : Labels) (v : Verdict) : Type 0 where
+  pub labels : List Meant
+  pub ends : ReadingEnds names old.source.now (length old.table.now) labels v
+  pub counted : new.count ≡ length labels
+  pub holds : Holds old.source.now old.table.now (unlinked new.count new.table.now) labels
+  pub finishable : Finishable names new v
   pub linked : Linked new
   pub lent : SameLent old new
 

@@ -1,8 +1,8 @@
-// Assembling: the first walk enters the labels, the second writes the image.
+// Assembling: the first walk enters the labels, the second checks those that instructions name, if any does, and then writes the image.
 ghost use Rattle.std.specs.Prelude.{◌≡◌};
 ghost use Rattle.text_lexical.specs.Names.{present};
 ghost use Rattle.image_labels.specs.Tree.{Bare};
-ghost use Rattle.image_assembler.specs.Promised.{Finishable, Finishes, Starts, Walks, Assembles};
+ghost use Rattle.image_assembler.specs.Promised.{Finishable, Finishes, Starts, Walks, Resolves, Assembles};
 
 use image::config::Config;
 use image_labels::label::{Label, Labels};
@@ -34,34 +34,28 @@ pub enum AssembleError {
     },
 }
 
-// What a first walk that has ended comes to, with so many labels entered: its refusal, or the image.
-fn finish(
-    source: &[u8],
-    image: &mut [u8],
-    labels: usize,
-    verdict: Verdict,
-) -> Result<Assembled, AssembleError>
-    requires { Finishable present source.now verdict }
-    ensures { Finishes present source.now labels image.old image.new result verdict }
+// What a source that was read comes to, with its labels entered: its refusal, or the image.
+fn finish(labels: &Labels, image: &mut [u8], verdict: Verdict) -> Result<Assembled, AssembleError>
+    requires { Finishable present labels.now verdict }
+    ensures { Finishes present labels.now image.old image.new result verdict }
 {
-    let finished = verdict.map_err(|stopped| AssembleError::Refused {
+    let count = labels.count;
+    let found = verdict.map_err(|stopped| AssembleError::Refused {
         refusal: stopped.refusal,
         rust_line: stopped.rust_line,
         line: stopped.line,
-        labels,
+        labels: count,
     })?;
-    let words = finished.words;
-    let config = finished.config;
-    image_passes::second_pass::write_image(source, image, words, config).map_err(|short| {
+    image_passes::second_pass::write_image(labels, image, found).map_err(|short| {
         AssembleError::TooShort {
-            labels,
+            labels: count,
             needed: short.needed,
         }
     })?;
     Ok(Assembled {
-        words,
-        labels,
-        config,
+        words: found.words,
+        labels: count,
+        config: found.config,
     })
 }
 
@@ -85,6 +79,20 @@ fn walk(labels: &mut Labels) -> Verdict
             }
         }
     }
+}
+
+// Reads a source: all its lines, and then the labels that they name. It answers all refusals but 1, which `assemble` asks first, and
+// 23, and wants no image buffer. The labels
+// stay linked.
+fn resolve(labels: &mut Labels) -> Verdict
+    requires { Starts labels.old }
+    ensures { Resolves present labels.old labels.new result }
+{
+    let found = walk(labels)?;
+    if found.targets {
+        image_passes::second_pass::check_targets(labels)?;
+    }
+    Ok(found)
 }
 
 // How many hash buckets labels have: few labels of an ordinary source share one, and clearing them takes less time than reading 1 KB.
@@ -122,8 +130,8 @@ pub fn assemble(
         roots: &mut roots,
         count: 0,
     };
-    let verdict = walk(&mut labels);
-    let assembled = finish(source, image, labels.count, verdict);
+    let verdict = resolve(&mut labels);
+    let assembled = finish(&labels, image, verdict);
     labels.unlink();
     assembled
 }

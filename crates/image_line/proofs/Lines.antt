@@ -1,8 +1,8 @@
 -- The key of a word, labels, and the line that a label, a mnemonic and its operands make.
 use Prim.Native.Nat.{ℕ, suc, ◌+◌, ◌-◌, ◌≤◌, ◌<◌}
-use mathlib.Core.Path.{◌≡◌, refl, sym, ap, ◌∙◌}
+use mathlib.Core.Path.{◌≡◌, refl, sym, ap, ◌∙◌, subst}
 use native.Mathlib.Omega.{arith}
-use mathlib.Core.Bool.{true, false, not, and-eq-true_iff, true≢false}
+use mathlib.Core.Bool.{Bool, true, false, not, and-eq-true_iff, true≢false}
 use mathlib.Core.Option.{Option, none, some}
 use mathlib.Core.List.{List, [], ◌∷◌, map}
 use lib.ListN.{length, take, drop, get_or, length-take, get_or-eq_default}
@@ -24,26 +24,28 @@ use Rattle.text_lexical.proofs.Strings.{same-eq, found}
 use Rattle.text.specs.Tokens.{Token, identifier, register, number, hex, binary, directive, comma, colon, opening, closing, infront, tokens}
 use Rattle.text.specs.Lines.{Line, kept, line_of, record_of, read_line}
 use Rattle.text.specs.NameSets.{Naming}
-use Rattle.text.specs.Places.{rest_at, left_at, end_at, StartsAt}
+use Rattle.text.specs.Places.{rest_at, left_at, end_at, Uncut, StartsAt}
 use Rattle.text.specs.declared.lexer.Kind.TheVariants.{Identifier}
-use Rattle.text.proofs.Left.{start-solid}
+use Rattle.text.proofs.Left.{start-solid, uncut_on}
 use Rattle.text.proofs.Fronts.{run_in, word_at}
 use Rattle.text.proofs.Stepping.{solid-step}
 use Rattle.instruction.specs.Table.{reg, Form, R, I, Shift, Load, Store, Branch, Jump, System, places, row, table, row_named}
 use Rattle.instruction.specs.declared.opcode.Mnemonic.{Mnemonic}
-use Rattle.instruction.specs.Operands.{Operands, Instruction, read_identifier, read_register, mark_byte, read_place, read_operands, made, read_row, read_mnemonic, read_instruction, behind}
-use Rattle.instruction.specs.Promised.{row_of, operands_meant, SettledFor, parts_meant, Settled}
-use Rattle.instruction.specs.declared.instruction.Operands.{Operands as Kept}
+use Rattle.instruction.specs.Operands.{takes_label, DraftOperands, read_identifier, read_register, mark_byte, read_place, read_operands, made, read_row, read_mnemonic, read_instruction, behind}
+use Rattle.instruction.specs.Operands.{Draft as MeantDraft}
+use Rattle.instruction.specs.Promised.{row_of, spelled_in, taken_for, draft_meant, DraftSettled}
+use Rattle.instruction.specs.declared.instruction.Draft.{Draft}
 use Rattle.instruction.proofs.Lookup.{row-by-key}
+use Rattle.instruction_operands.specs.Sources.{form_of}
 use Rattle.instruction_operands.proofs.Line.{six-places}
 use Rattle.instruction.specs.Kinds.{plain, identifier_kind, kind_of}
 use Rattle.image.specs.Assembling.{Context, nothing, codes, coding, after_label, read_kind, read_on}
-use Rattle.image_line.specs.Promised.{Reads, TailIs, is_label, Labels, OptionalLabel, WordHere, FirstWordIs, EffectSettled, read_meant, label_length, end_of, LineIs, ReadsAs}
+use Rattle.image_line.specs.Promised.{Reads, LabelIf, TailIs, is_label, Labels, OptionalLabel, WordHere, FirstWordIs, OfDraft, read_meant, label_length, end_of, LineIs, ReadsAs}
 use Rattle.image_line.specs.declared.fast.FirstWord.{FirstWord}
 use Rattle.image_line.specs.declared.line.Effect.TheVariants.{Nothing, Codes}
 use Rattle.image_line.specs.declared.line.Read.{Read}
 use Rattle.image_line.proofs.Answers.{answered}
-use Rattle.image_line.proofs.Starts.{starts-here, content-reads}
+use Rattle.image_line.proofs.Starts.{starts-here, content-reads, label-before}
 use Rattle.image_line.proofs.Places.{stepped-reads, word-goes, colon-reads, blanks-after}
 
 -- ---- a mnemonic is no register's name
@@ -162,41 +164,54 @@ label-in names s start at (Some n) l is = is.mark.in_text
 -- ---- the line
 
 -- The first operand of a form is a register.
-register-first : (bit : ℕ) (t : Token) (rest : Result Operands) (o : Operands) → read_place (reg bit) t rest ≡ value o → eqb (mark_byte t) 58 ≡ false
+register-first : (label : Bool) (bit : ℕ) (t : Token) (rest : Result DraftOperands) (o : DraftOperands) → read_place label (reg bit) t rest ≡ value o → eqb (mark_byte t) 58 ≡ false
 unfolding read_place read_register mark_byte
-register-first bit (register r) rest o h = refl
-register-first bit (identifier u) rest o h = refl
-register-first bit (number z) rest o h = refl
-register-first bit (hex n) rest o h = refl
-register-first bit (binary n) rest o h = refl
-register-first bit (directive u) rest o h = refl
-register-first bit comma rest o h = refl
-register-first bit opening rest o h = refl
-register-first bit closing rest o h = refl
-register-first bit colon rest o h = let z : ◌≡◌ {A = ℕ} 0 1 = cc in absurd (omega arith)
+register-first label bit (register r) rest o h = refl
+register-first label bit (identifier u) rest o h = refl
+register-first label bit (number z) rest o h = refl
+register-first label bit (hex n) rest o h = refl
+register-first label bit (binary n) rest o h = refl
+register-first label bit (directive u) rest o h = refl
+register-first label bit comma rest o h = refl
+register-first label bit opening rest o h = refl
+register-first label bit closing rest o h = refl
+register-first label bit colon rest o h = let z : ◌≡◌ {A = ℕ} 0 1 = cc in absurd (omega arith)
 
 no_label : (u : List ℕ) (t : Token) (ts : List Token) → eqb (mark_byte t) 58 ≡ false → kind_of (identifier u ∷ t ∷ ts) ≡ plain
 unfolding kind_of identifier_kind
 no_label u t ts e = rw (identifier_kind, e)
 
-is_plain : (f : Form) (u : List ℕ) (ts : List Token) (o : Operands) → length ts ≡ length (places f) → read_operands (places f) ts ≡ value o → kind_of (identifier u ∷ ts) ≡ plain
+is_plain : (f : Form) (u : List ℕ) (ts : List Token) (o : DraftOperands) → length ts ≡ length (places f) → read_operands (takes_label f) (places f) ts ≡ value o
+    → kind_of (identifier u ∷ ts) ≡ plain
 unfolding kind_of identifier_kind places read_operands
 is_plain f u [] o l h = refl
-is_plain R u (t ∷ ts) o l h = no_label u t ts (register-first _ t _ o h)
-is_plain I u (t ∷ ts) o l h = no_label u t ts (register-first _ t _ o h)
-is_plain Shift u (t ∷ ts) o l h = no_label u t ts (register-first _ t _ o h)
-is_plain Load u (t ∷ ts) o l h = no_label u t ts (register-first _ t _ o h)
-is_plain Store u (t ∷ ts) o l h = no_label u t ts (register-first _ t _ o h)
-is_plain Branch u (t ∷ ts) o l h = no_label u t ts (register-first _ t _ o h)
-is_plain Jump u (t ∷ ts) o l h = no_label u t ts (register-first _ t _ o h)
+is_plain R u (t ∷ ts) o l h = no_label u t ts (register-first _ _ t _ o h)
+is_plain I u (t ∷ ts) o l h = no_label u t ts (register-first _ _ t _ o h)
+is_plain Shift u (t ∷ ts) o l h = no_label u t ts (register-first _ _ t _ o h)
+is_plain Load u (t ∷ ts) o l h = no_label u t ts (register-first _ _ t _ o h)
+is_plain Store u (t ∷ ts) o l h = no_label u t ts (register-first _ _ t _ o h)
+is_plain Branch u (t ∷ ts) o l h = no_label u t ts (register-first _ _ t _ o h)
+is_plain Jump u (t ∷ ts) o l h = no_label u t ts (register-first _ _ t _ o h)
 is_plain System u (t ∷ ts) o l h = absurd (omega arith)
 
--- The tokens of a mnemonic and operands, read as an instruction.
-row_read : (m : Mnemonic) (u : List ℕ) (ts : List Token) (o : Kept) → row_named (map lower u) ≡ some (row_of m) → length ts ≡ length (places (row_of m).form)
-    → read_operands (places (row_of m).form) ts ≡ value (operands_meant (places (row_of m).form) o)
-    → read_mnemonic (identifier u) (length ts) ts ≡ value (parts_meant (record { mnemonic = m; operands = o }))
-unfolding read_mnemonic read_identifier read_row made
-row_read m u ts o n l h = rw (read_mnemonic, n, read_row, eq-eqb (length ts) (length (places (row_of m).form)) l, h)
+-- The tokens of a draft's mnemonic and operands, as they are spelled in a text.
+record Written (s : List ℕ) (d : Draft) (u : List ℕ) (ts : List Token) : Type 0 where
+  named-is : row_named (map lower u) ≡ some (row_of d.mnemonic)
+  count : length ts ≡ length (places (form_of d.mnemonic))
+  read : read_operands (takes_label (form_of d.mnemonic)) (places (form_of d.mnemonic)) ts
+      ≡ value (taken_for (spelled_in s) (places (form_of d.mnemonic)) d.registers d.amount)
+
+module _ {s : List ℕ} {d : Draft} {u : List ℕ} {ts : List Token} (w : Written s d u ts) where
+  few : length ts ≤ 6
+  few = omega (arith, w.count, six-places (form_of d.mnemonic))
+
+  written-plain : kind_of (identifier u ∷ ts) ≡ plain
+  written-plain = is_plain (form_of d.mnemonic) u ts _ w.count w.read
+
+  -- They are read as an instruction.
+  row_read : read_mnemonic (identifier u) (length ts) ts ≡ value (draft_meant (spelled_in s) d)
+  unfolding read_mnemonic read_identifier read_row made
+  row_read = rw (read_mnemonic, w.named-is, read_row, eq-eqb (length ts) (length (places (form_of d.mnemonic))) w.count, w.read)
 
 kept-all : (ts : List Token) → length ts ≤ kept → line_of ts ≡ record { count = length ts; first = ts }
 unfolding line_of
@@ -229,42 +244,25 @@ first-row : (u : List ℕ) (ts : List Token) → read_instruction (record { coun
 unfolding read_instruction
 first-row u ts = let e : suc (length ts) - 1 ≡ length ts = omega arith in rw e
 
--- The tokens of an instruction.
-record Written (m : Mnemonic) (o : Kept) (u : List ℕ) (ts : List Token) : Type 0 where
-  few : length ts ≤ 6
-  is_plain : kind_of (identifier u ∷ ts) ≡ plain
-  mnemonic-read : read_mnemonic (identifier u) (length ts) ts ≡ value (parts_meant (record { mnemonic = m; operands = o }))
-  settled : Settled (record { mnemonic = m; operands = o })
-
-module _ (c : Context) (m : Mnemonic) (o : Kept) (u : List ℕ) (ts : List Token) (w : Written m o u ts) where
-  read-instruction : read_on c (some (record { count = suc (length ts); first = identifier u ∷ ts })) ≡ record { label = none; effect = codes (parts_meant (record { mnemonic = m; operands = o })) }
+module _ (c : Context) (s : List ℕ) (d : Draft) (u : List ℕ) (ts : List Token) (w : Written s d u ts) where
+  read-instruction : read_on c (some (record { count = suc (length ts); first = identifier u ∷ ts })) ≡ record { label = none; effect = codes (draft_meant (spelled_in s) d) }
   unfolding read_on read_kind coding
-  read-instruction = rw w.is_plain (ap (λ (x : Result Instruction). record { label = none; effect = coding x }) (first-row u ts ∙ w.mnemonic-read))
+  read-instruction = rw (written-plain w) (ap (λ (x : Result MeantDraft). record { label = none; effect = coding x }) (first-row u ts ∙ row_read w))
 
   read-labelled : (v : List ℕ) → read_on c (some (record { count = suc (suc (suc (length ts))); first = identifier v ∷ colon ∷ identifier u ∷ ts }))
-      ≡ record { label = some v; effect = codes (parts_meant (record { mnemonic = m; operands = o })) }
+      ≡ record { label = some v; effect = codes (draft_meant (spelled_in s) d) }
   unfolding read_on read_kind kind_of identifier_kind mark_byte after_label behind coding
   read-labelled v =
       let e : suc (suc (suc (length ts))) - 2 ≡ suc (length ts) = omega arith in
-      rw e (ap (λ (x : Result Instruction). record { label = some v; effect = coding x }) (first-row u ts ∙ w.mnemonic-read))
-
-written : (m : Mnemonic) (u : List ℕ) (ts : List Token) (o : Kept) → row_named (map lower u) ≡ some (row_of m)
-    → length ts ≡ length (places (row_of m).form) → read_operands (places (row_of m).form) ts ≡ value (operands_meant (places (row_of m).form) o)
-    → SettledFor (places (row_of m).form) o → Written m o u ts
-written m u ts o named-is n r k =
-    record {
-      few = omega (arith, n, six-places (row_of m).form);
-      is_plain = is_plain (row_of m).form u ts _ n r;
-      mnemonic-read = row_read m u ts o named-is n r;
-      settled = k;
-    }
+      rw e (ap (λ (x : Result MeantDraft). record { label = some v; effect = coding x }) (first-row u ts ∙ row_read w))
 
 -- The line whose content starts at a place.
 module _ (names : List Name) (s : List ℕ) (start : ℕ) (q : StartsAt s start) where
   line-some : (c : Context) (r : Read) (x : Line) → read_line names (rest_at s start) ≡ some x → read_meant s r ≡ read_on c (some x) → r.start ≡ start
-      → r.end ≡ end_at s start → r.start + label_length r.label ≤ length s → EffectSettled r.effect → LineIs names s start c r
+      → r.end ≡ end_at s start → r.start + label_length r.label ≤ length s → OfDraft (DraftSettled (spelled_in s)) r.effect
+      → OfDraft (λ d. LabelIf names s start d.amount) r.effect → LineIs names s start c r
   unfolding end_of
-  line-some c r x e reads b n t k = answered names s start c r (rw e reads) (b ∙ starts-here q) (rw (end_of, e) n) t k
+  line-some c r x e reads b n t k j = answered names s start c r (rw e reads) (b ∙ starts-here q) (rw (end_of, e) n) t k j
 
   -- A label alone, or nothing.
   pub bare-line : (p : Maybe ℕ) (at e : ℕ) → OptionalLabel names s start p at → tokens names (left_at s at) ≡ some [] → e ≡ end_at s at
@@ -272,39 +270,46 @@ module _ (names : List Name) (s : List ℕ) (start : ℕ) (q : StartsAt s start)
   bare-line None at e a none_left ends c =
       let t : tokens names (left_at s start) ≡ some [] = rw a at none_left in
       line-some c (record { start = start; label = None; effect = Ok Nothing; end = e }) _ (tokens-line names s start [] q t (omega arith)) (sym (read_none c)) refl
-      (ends ∙ ap (end_at s) a) (omega (arith, q.in_text)) tt
+      (ends ∙ ap (end_at s) a) (omega (arith, q.in_text)) tt tt
   bare-line (Some n) at e is none_left ends c =
       let v = part s start n in
       let k : start + n - start ≡ n = omega arith in
       let t : tokens names (left_at s start) ≡ some (identifier v ∷ colon ∷ []) = label-tokens (rw k at is.name.means) is.mark.means none_left in
       line-some c (record { start = start; label = Some n; effect = Ok Nothing; end = e }) _ (tokens-line names s start (identifier v ∷ colon ∷ []) q t (omega arith))
-      (sym (read-label c v)) refl (ends ∙ is.mark.ends ∙ is.name.ends) is.name.in_text tt
+      (sym (read-label c v)) refl (ends ∙ is.mark.ends ∙ is.name.ends) is.name.in_text tt tt
 
   -- An instruction, after a label or not.
-  instruction-line : (p : Maybe ℕ) (at end : ℕ) (m : Mnemonic) (u : List ℕ) (o : Kept) (e : ℕ) → OptionalLabel names s start p at → row_named (map lower u) ≡ some (row_of m)
-      → Reads names s at (identifier u) end → TailIs names s end (row_of m).form o e
-      → ReadsAs names s start (record { start = start; label = p; effect = Ok (Codes m o); end = e })
-  instruction-line None at end m u o e a named-is rd tail c =
+  instruction-line : (p : Maybe ℕ) (at end : ℕ) (u : List ℕ) (d : Draft) (e : ℕ) → OptionalLabel names s start p at → row_named (map lower u) ≡ some (row_of d.mnemonic)
+      → Reads names s at (identifier u) end → TailIs names s end d.mnemonic d e
+      → ReadsAs names s start (record { start = start; label = p; effect = Ok (Codes d); end = e })
+  instruction-line None at end u d e a named-is rd tail c =
       let ts = tail.operands in
-      let w = written m u ts o named-is tail.count tail.read tail.settled in
+      let w : Written s d u ts = record { named-is = named-is; count = tail.count; read = tail.read } in
       let t : tokens names (left_at s start) ≡ some (identifier u ∷ ts) = rw a at (one_more_lem rd.means tail.means) in
-      line-some c (record { start = start; label = None; effect = Ok (Codes m o); end = e }) _ (tokens-line names s start (identifier u ∷ ts) q t (omega (arith, w.few)))
-      (sym (read-instruction c m o u ts w)) refl (tail.ends ∙ rd.ends ∙ ap (end_at s) a) (omega (arith, q.in_text)) w.settled
-  instruction-line (Some n) at end m u o e is named-is rd tail c =
+      let ends = rd.ends ∙ ap (end_at s) a in
+      let no_comment : Uncut s start end = rw a at rd.uncut in
+      line-some c (record { start = start; label = None; effect = Ok (Codes d); end = e }) _ (tokens-line names s start (identifier u ∷ ts) q t (omega (arith, few w)))
+      (sym (read-instruction c s d u ts w)) refl (tail.ends ∙ ends) (omega (arith, q.in_text)) tail.settled
+      (label-before names s d.amount (omega (arith, rd.on)) no_comment ends tail.label)
+  instruction-line (Some n) at end u d e is named-is rd tail c =
       let ts = tail.operands in
       let v = part s start n in
-      let w = written m u ts o named-is tail.count tail.read tail.settled in
+      let w : Written s d u ts = record { named-is = named-is; count = tail.count; read = tail.read } in
       let k : start + n - start ≡ n = omega arith in
       let t : tokens names (left_at s start) ≡ some (identifier v ∷ colon ∷ identifier u ∷ ts) = label-tokens (rw k at is.name.means) is.mark.means (one_more_lem rd.means tail.means) in
-      line-some c (record { start = start; label = Some n; effect = Ok (Codes m o); end = e }) _
-      (tokens-line names s start (identifier v ∷ colon ∷ identifier u ∷ ts) q t (omega (arith, w.few)))
-      (sym (read-labelled c m o u ts w v)) refl (tail.ends ∙ rd.ends ∙ is.mark.ends ∙ is.name.ends) is.name.in_text w.settled
+      let ends = rd.ends ∙ is.mark.ends ∙ is.name.ends in
+      let no_comment : Uncut s start end = uncut_on s start (start + n) end is.name.uncut (uncut_on s (start + n) at end is.mark.uncut rd.uncut) in
+      line-some c (record { start = start; label = Some n; effect = Ok (Codes d); end = e }) _
+      (tokens-line names s start (identifier v ∷ colon ∷ identifier u ∷ ts) q t (omega (arith, few w)))
+      (sym (read-labelled c s d u ts w v)) refl (tail.ends ∙ ends) is.name.in_text tail.settled
+      (label-before names s d.amount (omega (arith, rd.on, is.mark.on, is.name.on)) no_comment ends tail.label)
 
   -- The same by what the line begins with, and the mnemonic that the key of its word is found at.
   pub word_line : {f : FirstWord} {w : Word} {key : ℕ} → FirstWordIs names s start f → f.word ≡ Some w → w.key ≡ Some key → Naming names → NoMnemonics names → Below s → (m : Mnemonic)
-      → some (row_of m) ≡ find (λ q. eqb (packed q.mnemonic) key) table → (o : Kept) (e : ℕ) → TailIs names s w.end (row_of m).form o e
-      → ReadsAs names s start (record { start = start; label = f.label; effect = Ok (Codes m o); end = e })
-  word_line {f} {w} {key} first is k ok free below m found_it o e tail =
+      → some (row_of m) ≡ find (λ q. eqb (packed q.mnemonic) key) table → (d : Draft) (e : ℕ) → TailIs names s w.end m d e
+      → ReadsAs names s start (record { start = start; label = f.label; effect = Ok (Codes d); end = e })
+  word_line {f} {w} {key} first is k ok free below m found_it d e tail =
       let here : WordHere s f.at w = rw is at first.word in
       let (named-is, rd) = mnemonic-reads s f.at w.end here.in_text here.begins here.word.ends names ok free key m below (sym k ∙ here.word.key_is) found_it in
-      instruction-line f.label f.at w.end m _ o e first.label named-is rd tail
+      instruction-line f.label f.at w.end _ d e first.label (named-is ∙ ap (λ (x : Mnemonic). some (row_of x)) (sym tail.named)) rd
+      (subst (λ (x : Mnemonic). TailIs names s w.end x d e) (sym tail.named) tail)

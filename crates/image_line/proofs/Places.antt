@@ -1,41 +1,49 @@
 -- A token at a place of a line, as the fast path finds it.
-use Prim.Native.Nat.{ℕ, suc, ◌+◌, ◌-◌, ◌<◌}
+use Prim.Native.Nat.{ℕ, suc, ◌+◌, ◌-◌, ◌≤◌, ◌<◌}
 use mathlib.Core.Path.{◌≡◌, refl, sym, ap, ◌∙◌}
 use native.Mathlib.Omega.{arith}
 use native.Mathlib.Numerals.{add-one}
-use mathlib.Core.Bool.{true}
+use mathlib.Core.Bool.{Bool, true, false}
 use mathlib.Core.Option.{Option, none, some}
 use mathlib.Core.List.{List, [], ◌∷◌}
-use lib.ListN.{length, take, drop, get_or, length-drop}
+use lib.ListN.{length, take, drop, get_or, length-take, length-drop}
+use lib.IntN.{ℤ}
 use Rattle.std.specs.Prelude.{Some}
-use Rattle.text_lexical.specs.Bytes.{digit, mark, name_start, name_part, blank, inside, every, before, run, is_some}
+use Rattle.text_lexical.specs.Bytes.{value, digit, mark, name_start, name_part, blank, inside, every, before, run, is_some}
 use Rattle.text_lexical.specs.Names.{Name}
-use Rattle.text_lexical.specs.Promised.{index_of, name_number}
+use Rattle.text_lexical.specs.Promised.{index_of, name_number, whole_meant, whole_for}
 use Rattle.text_lexical.specs.Words.{RegisterWordIs}
 use Rattle.text_lexical.specs.declared.name.RegisterName.TheVariants.{Is as Named}
 use Rattle.text_lexical.specs.declared.name.RegisterWord.{RegisterWord}
 use Rattle.text_lexical.proofs.Tests.{both, or_left}
 use Rattle.text_lexical.proofs.Strings.{every-mono, every-run, take-run, run-yes, run-le}
-use Rattle.text.specs.Tokens.{Token, register, is_identifier, is_register, comma, colon, opening, closing, mark_token, infront, tokens}
+use Rattle.text_lexical.proofs.Numbers.{whole-meant}
+use Rattle.text.specs.Tokens.{Token, identifier, register, number, hex, binary, directive, is_identifier, is_register, comma, colon, opening, closing, mark_token, infront, tokens}
+use Rattle.text.specs.Values.{read_number}
 use Rattle.text.specs.NameSets.{Naming}
-use Rattle.text.specs.Places.{left_at, end_at}
-use Rattle.text.specs.Promised.{meant, spelling, mark_kind, number_at, ending_at, scan_at}
+use Rattle.text.specs.Places.{left_at, end_at, Uncut}
+use Rattle.text.specs.Promised.{meant, spelling, mark_kind, token_at, number_at, after_kind, after_identifier, identifier_end, ending_at, scan_at}
 use Rattle.text.specs.declared.lexer.Token.{Token as KeptToken}
-use Rattle.text.specs.declared.lexer.Kind.TheVariants.{Register as RegisterKind, Comma, Colon, LParen, RParen}
-use Rattle.text.specs.declared.lexer.Scan.TheVariants.{Found}
+use Rattle.text.specs.declared.lexer.Kind.{Kind}
+use Rattle.text.specs.declared.lexer.Kind.TheVariants.{Identifier, Register as RegisterKind, NoRegister, Number as NumberKind, Negative, Hex, Binary, Directive, Comma, Colon, LParen, RParen}
+use Rattle.text.specs.declared.lexer.Scan.{Scan}
+use Rattle.text.specs.declared.lexer.Scan.TheVariants.{Found, Bad, End}
 use Rattle.text.specs.declared.parser.NumberAt.{NumberAt}
 use Rattle.text.proofs.Scanning.{register-identifier}
-use Rattle.text.proofs.Left.{blank-inside, blanks_at, none_read, end_on}
+use Rattle.text.proofs.Left.{blank-inside, blanks_at, none_read, end_on, run-uncut, uncut_on}
 use Rattle.text.proofs.Endings.{ending-is}
 use Rattle.text.proofs.Fronts.{part-cons, word_at}
 use Rattle.text.proofs.Meanings.{extracted-for}
 use Rattle.text.proofs.Numbers.{number-found}
-use Rattle.instruction.proofs.Results.{extracted-is}
-use Rattle.text.proofs.Stepping.{mark-step, token_step, blank_step, stepped}
+use Rattle.instruction.proofs.Results.{not_refused, extracted-is}
+use Rattle.text.proofs.Stepping.{past-blanks, mark-step, token_step, blank_step, stepped, uncut}
 use Rattle.instruction.specs.Table.{Separator, a-comma, an-opening, a-closing}
-use Rattle.instruction.specs.Operands.{mark_byte, separator_byte}
+use Rattle.instruction.specs.Operands.{exactly, mark_byte, read_identifier, read_exactly, read_amount, separator_byte}
+use Rattle.instruction.specs.Promised.{spelled_in}
+use Rattle.instruction.specs.declared.instruction.Target.{Target}
+use Rattle.instruction.specs.declared.instruction.Amount.TheVariants.{Number, Label}
 use Rattle.instruction.specs.declared.form.Mark.{Mark}
-use Rattle.instruction_operands.specs.Sources.{Separates, NumberIn}
+use Rattle.instruction_operands.specs.Sources.{Separates, AmountIn}
 use Rattle.image_line.specs.Promised.{Reads}
 
 -- ---- what a scan finds
@@ -44,7 +52,12 @@ pub stepped-reads : (names : List Name) (ok : Naming names) (s : List ℕ) (at :
 stepped-reads names ok s at t next found =
     let p = stepped names ok s at (Found t next) found in
     let (st, sz, n, f, l, e) = p.leads in
-    record { means = p.means; on = f; in_text = l; ends = e }
+    record { means = p.means; on = f; in_text = l; uncut = uncut names ok s at t next found; ends = e }
+
+-- No comment begins among blanks.
+pub blanks-uncut : (s : List ℕ) (from at : ℕ) → at ≡ from + run blank (drop from s) → Uncut s from at
+unfolding blank
+blanks-uncut s from at q i l h e = run-uncut blank refl s from i l (omega arith) e
 
 -- Blanks after a token are skipped with it.
 pub blanks-after : (names : List Name) (s : List ℕ) (at end next : ℕ) (t : Token) → Reads names s at t end → next ≡ end + run blank (drop end s) → Reads names s at t next
@@ -57,6 +70,7 @@ blanks-after names s at end next t r q =
       means = r.means ∙ ap (infront t) (blanks_at names s end ∙ ap (λ (x : ℕ). tokens names (left_at s x)) (sym q));
       on = omega (arith, r.on);
       in_text = omega (arith, r.in_text);
+      uncut = uncut_on s at end next r.uncut (blanks-uncut s end next q);
       ends = ap (end_at s) q ∙ end_on s end (run blank (drop end s)) (omega (arith, r.in_text)) i ∙ r.ends;
     }
 
@@ -92,14 +106,88 @@ register-reads names ok s from at r q (room, g, m, n) =
     let w = word_at names ok s at e (Named r.register) l b (omega (arith, word-goes s at l b)) (sym n) in
     stepped-reads names ok s from (record { kind = RegisterKind r.register; start = at; length = e - at }) e (token_step names s from at _ e q w)
 
--- ---- numbers
+-- ---- numbers and labels
+
+exactly-read : (t : Token) (z : ℤ) → read_number t ≡ value z → read_exactly t ≡ value (exactly z)
+unfolding read_exactly
+exactly-read t z e = rw (read_exactly, e)
+
+-- A number is read as an amount, with a label in its place or without.
+amount-read : (label : Bool) (t : Token) (z : ℤ) → read_number t ≡ value z → read_amount label t ≡ value (exactly z)
+unfolding read_amount read_identifier read_number
+amount-read false t z e = exactly-read t z e
+amount-read true (identifier u) z e = not_refused e
+amount-read true (register r) z e = not_refused e
+amount-read true (number n) z e = exactly-read (number n) z e
+amount-read true (hex n) z e = exactly-read (hex n) z e
+amount-read true (binary n) z e = exactly-read (binary n) z e
+amount-read true (directive u) z e = not_refused e
+amount-read true comma z e = not_refused e
+amount-read true colon z e = not_refused e
+amount-read true opening z e = not_refused e
+amount-read true closing z e = not_refused e
 
 pub number-reads : (names : List Name) (ok : Naming names) (s : List ℕ) (from at : ℕ) → at ≡ from + run blank (drop from s) → (n : NumberAt) → Some n ≡ number_at names s at
-    → (k : Token) × NumberIn n.number k × Reads names s from k n.end
-number-reads names ok s from at q n e =
+    → (spells : Target → List ℕ) (label : Bool) → (k : Token) × AmountIn spells label (Number n.number) k × Reads names s from k n.end
+number-reads names ok s from at q n e spells label =
     let (t, f, w) = number-found names s at n e in
     let (z, (v, k)) = extracted-is _ (w ∙ extracted-for t.kind (spelling s t)) in
-    (_, record { number = z; means = v; settled = k }, stepped-reads names ok s from t n.end (token_step names s from at t n.end q f))
+    let m : whole_meant n.number ≡ z = ap whole_meant k ∙ whole-meant z in (
+      _,
+      record { means = rw m (amount-read label _ z v); settled = k ∙ ap whole_for (sym m) },
+      stepped-reads names ok s from t n.end (token_step names s from at t n.end q f),
+    )
+
+-- The token that an Identifier's end is found by.
+identifier-found : (names : List Name) (s : List ℕ) (at end : ℕ) → Some end ≡ identifier_end names s at
+    → (t : KeptToken) × (Found t end ≡ token_at names s at) × (t.kind ≡ Identifier)
+unfolding identifier_end
+identifier-found names s at end e = by-scan (token_at names s at) refl e
+  where
+    by-kind : (k : Kind) (next : ℕ) → Some end ≡ after_kind k next → (end ≡ next) × (k ≡ Identifier)
+    by-kind Identifier next h = (cc, refl)
+    by-kind (RegisterKind r) next h = cc
+    by-kind NoRegister next h = cc
+    by-kind (NumberKind n) next h = cc
+    by-kind (Negative n) next h = cc
+    by-kind (Hex n) next h = cc
+    by-kind (Binary n) next h = cc
+    by-kind Directive next h = cc
+    by-kind Comma next h = cc
+    by-kind Colon next h = cc
+    by-kind LParen next h = cc
+    by-kind RParen next h = cc
+
+    by-scan : (r : Scan) → r ≡ token_at names s at → Some end ≡ after_identifier r → (t : KeptToken) × (Found t end ≡ token_at names s at) × (t.kind ≡ Identifier)
+    by-scan (Found t next) f h = let (q, k) = by-kind t.kind next h in (t, rw q f, k)
+    by-scan Bad f h = cc
+    by-scan (End x) f h = cc
+
+-- A label past blanks, from before them and from its own place.
+module _ (names : List Name) (ok : Naming names) (s : List ℕ) (from at : ℕ) (q : at ≡ from + run blank (drop from s)) (end : ℕ) (e : Some end ≡ identifier_end names s at) where
+  abbrev pub target : Target
+  target = record { start = at; length = end - at }
+
+  label-reads-from : (place : ℕ) → at ≡ place + run blank (drop place s) → Reads names s place (identifier (spelled_in s target)) end
+  label-reads-from place b =
+      let (t, f, k) = identifier-found names s at end e in
+      let found = token_step names s place at t end b f in
+      let (st, sz, n, g, l, x) = (stepped names ok s place (Found t end) found).leads in
+      let starts : t.start ≡ at = omega (arith, st) in
+      let long : t.length ≡ end - at = omega (arith, sz) in
+      let same : meant s t ≡ identifier (take (end - at) (drop at s)) = rw (k, starts, long) in
+      rw (← same) (stepped-reads names ok s place t end found)
+
+  -- It has a byte at least, and its end is within the text.
+  pub label-bounds : (at < end) × (end ≤ length s)
+  label-bounds = let r = label-reads-from at (omega (arith, past-blanks s from at q)) in (r.on, r.in_text)
+
+  pub label-amount : (label : Bool) → label ≡ true → AmountIn (spelled_in s) label (Label target) (identifier (spelled_in s target))
+  unfolding read_amount read_identifier
+  label-amount label h = let (l, n) = label-bounds in record { means = rw h refl; settled = omega (arith, length-take (end - at) (drop at s), length-drop at s) }
+
+  pub label-reads : Reads names s from (identifier (spelled_in s target)) end × Reads names s at (identifier (spelled_in s target)) end
+  label-reads = (label-reads-from from q, label-reads-from at (omega (arith, past-blanks s from at q)))
 
 -- ---- marks
 

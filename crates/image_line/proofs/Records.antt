@@ -14,29 +14,35 @@ use Rattle.refusal.specs.declared.refusal.Refusal.{Refusal}
 use Rattle.text_lexical.specs.Bytes.{Result, bytes, same}
 use Rattle.text_lexical.specs.Names.{Name}
 use Rattle.text_lexical.proofs.Tests.{split}
-use Rattle.text.specs.Tokens.{identifier, register, number, hex, binary, directive, comma, colon, opening, closing}
+use Rattle.text.specs.Tokens.{identifier, register, number, hex, binary, directive, comma, colon, opening, closing, tokens}
 use Rattle.text.specs.Tokens.{Token as Meant}
 use Rattle.text.specs.Lines.{kept, read_line}
 use Rattle.text.specs.Lines.{Line as Record}
 use Rattle.text.specs.NameSets.{Naming}
-use Rattle.text.specs.Places.{rest_at, StartsAt}
+use Rattle.text.specs.Places.{rest_at, left_at, end_at, StartsAt}
 use Rattle.text.specs.Promised.{kind_meant, filler, firsts, meant, spelling, record_at}
 use Rattle.text.specs.declared.lexer.Kind.{Kind as TokenKind}
 use Rattle.text.specs.declared.lexer.Kind.TheVariants.{Identifier, Register, NoRegister, Number, Negative, Hex, Binary, Directive, Comma, Colon, LParen, RParen}
 use Rattle.text.specs.declared.lexer.Token.{Token}
 use Rattle.text.specs.declared.parser.Line.{Line}
 use Rattle.text.proofs.Fronts.{part-cons}
-use Rattle.text.proofs.Recording.{LineRead, line_read_lem}
-use Rattle.instruction.specs.Operands.{Instruction, mark_byte, read_instruction, behind}
+use Rattle.text.proofs.Recording.{LineRead, line_read_lem, StandsLast, last_token}
+use Rattle.instruction.specs.Operands.{mark_byte, read_instruction, behind}
+use Rattle.instruction.specs.Operands.{Draft as MeantDraft}
+use Rattle.instruction.specs.Promised.{spelled_in, DraftSettled}
+use Rattle.instruction.specs.declared.instruction.Target.{Target}
+use Rattle.instruction.specs.declared.instruction.Amount.{Amount}
+use Rattle.instruction.specs.declared.instruction.Amount.TheVariants.{Number as Exactly, Label}
+use Rattle.instruction.specs.declared.instruction.Draft.{Draft}
 use Rattle.instruction_operands.proofs.Line.{get_d_any, behind-none}
 use Rattle.image.specs.Settings.{configured}
 use Rattle.instruction.specs.Kinds.{Kind, empty, labelled, config, ignored, plain, identifier_kind, kind_of}
 use Rattle.image.specs.Assembling.{Context, nothing, setting, coding, after_label, read_kind, read_on}
 use Rattle.image.specs.Assembling.{Effect as MeantEffect}
 use Rattle.image.specs.Promised.{record_meant}
-use Rattle.image_line.specs.Promised.{effect_meant, EffectSettled, EffectIs, label_meant, label_length, end_of, LineIs, Recorded}
+use Rattle.image_line.specs.Promised.{LabelIf, effect_meant, OfDraft, EndsInIf, EffectIs, label_meant, label_length, end_of, LineIs, Recorded}
 use Rattle.image_line.specs.declared.line.Effect.{Effect}
-use Rattle.image_line.specs.declared.line.Effect.TheVariants.{Nothing}
+use Rattle.image_line.specs.declared.line.Effect.TheVariants.{Nothing, Sets, Codes}
 use Rattle.image_line.proofs.Answers.{answered}
 use Rattle.image_line.proofs.Starts.{starts-here}
 
@@ -216,6 +222,13 @@ two_tokens s {u} l e =
 
 -- ---- the line at a place
 
+-- What holds of an effect's draft, by what else holds of it.
+of-draft : (P Q : Draft → Type 0) → ((d : Draft) → P d → Q d) → (e : Answer Effect Refusal) → OfDraft P e → OfDraft Q e
+of-draft P Q f (Ok Nothing) h = tt
+of-draft P Q f (Ok (Sets c)) h = tt
+of-draft P Q f (Ok (Codes d)) h = f d h
+of-draft P Q f (Err r) h = tt
+
 module _ {names : List Name} (ok : Naming names) {s : List ℕ} {start : ℕ} (starts : StartsAt s start) where
   -- A line with a bad token.
   pub line_bad : {c : Context} {r : Refusal} → Err r ≡ record_at names s start → LineIs names s start c (record { start = start; label = None; effect = Err r; end = start })
@@ -224,25 +237,41 @@ module _ {names : List Name} (ok : Naming names) {s : List ℕ} {start : ℕ} (s
       let h : LineRead names s start (Err r) = line_read_lem names ok s start (Err r) e in
       let q : read_line names (rest_at s start) ≡ none = h.means in
       answered names s start c (record { start = start; label = None; effect = Err r; end = start }) (rw q (rw h.places)) (starts-here starts)
-      (rw (end_of, q) (starts-here starts)) (omega (arith, starts.in_text)) tt
+      (rw (end_of, q) (starts-here starts)) (omega (arith, starts.in_text)) tt tt
 
   module _ {l : Line} (is : Ok l ≡ record_at names s start) where
     h : LineRead names s start (Ok l)
     h = line_read_lem names ok s start (Ok l) is
 
+    -- The label that the record ends in stands last on the line.
+    label-there : (a : Amount) → EndsInIf s l a → LabelIf names s start a
+    label-there (Exactly w) k = tt
+    label-there (Label p) k =
+        let t : StandsLast names s start (get_or l.tokens (l.count - 1) filler) = last_token names ok starts is k.not_empty k.all_kept in
+        let b : p.start ≡ (get_or l.tokens (l.count - 1) filler).start = ap (λ (x : Target). x.start) k.last in
+        let n : p.length ≡ (get_or l.tokens (l.count - 1) filler).length = ap (λ (x : Target). x.length) k.last in
+        record {
+          in_text = omega (arith, b, n, h.places.inside_text (l.count - 1));
+          behind = omega (arith, b, t.behind);
+          uncut = rw b t.uncut;
+          last = ap (λ (x : ℕ). tokens names (left_at s x)) b ∙ t.means ∙ ap (λ (x : Meant). some (x ∷ [])) k.reads;
+          ends = ap (end_at s) b ∙ t.ends;
+        }
+
     module _ {c : Context} where
       -- A line of a kind, by what it does and by its label, if it has one.
       module _ {k : Kind} (kind-is : k ≡ kind_of (firsts s l.tokens l.count)) where
-        line-kind : (n : Maybe ℕ) (e : Answer Effect Refusal) → record { label = label_meant s start n; effect = effect_meant e } ≡ read_kind c (record_meant s l) k
-            → start + label_length n ≤ length s → EffectSettled e → LineIs names s start c (record { start = start; label = n; effect = e; end = l.end })
+        line-kind : (n : Maybe ℕ) (e : Answer Effect Refusal) → record { label = label_meant s start n; effect = effect_meant s e } ≡ read_kind c (record_meant s l) k
+            → start + label_length n ≤ length s → OfDraft (λ d. DraftSettled (spelled_in s) d × EndsInIf s l d.amount) e
+            → LineIs names s start c (record { start = start; label = n; effect = e; end = l.end })
         unfolding read_on end_of
         line-kind n e q inside settled =
             let means : read_line names (rest_at s start) ≡ some (record_meant s l) = h.means in
             answered names s start c (record { start = start; label = n; effect = e; end = l.end }) (rw means (q ∙ ap (read_kind c (record_meant s l)) kind-is)) (starts-here starts)
-            (rw (end_of, means) h.places.ends) inside settled
+            (rw (end_of, means) h.places.ends) inside (of-draft _ _ (λ d k. k.0) e settled) (of-draft _ _ (λ d k. label-there d.amount k.1) e settled)
 
         -- without one
-        line-bare : {e : Answer Effect Refusal} {m : MeantEffect} → EffectIs e m → record { label = none; effect = m } ≡ read_kind c (record_meant s l) k
+        line-bare : {e : Answer Effect Refusal} {m : MeantEffect} → EffectIs s l e m → record { label = none; effect = m } ≡ read_kind c (record_meant s l) k
             → LineIs names s start c (record { start = start; label = None; effect = e; end = l.end })
         line-bare {e} q b = line-kind None e (ap (λ (x : MeantEffect). record { label = none; effect = x }) q.means ∙ b) (omega (arith, starts.in_text)) q.settled
 
@@ -256,20 +285,20 @@ module _ {names : List Name} (ok : Naming names) {s : List ℕ} {start : ℕ} (s
       line_ignored k = line-bare k (record { means = refl; settled = tt }) refl
 
       -- A `.config` line.
-      pub line_config : {e : Answer Effect Refusal} → config ≡ kind_of (firsts s l.tokens l.count) → EffectIs e (setting (configured c.setup (record_meant s l)))
+      pub line_config : {e : Answer Effect Refusal} → config ≡ kind_of (firsts s l.tokens l.count) → EffectIs s l e (setting (configured c.setup (record_meant s l)))
           → LineIs names s start c (record { start = start; label = None; effect = e; end = l.end })
       unfolding read_kind
       line_config k q = line-bare k q refl
 
       -- An instruction.
-      pub line_plain : {e : Answer Effect Refusal} → plain ≡ kind_of (firsts s l.tokens l.count) → EffectIs e (coding (read_instruction (behind 0 (record_meant s l))))
+      pub line_plain : {e : Answer Effect Refusal} → plain ≡ kind_of (firsts s l.tokens l.count) → EffectIs s l e (coding (read_instruction (behind 0 (record_meant s l))))
           → LineIs names s start c (record { start = start; label = None; effect = e; end = l.end })
       unfolding read_kind
-      line_plain k q = line-bare k q (ap (λ (x : Result Instruction). record { label = none; effect = coding x }) (behind-none (record_meant s l)))
+      line_plain k q = line-bare k q (ap (λ (x : Result MeantDraft). record { label = none; effect = coding x }) (behind-none (record_meant s l)))
 
       -- A line that begins with a label: its first token stands where its content starts.
       pub line_labelled : {e : Answer Effect Refusal} → labelled (spelling s (get_or l.tokens 0 filler)) ≡ kind_of (firsts s l.tokens l.count)
-          → EffectIs e (after_label (behind 2 (record_meant s l)))
+          → EffectIs s l e (after_label (behind 2 (record_meant s l)))
           → LineIs names s start c (record { start = start; label = Some (get_or l.tokens 0 past).length; effect = e; end = l.end })
       unfolding read_kind
       line_labelled {e} k q =

@@ -11,13 +11,19 @@ use Rattle.text_lexical.specs.Words.{part, WordIs}
 use Rattle.text_lexical.specs.declared.name.Word.{Word}
 use Rattle.text.specs.Tokens.{Token, identifier, colon, infront, tokens}
 use Rattle.text.specs.Lines.{indent, kept as most-kept, read_line}
-use Rattle.text.specs.Places.{rest_at, left_at, end_at}
-use Rattle.text.specs.Promised.{filler, spelling, Kept}
+use Rattle.text.specs.Places.{rest_at, left_at, end_at, Uncut}
+use Rattle.text.specs.Promised.{filler, spelling, meant, Kept}
 use Rattle.text.specs.declared.parser.Line.{Line as Record}
-use Rattle.instruction.specs.Table.{places, Form}
-use Rattle.instruction.specs.Operands.{read_operands}
-use Rattle.instruction.specs.Promised.{mnemonic_for, operands_meant, operands_for, SettledFor, parts_meant, Settled}
-use Rattle.instruction.specs.declared.instruction.Operands.{Operands}
+use Rattle.instruction.specs.Table.{places}
+use Rattle.instruction.specs.Operands.{takes_label, read_operands}
+use Rattle.instruction.specs.Promised.{spelled_in, taken_for, draft_meant, draft_for, label_start, DraftSettled}
+use Rattle.instruction.specs.declared.instruction.Target.{Target}
+use Rattle.instruction.specs.declared.instruction.Amount.{Amount}
+use Rattle.instruction.specs.declared.instruction.Amount.TheVariants.{Number, Label as LabelAmount}
+use Rattle.instruction.specs.declared.instruction.Draft.{Draft}
+use Rattle.instruction.specs.declared.opcode.Mnemonic.{Mnemonic}
+use Rattle.instruction_operands.specs.Sources.{form_of}
+use Rattle.instruction_operands.specs.Promised.{LastToken}
 use Rattle.instruction.specs.Kinds.{Kind, empty, labelled, config, ignored, plain}
 use Rattle.refusal.specs.Refusals.{number_of, refusal_at}
 use Rattle.refusal.specs.declared.refusal.Refusal.{Refusal}
@@ -40,6 +46,7 @@ pub record Reads (names : List Name) (s : List ℕ) (at : ℕ) (t : Token) (next
   pub means : tokens names (left_at s at) ≡ infront t (tokens names (left_at s next))
   pub on : at < next
   pub in_text : next ≤ length s
+  pub uncut : Uncut s at next
   pub ends : end_at s next ≡ end_at s at
 
 -- ---- the bytes of a line as a source of operands
@@ -52,7 +59,9 @@ along (t ∷ ts) o = infront t (along ts o)
 -- The tokens of a line from one place up to another.
 pub record Passed (names : List Name) (s : List ℕ) (from : ℕ) (pre : List Token) (at : ℕ) : Type 0 where
   pub means : tokens names (left_at s from) ≡ along pre (tokens names (left_at s at))
+  pub on : from ≤ at
   pub place : at ≤ length s
+  pub uncut : Uncut s from at
   pub ends : end_at s at ≡ end_at s from
 
 -- They were taken, and the bytes are the same.
@@ -60,20 +69,46 @@ pub record BytesTook (names : List Name) (s : Bytes) (pre : List Token) (t : Byt
   pub same_text : t.text.now ≡ s.text.now
   pub passed : Passed names s.text.now s.at pre t.at
 
--- ---- the operands of a form
+abbrev pub bytes_spell : Bytes → Target → List ℕ
+bytes_spell s p = spelled_in s.text.now p
 
--- The operands of a form fill the rest of a line.
-pub record TailIs (names : List Name) (s : List ℕ) (from : ℕ) (form : Form) (o : Operands) (end : ℕ) : Type 0 where
+-- The label that stands past the blanks was taken.
+pub record BytesStand (names : List Name) (s : Bytes) (p : Target) (t : Bytes) : Type 0 where
+  pub same_text : t.text.now ≡ s.text.now
+  pub reads : Reads names s.text.now p.start (identifier (spelled_in s.text.now p)) t.at
+  pub behind : s.at ≤ p.start
+  pub after : t.at ≡ p.start + p.length
+  pub uncut : Uncut s.text.now s.at p.start
+  pub ends : end_at s.text.now p.start ≡ end_at s.text.now s.at
+
+-- ---- the operands of a mnemonic
+
+-- A label stands last on the line of a place, and in no comment: by how it is spelled, its place is not free.
+pub record LabelAt (names : List Name) (s : List ℕ) (from : ℕ) (p : Target) : Type 0 where
+  pub in_text : p.start + p.length ≤ length s
+  pub behind : from ≤ p.start
+  pub uncut : Uncut s from p.start
+  pub last : tokens names (left_at s p.start) ≡ some (identifier (spelled_in s p) ∷ [])
+  pub ends : end_at s p.start ≡ end_at s from
+
+abbrev pub LabelIf : List Name → List ℕ → ℕ → Amount → Type 0
+LabelIf names s from (Number w) = Unit {0}
+LabelIf names s from (LabelAmount p) = LabelAt names s from p
+
+-- The operands of a mnemonic fill the rest of a line.
+pub record TailIs (names : List Name) (s : List ℕ) (from : ℕ) (m : Mnemonic) (d : Draft) (end : ℕ) : Type 0 where
   pub operands : List Token
   pub means : tokens names (left_at s from) ≡ some operands
-  pub count : length operands ≡ length (places form)
-  pub read : read_operands (places form) operands ≡ value (operands_meant (places form) o)
-  pub settled : SettledFor (places form) o
+  pub count : length operands ≡ length (places (form_of m))
+  pub read : read_operands (takes_label (form_of m)) (places (form_of m)) operands ≡ value (taken_for (spelled_in s) (places (form_of m)) d.registers d.amount)
+  pub named : d.mnemonic ≡ m
+  pub settled : DraftSettled (spelled_in s) d
+  pub label : LabelIf names s from d.amount
   pub ends : end ≡ end_at s from
 
-abbrev pub Tails : List Name → List ℕ → ℕ → Form → Maybe Tail → Type 0
-Tails names s from form (Some t) = TailIs names s from form t.operands t.end
-Tails names s from form None = Unit {0}
+abbrev pub Tails : List Name → List ℕ → ℕ → Mnemonic → Maybe Tail → Type 0
+Tails names s from m (Some t) = TailIs names s from m t.draft t.end
+Tails names s from m None = Unit {0}
 
 -- ---- a word
 
@@ -112,23 +147,34 @@ pub record FirstWordIs (names : List Name) (s : List ℕ) (start : ℕ) (w : Fir
 abbrev pub context_for : Config → Context
 context_for c = record { setup = settings_meant c }
 
-abbrev pub effect_meant : Answer Effect Refusal → MeantEffect
-effect_meant (Ok Nothing) = nothing
-effect_meant (Ok (Sets c)) = sets (settings_meant c)
-effect_meant (Ok (Codes m o)) = codes (parts_meant (record { mnemonic = m; operands = o }))
-effect_meant (Err r) = faulty (number_of r)
+abbrev pub effect_meant : List ℕ → Answer Effect Refusal → MeantEffect
+effect_meant s (Ok Nothing) = nothing
+effect_meant s (Ok (Sets c)) = sets (settings_meant c)
+effect_meant s (Ok (Codes d)) = codes (draft_meant (spelled_in s) d)
+effect_meant s (Err r) = faulty (number_of r)
 
--- No part of an instruction's operands is free.
-abbrev pub EffectSettled : Answer Effect Refusal → Type 0
-EffectSettled (Ok (Codes m o)) = Settled (record { mnemonic = m; operands = o })
-EffectSettled (Ok Nothing) = Unit {0}
-EffectSettled (Ok (Sets c)) = Unit {0}
-EffectSettled (Err r) = Unit {0}
+-- What holds of the draft of an effect, if it has one.
+abbrev pub OfDraft : (Draft → Type 0) → Answer Effect Refusal → Type 0
+OfDraft P (Ok (Codes d)) = P d
+OfDraft P (Ok Nothing) = Unit {0}
+OfDraft P (Ok (Sets c)) = Unit {0}
+OfDraft P (Err r) = Unit {0}
 
--- What an effect means, and that no part of it is free.
-pub record EffectIs (e : Answer Effect Refusal) (m : MeantEffect) : Type 0 where
-  pub means : effect_meant e ≡ m
-  pub settled : EffectSettled e
+-- The label that a draft names is the last token of its record's line, an Identifier, and the record keeps all tokens.
+pub record EndsIn (s : List ℕ) (l : Record) (p : Target) : Type 0 where
+  pub not_empty : 0 < l.count
+  pub all_kept : l.count ≤ most-kept
+  pub last : LastToken l (LabelAmount p)
+  pub reads : meant s (get_or l.tokens (l.count - 1) filler) ≡ identifier (spelled_in s p)
+
+abbrev pub EndsInIf : List ℕ → Record → Amount → Type 0
+EndsInIf s l (Number w) = Unit {0}
+EndsInIf s l (LabelAmount p) = EndsIn s l p
+
+-- What an effect of a record's line means, and that no part of it is free.
+pub record EffectIs (s : List ℕ) (l : Record) (e : Answer Effect Refusal) (m : MeantEffect) : Type 0 where
+  pub means : effect_meant s e ≡ m
+  pub settled : OfDraft (λ d. DraftSettled (spelled_in s) d × EndsInIf s l d.amount) e
 
 -- The bytes of a label at a place, if there is one.
 abbrev pub label_meant : List ℕ → ℕ → Maybe ℕ → Option (List ℕ)
@@ -142,7 +188,14 @@ label_length (Some n) = n
 
 -- What a line that was read means.
 abbrev pub read_meant : List ℕ → Read → MeantRead
-read_meant s r = record { label = label_meant s r.start r.label; effect = effect_meant r.effect }
+read_meant s r = record { label = label_meant s r.start r.label; effect = effect_meant s r.effect }
+
+-- Where the label stands that an effect names; 0 where it names none.
+abbrev pub effect_label : Answer Effect Refusal → ℕ
+effect_label (Ok (Codes d)) = label_start d.amount
+effect_label (Ok Nothing) = 0
+effect_label (Ok (Sets c)) = 0
+effect_label (Err r) = 0
 
 -- Where the line at a place ends; a bad token leaves that open, and the start of its content is answered.
 unfoldable pub end_of : List Name → List ℕ → ℕ → ℕ
@@ -154,27 +207,30 @@ next_line size end = elim (ltb end size) [ true ↦ Some (end + 1) | false ↦ N
 
 -- ---- the answer
 
--- The effect that is answered for one: of an instruction its mnemonic, and R0 and 0 for operands that it has not.
-abbrev pub effect_for : MeantEffect → Answer Effect Refusal
-effect_for nothing = Ok Nothing
-effect_for (sets s) = Ok (Sets (config_for s))
-effect_for (codes i) = Ok (Codes (mnemonic_for i.row.mnemonic) (operands_for (record { registers = i.registers; number = i.number })))
-effect_for (faulty n) = Err (refusal_at n)
+-- The effect that is answered for one: of an instruction its mnemonic, R0 and 0 for operands that it has not, and where the label stands
+-- that it names.
+abbrev pub effect_for : ℕ → MeantEffect → Answer Effect Refusal
+effect_for at nothing = Ok Nothing
+effect_for at (sets s) = Ok (Sets (config_for s))
+effect_for at (codes d) = Ok (Codes (draft_for at d))
+effect_for at (faulty n) = Err (refusal_at n)
 
 abbrev pub label_for : Option (List ℕ) → Maybe ℕ
 label_for none = None
 label_for (some u) = Some (length u)
 
-abbrev pub answer_for : MeantRead → ℕ → ℕ → Read
-answer_for m start end = record { start = start; label = label_for m.label; effect = effect_for m.effect; end = end }
+abbrev pub answer_for : MeantRead → ℕ → ℕ → ℕ → Read
+answer_for m start end at = record { start = start; label = label_for m.label; effect = effect_for at m.effect; end = end }
 
--- The answer for the line at a place, with what those above it leave.
-abbrev pub line_read : List Name → List ℕ → ℕ → Context → Read
-line_read names s from c = answer_for (read_on c (read_line names (rest_at s from))) (from + indent (rest_at s from)) (end_of names s from)
+-- The answer for the line at a place, with what those above it leave, and where the label stands that it names.
+abbrev pub line_read : List Name → List ℕ → ℕ → Context → ℕ → Read
+line_read names s from c at = answer_for (read_on c (read_line names (rest_at s from))) (from + indent (rest_at s from)) (end_of names s from) at
 
--- It is answered, and means what the line reads as; its label, which stands where its content starts, is a part of the text.
+-- It is answered, and means what the line reads as; its label, which stands where its content starts, is a part of the text, and so is the
+-- label that it names, the last token of the line.
 pub record LineIs (names : List Name) (s : List ℕ) (from : ℕ) (c : Context) (r : Read) : Type 0 where
-  pub is : r ≡ line_read names s from c
+  pub is : r ≡ line_read names s from c (effect_label r.effect)
+  pub target : OfDraft (λ d. LabelIf names s from d.amount) r.effect
   pub reads : read_meant s r ≡ read_on c (read_line names (rest_at s from))
   pub starts : r.start ≡ from + indent (rest_at s from)
   pub ends : r.end ≡ end_of names s from

@@ -1,12 +1,12 @@
-// The bytes of a line as operands are read from them: a register, a number or a mark, past blanks. Anything else is left to the record of the
-// line's tokens.
+// The bytes of a line as operands are read from them: a register, a number, a label or a mark, past blanks. Anything else is left to the record
+// of the line's tokens.
 ghost use Rattle.std.specs.Prelude.{◌≡◌, ◌+◌, ◌≤◌, length, drop};
 ghost use Rattle.text_lexical.specs.Bytes.{blank, run};
 
 use instruction::form::Mark;
+use instruction::instruction::{Amount, Target};
 use instruction_operands::source::OperandSource;
 use text_lexical::bytes::Blank;
-use text_lexical::number::Whole;
 use text_lexical::register::Register;
 
 // The bytes of a line from a place on.
@@ -33,14 +33,18 @@ pub(crate) struct Other;
 impl OperandSource for Bytes<'_> {
     ghost use Rattle.std.specs.Prelude.{⊤};
     ghost use Rattle.text_lexical.specs.Names.{present};
-    ghost use Rattle.image_line.specs.Promised.{BytesTook};
+    ghost use Rattle.image_line.specs.Promised.{BytesTook, bytes_spell, BytesStand};
     ghost use Rattle.image_line.specs.Laws.{bytes_laws};
 
     type Error = Other;
 
     ghost Took = { BytesTook present };
 
-    ghost Refuses = { λ s ps e. ⊤ };
+    ghost Refuses = { λ s label ps e. ⊤ };
+
+    ghost Spells = { bytes_spell };
+
+    ghost Stands = { BytesStand present };
 
     fn register(&mut self) -> Result<Register, Other> {
         let at = self.past_blanks();
@@ -49,11 +53,21 @@ impl OperandSource for Bytes<'_> {
         Ok(word.register)
     }
 
-    fn number(&mut self) -> Result<Whole, Other> {
-        let at = self.past_blanks();
-        let found = text::parser::number_at(self.text, at).ok_or(Other)?;
-        self.at = found.end;
-        Ok(found.number)
+    fn amount(&mut self, label: bool) -> Result<Amount, Other> {
+        let start = self.past_blanks();
+        if let Some(found) = text::parser::number_at(self.text, start) {
+            self.at = found.end;
+            return Ok(Amount::Number(found.number));
+        }
+        if !label {
+            return Err(Other);
+        }
+        let end = text::parser::identifier_end(self.text, start).ok_or(Other)?;
+        self.at = end;
+        Ok(Amount::Label(Target {
+            start,
+            length: end - start,
+        }))
     }
 
     fn mark(&mut self, mark: Mark) -> Result<(), Other> {

@@ -9,8 +9,8 @@ ghost use Rattle.image_line.specs.Promised.{Tails, is_label, FirstWordIs, FastIs
 
 use crate::bytes::Bytes;
 use crate::line::{Effect, Read};
-use instruction::form::Form;
-use instruction::instruction::Operands;
+use instruction::instruction::Draft;
+use instruction::opcode::Mnemonic;
 use text_lexical::bytes::Blank;
 use text_lexical::name::{RegisterName, Word};
 
@@ -23,25 +23,25 @@ struct FirstWord {
     word: Option<Word>,
 }
 
-// The operands of an instruction, and the line's end after them.
+// An instruction, and the line's end after its operands.
 #[derive(Clone, Copy)]
 struct Tail {
-    operands: Operands,
+    draft: Draft,
     end: usize,
 }
 
-// The operands of a form from `from` on, up to the line's end.
-fn read_tail(source: &[u8], from: usize, form: Form) -> Option<Tail>
+// The operands of a mnemonic from `from` on, up to the line's end.
+fn read_tail(source: &[u8], from: usize, mnemonic: Mnemonic) -> Option<Tail>
     requires { from ≤ length source.now }
-    ensures { Tails present source.now from (form_meant form) result }
+    ensures { Tails present source.now from mnemonic result }
 {
     let mut left = Bytes {
         text: source,
         at: from,
     };
-    let operands = instruction_operands::source::read_operands(&mut left, form).ok()?;
+    let draft = instruction_operands::source::read_operands(&mut left, mnemonic).ok()?;
     let end = text::lexer::ending_at(source, left.at)?;
-    Some(Tail { operands, end })
+    Some(Tail { draft, end })
 }
 
 // Whether the word from `at` to `end` is a label: a colon follows it at once, and it is no register's name. A label with blanks before its
@@ -111,14 +111,11 @@ pub(crate) fn read_fast(source: &[u8], start: usize) -> Option<Read>
         });
     };
     let mnemonic = instruction::opcode::find_mnemonic(word.key?)?;
-    let tail = read_tail(source, word.end, mnemonic.form())?;
+    let tail = read_tail(source, word.end, mnemonic)?;
     Some(Read {
         start,
         label,
-        effect: Ok(Effect::Codes {
-            mnemonic,
-            operands: tail.operands,
-        }),
+        effect: Ok(Effect::Codes(tail.draft)),
         end: tail.end,
     })
 }

@@ -4,8 +4,7 @@ ghost use Rattle.text_lexical.specs.Names.{present};
 ghost use Rattle.image_line.specs.Promised.{context_for, LineIs, next_line};
 
 use image::config::Config;
-use instruction::instruction::Operands;
-use instruction::opcode::Mnemonic;
+use instruction::instruction::Draft;
 use refusal::refusal::Refusal;
 use text_lexical::bytes::Margin;
 
@@ -14,11 +13,7 @@ use text_lexical::bytes::Margin;
 pub enum Effect {
     Nothing,
     Sets(Config),
-    // Named, as an instruction's parts are; the first walk takes neither.
-    Codes {
-        mnemonic: Mnemonic,
-        operands: Operands,
-    },
+    Codes(Draft),
 }
 
 // What a line reads as: where its content starts; the length of its label, which stands there, if it has one; what the line does then, or why

@@ -65,20 +65,17 @@ fn line_kind(source: &[u8], line: &Line) -> LineKind
 fn read_instruction(source: &[u8], line: &Line, at: usize) -> Result<Effect, Refusal>
     requires recorded { Recorded source.now line.now }
     requires place_in_range { at ≤ 2 }
-    ensures { EffectIs result (coding (read_instruction (behind at (record_meant source.now line.now)))) }
+    ensures { EffectIs source.now line.now result (coding (read_instruction (behind at (record_meant source.now line.now)))) }
 {
-    let parsed = instruction_operands::assembler::parse_instruction(source, line, at)?;
-    Ok(Effect::Codes {
-        mnemonic: parsed.mnemonic,
-        operands: parsed.operands,
-    })
+    let draft = instruction_operands::assembler::parse_instruction(source, line, at)?;
+    Ok(Effect::Codes(draft))
 }
 
 // A `.config` line.
 #[tactic(auto, unfolding(image::specs::Assembling::setting))]
 fn read_config(source: &[u8], line: &Line, config: Config) -> Result<Effect, Refusal>
     requires { Recorded source.now line.now }
-    ensures { EffectIs result (setting (configured (settings_meant config) (record_meant source.now line.now))) }
+    ensures { EffectIs source.now line.now result (setting (configured (settings_meant config) (record_meant source.now line.now))) }
 {
     let changed = image::config::parse_config(source, line, config)?;
     Ok(Effect::Sets(changed))
@@ -89,7 +86,7 @@ fn read_config(source: &[u8], line: &Line, config: Config) -> Result<Effect, Ref
 fn after_label(source: &[u8], line: &Line) -> Result<Effect, Refusal>
     requires recorded { Recorded source.now line.now }
     requires two_tokens { 2 ≤ line.now.count }
-    ensures { EffectIs result (after_label (behind 2 (record_meant source.now line.now))) }
+    ensures { EffectIs source.now line.now result (after_label (behind 2 (record_meant source.now line.now))) }
 {
     if line.count == 2 {
         return Ok(Effect::Nothing);

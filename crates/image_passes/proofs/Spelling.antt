@@ -1,4 +1,4 @@
--- A label is spelled as the part of the source that its line's content begins with.
+-- A label is spelled as the part of the source that its line's content begins with, and takes a byte at least.
 use Prim.Native.Nat.{ℕ, zero, suc, ◌+◌, ◌<◌}
 use mathlib.Core.Path.{◌≡◌, refl, sym, ap, ap₂, ◌∙◌}
 use native.Mathlib.Omega.{arith}
@@ -81,14 +81,21 @@ kept-first s (t ∷ ts) zero u e = let y : ◌≡◌ {A = ℕ} 0 1 = cc in absur
 kept-first s (t ∷ ts) (suc n) u e = (omega arith, first-spelled s t (firsts s ts n) u e)
 
 module _ {names : List Name} (ok : Naming names) (s : List ℕ) (at : ℕ) (setup : Settings) (u : List ℕ) where
-  spelled-first : (o : Answer Line Refusal) → LineRead names s at o → (read_at names s at setup).label ≡ some u → u ≡ take (length u) (drop (at + indent (rest_at s at)) s)
+  spelled-first : (o : Answer Line Refusal) → LineRead names s at o → (read_at names s at setup).label ≡ some u
+      → (u ≡ take (length u) (drop (at + indent (rest_at s at)) s)) × (0 < length u)
   unfolding read_on
   spelled-first (Err r) h e = no_label (rw h.means at e)
   spelled-first (Ok l) h e =
       let (some-there, q) = kept-first s l.tokens l.count u (label-kind _ _ _ u (rw h.means at e)) in
       let t = get_or l.tokens 0 filler in
       let n : t.length ≡ length u = sym (length-take t.length (drop t.start s) ∙ omega (arith, length-drop t.start s, h.places.inside_text 0)) ∙ ap length q in
-      sym q ∙ ap₂ (λ (n : ℕ) (from : ℕ). take n (drop from s)) n (h.places.begins some-there)
+      (sym q ∙ ap₂ (λ (n : ℕ) (from : ℕ). take n (drop from s)) n (h.places.begins some-there), omega (arith, n, h.places.solid 0 (omega arith) some-there))
+
+  label-is : (read_at names s at setup).label ≡ some u → (u ≡ take (length u) (drop (at + indent (rest_at s at)) s)) × (0 < length u)
+  label-is = spelled-first (record_at names s at) (line_read_lem names ok s at (record_at names s at) refl)
 
   pub label-part : (read_at names s at setup).label ≡ some u → u ≡ take (length u) (drop (at + indent (rest_at s at)) s)
-  label-part = spelled-first (record_at names s at) (line_read_lem names ok s at (record_at names s at) refl)
+  label-part e = (label-is e).0
+
+  pub label-solid : (read_at names s at setup).label ≡ some u → 0 < length u
+  label-solid e = (label-is e).1

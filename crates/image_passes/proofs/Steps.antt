@@ -1,14 +1,13 @@
 -- What a line comes to, by what it reads as.
-use Prim.Native.Nat.{ℕ, ◌+◌, ◌≤◌}
-use mathlib.Core.Path.{◌≡◌, refl, sym, ap}
+use Prim.Native.Nat.{ℕ, suc, ◌+◌, ◌≤◌}
+use mathlib.Core.Path.{◌≡◌, refl, sym, ap, ap₂, ◌∙◌}
 use native.Mathlib.Omega.{arith}
-use mathlib.Core.Bool.{Bool, true, false}
+use mathlib.Core.Bool.{Bool, true, false, ◌||◌}
 use mathlib.Core.Option.{Option, none, some}
-use mathlib.Core.List.{List, [], ◌++◌, append-nil}
-use lib.ListN.{length}
+use mathlib.Core.List.{List}
 use lib.Dec.{ltb}
 use borrow.Author.Tests.{ltb-true}
-use Rattle.std.specs.Prelude.{Ok, Err}
+use Rattle.std.specs.Prelude.{Result, Ok, Err}
 use Rattle.refusal.specs.Refusals.{number_of, refusal_at}
 use Rattle.refusal.specs.declared.refusal.Refusal.{Refusal}
 use Rattle.refusal.specs.declared.refusal.Refusal.TheVariants.{TooManyWords}
@@ -17,15 +16,21 @@ use Rattle.text_lexical.specs.Names.{Name}
 use Rattle.text.specs.Lines.{indent, read_line}
 use Rattle.text.specs.Lines.{Line as Record}
 use Rattle.text.specs.Places.{rest_at, end_at}
+use Rattle.instruction.specs.Operands.{exactly, to}
+use Rattle.instruction.specs.Operands.{Amount as MeantAmount}
+use Rattle.instruction.specs.Promised.{names_label, amount_back}
 use Rattle.image.specs.Settings.{Settings, settings}
-use Rattle.image.specs.Assembling.{State, next, stop, nothing, codes, sets, faulty, read_on, changed_by, with_settings, most_words, with_instruction, doing, Effect as MeantEffect, Read as MeantRead}
-use Rattle.image.specs.Meaning.{coded_by}
+use Rattle.image.specs.Assembling.{State, Step, next, stop, nothing, codes, sets, faulty, read_on, changed_by, with_settings, most_words, with_instruction, doing}
+use Rattle.image.specs.Assembling.{Effect as MeantEffect, Read as MeantRead}
+use Rattle.image.specs.Meaning.{is_target, names_target}
 use Rattle.image.specs.Promised.{settings_meant}
-use Rattle.image_line.specs.Promised.{context_for, effect_meant, end_of, LineIs}
-use Rattle.image_passes.specs.Promised.{effect_at, Rest, done, one_more, rest_for, RestFits}
+use Rattle.image_line.specs.Promised.{context_for, effect_meant, effect_label, effect_for, end_of, LineIs}
+use Rattle.image_passes.specs.Promised.{effect_at, Rest, one_more, found_after, found_with, ended, rest_for, RestFits}
 use Rattle.image.specs.declared.config.Config.{Config}
+use Rattle.image_line.specs.declared.line.Effect.{Effect}
 use Rattle.image_line.specs.declared.line.Read.{Read}
 use Rattle.image_passes.specs.declared.first_pass.Done.{Done}
+use Rattle.image_passes.specs.declared.first_pass.Found.{Found}
 use Rattle.image_passes.proofs.Faults.{Named, effect-named}
 use Rattle.image_passes.proofs.Reaching.{comes_to}
 
@@ -35,66 +40,101 @@ use Rattle.image_passes.proofs.Reaching.{comes_to}
 pub refusal_back : (r : Refusal) → refusal_at (number_of r) ≡ r
 refusal_back r = number-back r
 
--- A state after a line that is not refused, its label aside.
-abbrev pub grown : State → MeantEffect → State
-grown st e = record { labels = st.labels; instructions = st.instructions ++ coded_by e; setup = changed_by st.setup e }
+-- A state after a line that is not refused, its label aside, where there are so many words then.
+abbrev pub grown : State → MeantEffect → ℕ → State
+grown st e words = record { labels = st.labels; words = words; setup = changed_by st.setup e }
 
--- A state to which no instruction is added.
-same-state : (st : State) (setup : Settings) → ◌≡◌ {A = State} (record { labels = st.labels; instructions = st.instructions; setup = setup }) (record { labels = st.labels; instructions = st.instructions ++ []; setup = setup })
-same-state st setup = λ j. record { labels = st.labels; instructions = sym (append-nil st.instructions) j; setup = setup }
+same-words : (st : State) (setup : Settings) {words : ℕ} → st.words ≡ words
+    → ◌≡◌ {A = Step} (next (record { labels = st.labels; words = st.words; setup = setup })) (next (record { labels = st.labels; words = words; setup = setup }))
+same-words st setup n = ap (λ (x : ℕ). next (record { labels = st.labels; words = x; setup = setup })) n
 
--- A line that is not refused: what it does to a state with so many words, how many words there are then, the settings, and where it ends.
-pub record RestDone (e : MeantEffect) (words : ℕ) (c : Config) (end : ℕ) (d : Done) : Type 0 where
-  pub does : (st : State) → length st.instructions ≡ words → doing e (next st) ≡ next (grown st e)
-  pub counts : d.words ≡ words + length (coded_by e)
-  pub settings : settings_meant d.config ≡ changed_by (settings_meant c) e
+pub or-false : (b : Bool) → b ≡ (b || false)
+or-false true = refl
+or-false false = refl
+
+-- A line that is not refused: what it does to a state with so many words, the settings then, whether a line so far names a label, and where it
+-- ends.
+pub record RestDone (e : MeantEffect) (f : Found) (end : ℕ) (d : Done) : Type 0 where
+  pub does : (st : State) → st.words ≡ f.words → doing e (next st) ≡ next (grown st e d.found.words)
+  pub settings : settings_meant d.found.config ≡ changed_by (settings_meant f.config) e
+  pub targets : d.found.targets ≡ (f.targets || names_target e)
   pub ends : d.end ≡ end
 
 -- What a line comes to, in either case.
-abbrev RestIs : MeantEffect → ℕ → Config → ℕ → Rest → Type 0
-RestIs e words c end (Err r) = (st : State) → length st.instructions ≡ words → doing e (next st) ≡ stop (number_of r) st
-RestIs e words c end (Ok d) = RestDone e words c end d
+abbrev RestIs : MeantEffect → Found → ℕ → Rest → Type 0
+RestIs e f end (Err r) = (st : State) → st.words ≡ f.words → doing e (next st) ≡ stop (number_of r) st
+RestIs e f end (Ok d) = RestDone e f end d
 
-module _ (words : ℕ) (c : Config) (end : ℕ) where
-  pub rest-is : (e : MeantEffect) → Named e → RestIs e words c end (rest_for e words c end)
-  unfolding doing coded_by changed_by with_settings with_instruction one_more settings
-  rest-is nothing k = record { does = λ st n. ap (λ (x : State). next x) (same-state st st.setup); counts = omega arith; settings = refl; ends = refl }
-  rest-is (sets setup) k = record { does = λ st n. ap (λ (x : State). next x) (same-state st setup); counts = omega arith; settings = refl; ends = refl }
-  rest-is (codes i) k = by (ltb words most_words) refl
+module _ (f : Found) (end : ℕ) where
+  pub rest-is : (e : MeantEffect) → Named e → RestIs e f end (rest_for e f end)
+  unfolding doing changed_by names_target with_settings with_instruction one_more settings
+  rest-is nothing k = record { does = λ st n. same-words st st.setup n; settings = refl; targets = or-false f.targets; ends = refl }
+  rest-is (sets setup) k = record { does = λ st n. same-words st setup n; settings = refl; targets = or-false f.targets; ends = refl }
+  rest-is (codes i) k = by (ltb f.words most_words) refl
     where
-      by : (b : Bool) → ltb words most_words ≡ b → RestIs (codes i) words c end (elim b [ true ↦ done (words + 1) c end | false ↦ Err TooManyWords ])
-      by true l = record { does = λ st n. rw (with_instruction, n, l); counts = refl; settings = refl; ends = refl }
-      by false l = λ st n. rw (with_instruction, n, l)
+      by : (b : Bool) → ltb f.words most_words ≡ b
+          → RestIs (codes i) f end (ended (elim b [ true ↦ Ok (record { words = f.words + 1; config = f.config; targets = f.targets || is_target i.amount }) | false ↦ Err TooManyWords ]) end)
+      by true l =
+          record {
+            does = λ st n.
+                let k : ltb st.words most_words ≡ true = ap (λ (x : ℕ). ltb x most_words) n ∙ l in
+                let m : suc st.words ≡ f.words + 1 = omega (arith, n) in
+                rw (with_instruction, k) (ap (λ (x : ℕ). next (record { labels = st.labels; words = x; setup = st.setup })) m);
+            settings = refl;
+            targets = refl;
+            ends = refl;
+          }
+      by false l = λ st n. let k : ltb st.words most_words ≡ false = ap (λ (x : ℕ). ltb x most_words) n ∙ l in rw (with_instruction, k)
   rest-is (faulty n) k = λ st _. ap (λ (m : ℕ). stop m st) (sym k)
 
   -- It leaves room.
-  pub rest_fits : (line : ℕ) → line ≤ end + 1 → words ≤ 32768 → (e : MeantEffect) → RestFits line (rest_for e words c end)
+  pub rest_fits : (line : ℕ) → line ≤ end + 1 → f.words ≤ 32768 → (e : MeantEffect) → RestFits line (rest_for e f end)
   unfolding one_more most_words
   rest_fits line few h nothing = (few, h)
   rest_fits line few h (sets setup) = (few, h)
-  rest_fits line few h (codes i) = by (ltb words 32768) refl
+  rest_fits line few h (codes i) = by (ltb f.words 32768) refl
     where
-      by : (b : Bool) → ltb words 32768 ≡ b → RestFits line (elim b [ true ↦ done (words + 1) c end | false ↦ Err TooManyWords ])
-      by true l = (few, omega (arith, ltb-true words 32768 l))
+      by : (b : Bool) → ltb f.words 32768 ≡ b
+          → RestFits line (ended (elim b [ true ↦ Ok (record { words = f.words + 1; config = f.config; targets = f.targets || is_target i.amount }) | false ↦ Err TooManyWords ]) end)
+      by true l = (few, omega (arith, ltb-true f.words 32768 l))
       by false l = tt
   rest_fits line few h (faulty n) = tt
 
 -- What the line at a place comes to.
-pub line-is : (names : List Name) (s : List ℕ) (at words : ℕ) (c : Config) → RestIs (effect_at names s at (settings_meant c)) words c (end_at s at) (comes_to names s at words c)
-line-is names s at words c = rest-is words c (end_at s at) (effect_at names s at (settings_meant c)) (effect-named (context_for c) (read_line names (rest_at s at)))
+pub line-is : (names : List Name) (s : List ℕ) (at : ℕ) (f : Found) → RestIs (effect_at names s at (settings_meant f.config)) f (end_at s at) (comes_to names s at f)
+line-is names s at f = rest-is f (end_at s at) (effect_at names s at (settings_meant f.config)) (effect-named (context_for f.config) (read_line names (rest_at s at)))
 
 -- ---- a line that was read
 
+-- A code's draft names a label where the draft that it is for does.
+names-back : (at : ℕ) (a : Option MeantAmount) → names_label (amount_back at a) ≡ is_target a
+unfolding is_target
+names-back at none = refl
+names-back at (some (exactly z)) = refl
+names-back at (some (to u)) = refl
+
+found-for : (at : ℕ) (e : MeantEffect) (f : Found) → found_with (effect_for at e) f ≡ found_after e f
+found-for at nothing f = refl
+found-for at (sets s) f = refl
+found-for at (codes d) f = ap (λ (b : Bool). one_more b f) (names-back at d.amount)
+found-for at (faulty n) f = refl
+
 module _ {names : List Name} {s : List ℕ} {from : ℕ} (c : Config) {r : Read} (h : LineIs names s from (context_for c) r) where
   -- What it does.
-  pub effect_is : effect_meant r.effect ≡ effect_at names s from (settings_meant c)
+  pub effect_is : effect_meant s r.effect ≡ effect_at names s from (settings_meant c)
   effect_is = ap (λ (x : MeantRead). x.effect) h.reads
 
-  -- What it comes to. A bad token leaves open where the line ends, but then it is refused.
-  pub comes-to : (words : ℕ) → rest_for (effect_meant r.effect) words c r.end ≡ rest_for (effect_at names s from (settings_meant c)) words c (end_at s from)
-  unfolding end_of read_on
-  comes-to words = rw (effect_is, h.ends) (go (read_line names (rest_at s from)))
-    where
-      go : (o : Option Record) → rest_for (read_on (context_for c) o).effect words c (elim o [ none ↦ from + indent (rest_at s from) | some x ↦ end_at s from ]) ≡ rest_for (read_on (context_for c) o).effect words c (end_at s from)
-      go (some x) = refl
-      go none = refl
+  pub effect-for : r.effect ≡ effect_for (effect_label r.effect) (effect_at names s from (settings_meant c))
+  effect-for = ap (λ (x : Read). x.effect) h.is
+
+-- What it comes to. A bad token leaves open where the line ends, but then it is refused.
+pub comes-to : {names : List Name} {s : List ℕ} {from : ℕ} (f : Found) {r : Read} → LineIs names s from (context_for f.config) r
+    → ended (found_with r.effect f) r.end ≡ comes_to names s from f
+unfolding end_of read_on
+comes-to {names} {s} {from} f {r} h =
+    ap₂ (λ (x : Result Found Refusal) (n : ℕ). ended x n) (ap (λ (e : Result Effect Refusal). found_with e f) (effect-for f.config h) ∙ found-for (effect_label r.effect) (effect_at names s from (settings_meant f.config)) f) h.ends
+    ∙ go (read_line names (rest_at s from))
+  where
+    go : (o : Option Record) → rest_for (read_on (context_for f.config) o).effect f (elim o [ none ↦ from + indent (rest_at s from) | some x ↦ end_at s from ]) ≡ rest_for (read_on (context_for f.config) o).effect f (end_at s from)
+    go (some x) = refl
+    go none = refl

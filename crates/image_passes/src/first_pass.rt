@@ -5,13 +5,14 @@ ghost use Rattle.refusal.specs.Refusals.{number_of};
 ghost use Rattle.text.specs.Lines.{lines};
 ghost use Rattle.image.specs.Assembling.{rust_line_of, most_bytes};
 ghost use Rattle.text_lexical.specs.Names.{present};
-ghost use Rattle.image_line.specs.Promised.{effect_meant};
-ghost use Rattle.image_passes.specs.Promised.{line_refused, one_more, rest_for, label_pass, line_after, begun, followed, Sound, Scannable, ReadsOn};
+ghost use Rattle.instruction.specs.Promised.{names_label};
+ghost use Rattle.image_passes.specs.Promised.{line_refused, one_more, found_with, ended, label_pass, line_after, begun, followed, Sound, Scannable, ReadsOn};
 
 use image::config::Config;
-use image::limits::{ENTRY, MOST_BYTES, MOST_WORDS, WORD_SIZE};
+use image::limits::{MOST_BYTES, MOST_WORDS};
 use image_labels::label::Label;
-use image_line::line::Effect;
+use image_line::line::{Effect, Read};
+use instruction::instruction::Draft;
 use refusal::refusal::Refusal;
 use text_lexical::bytes::{Class, Inside};
 
@@ -23,13 +24,20 @@ pub enum Next {
     Ended(Verdict),
 }
 
-// A line that is to be read: where it begins, its number, and the words and settings before it.
+// What the lines so far have come to: their words and settings, and whether one of them names a label for its number.
+#[derive(Clone, Copy)]
+pub struct Found {
+    pub words: usize,
+    pub config: Config,
+    pub targets: bool,
+}
+
+// A line that is to be read: where it begins, its number, and what the lines before it have come to.
 #[derive(Clone, Copy)]
 pub struct Cursor {
     pub at: usize,
     pub line: usize,
-    pub words: usize,
-    pub config: Config,
+    pub found: Found,
 }
 
 // Where the first walk comes to as it reads on: to a label that is to be entered, or to its end. Neither is an error, so this is no `Result`,
@@ -48,23 +56,15 @@ pub struct LabelLine {
     pub rest: Result<Done, Refusal>,
 }
 
-// The words and settings up to the end of a line, and where it ends.
+// What the lines up to the end of a line have come to, and where it ends.
 #[derive(Clone, Copy)]
 pub struct Done {
-    pub words: usize,
-    pub config: Config,
+    pub found: Found,
     pub end: usize,
 }
 
 // How the first walk has ended: it has read the source to its end, or the source is refused.
-pub type Verdict = Result<Finished, Stopped>;
-
-// The words and settings of a source that has been read to its end.
-#[derive(Clone, Copy)]
-pub struct Finished {
-    pub words: usize,
-    pub config: Config,
-}
+pub type Verdict = Result<Found, Stopped>;
 
 // Why a source is refused, the Rust's line and the true line.
 #[derive(Clone, Copy)]
@@ -94,52 +94,64 @@ fn rust_line(refusal: Refusal, line: usize) -> usize
     }
 }
 
-// The walk ends with the refusal of a line.
-fn line_refused(refusal: Refusal, line: usize) -> Verdict
+// A source that is refused for a line.
+pub(crate) fn line_refused(refusal: Refusal, line: usize) -> Stopped
     ensures { result ≡ line_refused refusal line }
 {
-    Err(Stopped {
+    Stopped {
         refusal,
         rust_line: rust_line(refusal, line),
         line,
-    })
+    }
 }
 
 // A line with an instruction, which is refused if it is the 32,769th.
 #[tactic(auto, unfolding(crate::specs::Promised::one_more, image::specs::Assembling::most_words))]
-fn counted(done: Done) -> Result<Done, Refusal>
-    ensures { result ≡ one_more done.words done.config done.end }
+fn counted(draft: Draft, found: Found) -> Result<Found, Refusal>
+    ensures { result ≡ one_more (names_label draft.amount) found }
 {
-    if done.words < MOST_WORDS {
-        return Ok(Done {
-            words: done.words + 1,
-            ..done
+    if found.words < MOST_WORDS {
+        return Ok(Found {
+            words: found.words + 1,
+            targets: found.targets || draft.names_label(),
+            ..found
         });
     }
     Err(Refusal::TooManyWords)
 }
 
-// What a line comes to by what it does; `done` is what it comes to if it does nothing.
+// What a line comes to by what it does, after what the lines before it have come to.
 #[tactic(auto, unfolding(image::specs::Settings::settings), using(crate::proofs::Steps::refusal_back))]
-fn rest_of(effect: Result<Effect, Refusal>, done: Done) -> Result<Done, Refusal>
-    ensures { result ≡ rest_for (effect_meant effect) done.words done.config done.end }
+fn found_after(effect: Result<Effect, Refusal>, found: Found) -> Result<Found, Refusal>
+    ensures { result ≡ found_with effect found }
 {
     match effect? {
-        Effect::Nothing => Ok(done),
-        Effect::Sets(config) => Ok(Done { config, ..done }),
-        Effect::Codes { .. } => counted(done),
+        Effect::Nothing => Ok(found),
+        Effect::Sets(config) => Ok(Found { config, ..found }),
+        Effect::Codes(draft) => counted(draft, found),
     }
 }
 
+// What a line that was read comes to, with its end.
+fn rest_of(read: Read, found: Found) -> Result<Done, Refusal>
+    ensures { result ≡ ended (found_with read.effect found) read.end }
+{
+    Ok(Done {
+        found: found_after(read.effect, found)?,
+        end: read.end,
+    })
+}
+
 // The label of a cursor's line is to be entered, which begins at `start`.
+#[tactic(auto, unfolding(image::specs::Assembling::most_words))]
 fn at_label(start: usize, length: usize, cursor: Cursor, rest: Result<Done, Refusal>) -> Pass
-    requires { cursor.words ≤ 32768 }
-    ensures { result ≡ label_pass start length cursor.words cursor.line rest }
+    requires { cursor.found.words ≤ 32768 }
+    ensures { result ≡ label_pass start length cursor.found.words cursor.line rest }
 {
     let label = Label {
         start,
         length,
-        address: u64::from(ENTRY) + (WORD_SIZE * cursor.words) as u64,
+        address: image::program::address_after(cursor.found.words),
     };
     Pass::AtLabel(LabelLine {
         label,
@@ -156,17 +168,13 @@ fn after_line(size: usize, line: usize, rest: Result<Done, Refusal>) -> Next
     ensures { result ≡ line_after size line rest }
 {
     match rest {
-        Err(refusal) => Next::Ended(line_refused(refusal, line)),
+        Err(refusal) => Next::Ended(Err(line_refused(refusal, line))),
         Ok(done) => match image_line::line::next_line(size, done.end) {
-            None => Next::Ended(Ok(Finished {
-                words: done.words,
-                config: done.config,
-            })),
+            None => Next::Ended(Ok(done.found)),
             Some(at) => Next::From(Cursor {
                 at,
                 line: line + 1,
-                words: done.words,
-                config: done.config,
+                found: done.found,
             }),
         },
     }
@@ -182,13 +190,8 @@ pub fn read_on(source: &[u8], from: Cursor) -> Pass
     let mut cursor = from;
     // where a line ends is found by reading it, so there is no list of lines to walk
     loop {
-        let read = image_line::line::read_line(source, cursor.at, cursor.config);
-        let quiet = Done {
-            words: cursor.words,
-            config: cursor.config,
-            end: read.end,
-        };
-        let rest = rest_of(read.effect, quiet);
+        let read = image_line::line::read_line(source, cursor.at, cursor.found.config);
+        let rest = rest_of(read, cursor.found);
         if let Some(length) = read.label {
             return at_label(read.start, length, cursor, rest);
         }
@@ -223,8 +226,11 @@ pub fn begin(source: &[u8]) -> Result<Cursor, Stopped>
     Ok(Cursor {
         at: 0,
         line: 1,
-        words: 0,
-        config: Config::begin(),
+        found: Found {
+            words: 0,
+            config: Config::begin(),
+            targets: false,
+        },
     })
 }
 
@@ -235,7 +241,7 @@ pub fn go_on(source: &[u8], at: LabelLine, entered: Result<(), Refusal>) -> Next
     ensures { result ≡ followed source.now at entered }
 {
     match entered {
-        Err(refusal) => Next::Ended(line_refused(refusal, at.line)),
+        Err(refusal) => Next::Ended(Err(line_refused(refusal, at.line))),
         Ok(()) => after_line(source.len(), at.line, at.rest),
     }
 }

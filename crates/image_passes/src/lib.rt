@@ -1,4 +1,4 @@
-// The two walks over the lines of a source, but for the label table.
+// The walks over the lines of a source: the first, but for entering its labels, and the second, which looks labels up.
 #![tactic(auto)]
 
 pub mod first_pass;

@@ -4,7 +4,7 @@
 use Prim.Native.Nat.{ℕ, zero, suc, pred, ◌+◌, ◌≤◌, ◌<◌}
 use mathlib.Core.Path.{◌≡◌, refl, sym, ap, ◌∙◌, subst}
 use native.Mathlib.Omega.{arith}
-use mathlib.Core.Bool.{Bool, true, false}
+use mathlib.Core.Bool.{Bool, true, false, true≢false}
 use mathlib.Core.Option.{Option, none, some}
 use mathlib.Core.List.{List, [], ◌∷◌, ◌++◌, map, map-append, append_assoc, append-nil}
 use lib.ListN.{length, get_or, set, replicate, length-append, length-replicate, length-map}
@@ -16,21 +16,24 @@ use Rattle.std.specs.Prelude.{Some, None}
 use Rattle.refusal.specs.Refusals.{number_of, refusals}
 use Rattle.refusal.specs.declared.refusal.Refusal.{Refusal}
 use Rattle.text_lexical.specs.Bytes.{Result, value, refused}
-use Rattle.text_lexical.specs.Promised.{index_of, register_at, whole_meant, whole_for}
-use Rattle.text_lexical.specs.declared.number.Whole.{Whole}
+use Rattle.text_lexical.specs.Promised.{index_of, register_at}
 use Rattle.text_lexical.specs.declared.register.Register.{Register}
 use Rattle.text_lexical.specs.declared.register.Register.TheVariants.{R0}
-use Rattle.text_lexical.proofs.Numbers.{whole-meant}
 use Rattle.text_lexical.proofs.Registers.{register-index}
 use Rattle.text.specs.Tokens.{Token}
 use Rattle.text.specs.Values.{read_number}
 use Rattle.instruction.specs.Table.{Place, reg, num, mark, a-comma, an-opening, a-closing, Form, R, I, Shift, Load, Store, Branch, Jump, System, places}
-use Rattle.instruction.specs.Operands.{Operands, no_operands, with_register, with_number, read_register, mark_byte, read_place, read_operands}
-use Rattle.instruction.specs.Promised.{no_number_lem, operands, whole_or, registers_of, operands_meant, registers_for, number_for, SettledFor}
+use Rattle.instruction.specs.Operands.{Amount, exactly, to, takes_label, DraftOperands, no_operands, with_register, with_amount, read_register, read_exactly, read_amount, mark_byte, read_place, read_operands}
+use Rattle.instruction.specs.Promised.{no_number_lem, row_of, registers_for, amount_meant, names_label, amount_for, taken_for, amount_back, label_start, DraftSettled}
 use Rattle.instruction.specs.Forms.{operand_list, is_number, mark_of, OperandPlace, number_place, register_place, MarkPlace, a_mark, MarkPlaces, no_mark, one_mark, Ahead, no_more, operand}
-use Rattle.instruction.specs.declared.instruction.Operands.{Operands as KeptOperands}
+use Rattle.instruction.specs.declared.instruction.Target.{Target}
+use Rattle.instruction.specs.declared.instruction.Amount.{Amount as KeptAmount}
+use Rattle.instruction.specs.declared.instruction.Amount.TheVariants.{Number, Label}
+use Rattle.instruction.specs.declared.opcode.Mnemonic.{Mnemonic}
 use Rattle.instruction.specs.declared.form.Mark.{Mark}
 use Rattle.instruction.specs.declared.form.Operand.{Operand}
+use Rattle.instruction.proofs.Columns.{mnemonic-back}
+use Rattle.instruction.proofs.Results.{not_refused}
 
 -- ---- the operands of each form
 
@@ -100,120 +103,155 @@ registers-first (reg bit ∷ ps) (x ∷ xs) ys h = ap (λ l. x ∷ l) (registers
 registers-first (num bit width signed ∷ ps) xs ys h = registers-first ps xs ys h
 registers-first (mark m ∷ ps) xs ys h = registers-first ps xs ys h
 
-no_number : (ps : List Place) (z : ℤ) → nums_in ps ≡ 0 → number_for ps z ≡ none
-unfolding nums_in number_for
-no_number [] z h = refl
-no_number (reg bit ∷ ps) z h = no_number ps z h
-no_number (num bit width signed ∷ ps) z h = absurd (omega arith)
-no_number (mark m ∷ ps) z h = no_number ps z h
+no_amount : (ps : List Place) (a : Amount) → nums_in ps ≡ 0 → amount_for ps a ≡ none
+unfolding nums_in amount_for
+no_amount [] a h = refl
+no_amount (reg bit ∷ ps) a h = no_amount ps a h
+no_amount (num bit width signed ∷ ps) a h = absurd (omega arith)
+no_amount (mark m ∷ ps) a h = no_amount ps a h
 
-a-number : (ps : List Place) (z : ℤ) → 0 < nums_in ps → number_for ps z ≡ some z
-unfolding nums_in number_for
-a-number [] z h = absurd (omega arith)
-a-number (reg bit ∷ ps) z h = a-number ps z h
-a-number (num bit width signed ∷ ps) z h = refl
-a-number (mark m ∷ ps) z h = a-number ps z h
+an-amount : (ps : List Place) (a : Amount) → 0 < nums_in ps → amount_for ps a ≡ some a
+unfolding nums_in amount_for
+an-amount [] a h = absurd (omega arith)
+an-amount (reg bit ∷ ps) a h = an-amount ps a h
+an-amount (num bit width signed ∷ ps) a h = refl
+an-amount (mark m ∷ ps) a h = an-amount ps a h
+
+-- No place follows a number's.
+pub NumberLast : List Place → Type 0
+NumberLast [] = Unit {0}
+NumberLast (reg bit ∷ ps) = NumberLast ps
+NumberLast (num bit width signed ∷ ps) = ps ≡ []
+NumberLast (mark m ∷ ps) = NumberLast ps
+
+-- So it is where a label may stand for the number.
+form-last : (f : Form) → takes_label f ≡ true → NumberLast (places f)
+unfolding places NumberLast
+form-last Branch h = refl
+form-last Jump h = refl
+form-last R h = absurd (true≢false (sym h))
+form-last I h = absurd (true≢false (sym h))
+form-last Shift h = absurd (true≢false (sym h))
+form-last Load h = absurd (true≢false (sym h))
+form-last Store h = absurd (true≢false (sym h))
+form-last System h = absurd (true≢false (sym h))
 
 -- ---- what has been read, before what is read after it
 
-or_else : Option ℤ → Option ℤ → Option ℤ
+or_else : Option Amount → Option Amount → Option Amount
 or_else none o = o
-or_else (some z) o = some z
+or_else (some a) o = some a
 
-joined : List ℕ → Option ℤ → Result Operands → Result Operands
-joined rs n (value o) = value (record { registers = rs ++ o.registers; number = or_else n o.number })
+joined : List ℕ → Option Amount → Result DraftOperands → Result DraftOperands
+joined rs n (value o) = value (record { registers = rs ++ o.registers; amount = or_else n o.amount })
 joined rs n (refused k) = refused k
 
-joined-none : (x : Result Operands) → x ≡ joined [] none x
+joined-none : (x : Result DraftOperands) → x ≡ joined [] none x
 unfolding joined or_else
 joined-none (value o) = refl
 joined-none (refused k) = refl
 
-joined-register : (rs : List ℕ) (n : Option ℤ) (k : ℕ) (x : Result Operands) → joined rs n (with_register k x) ≡ joined (rs ++ (k ∷ [])) n x
+joined-register : (rs : List ℕ) (n : Option Amount) (k : ℕ) (x : Result DraftOperands) → joined rs n (with_register k x) ≡ joined (rs ++ (k ∷ [])) n x
 unfolding joined with_register
 joined-register rs n k (value o) = rw (append_assoc rs (k ∷ []) o.registers)
 joined-register rs n k (refused j) = refl
 
-joined_number : (rs : List ℕ) (z : ℤ) (x : Result Operands) → joined rs none (with_number z x) ≡ joined rs (some z) x
-unfolding joined or_else with_number
-joined_number rs z (value o) = refl
-joined_number rs z (refused j) = refl
+joined_amount : (rs : List ℕ) (a : Amount) (x : Result DraftOperands) → joined rs none (with_amount a x) ≡ joined rs (some a) x
+unfolding joined or_else with_amount
+joined_amount rs a (value o) = refl
+joined_amount rs a (refused j) = refl
 
--- The number has been read, or not.
-counted : Option ℤ → ℕ
+-- The amount has been read, or not.
+counted : Option Amount → ℕ
 counted none = 0
-counted (some z) = 1
+counted (some a) = 1
 
-not-counted : (n : Option ℤ) → counted n ≡ 0 → n ≡ none
+not-counted : (n : Option Amount) → counted n ≡ 0 → n ≡ none
 unfolding counted
 not-counted none h = refl
-not-counted (some z) h = absurd (omega arith)
+not-counted (some a) h = absurd (omega arith)
 
--- Of all places, some are left after the tokens that have been read: these gave so many registers of three, and perhaps the number.
-record Partly (all : List Place) (pre : List Token) (ps : List Place) (count : ℕ) (rs : List Register) (w : Whole) : Type 0 where
+-- The code's amount for one that has been read; a 0 before.
+Standing : (Target → List ℕ) → KeptAmount → Option Amount → Type 0
+Standing spells a none = a ≡ Number no_number_lem
+Standing spells a (some x) = (amount_meant spells a ≡ x) × (a ≡ amount_back (label_start a) (some x))
+
+-- Of all places, some are left after the tokens that have been read: these gave so many registers of three, and perhaps the amount. After a
+-- label none is left.
+record Partly (spells : Target → List ℕ) (label : Bool) (all : List Place) (pre : List Token) (ps : List Place) (count : ℕ) (rs : List Register) (a : KeptAmount) : Type 0 where
   room : Room all
   got : List Register
   free : ℕ
-  number : Option ℤ
+  amount : Option Amount
   held : rs ≡ got ++ replicate free R0
   count-is : length got ≡ count
   three : count + free ≡ 3
-  stands : w ≡ whole_or number
+  stands : Standing spells a amount
+  last : label ≡ true → NumberLast ps
+  done : names_label a ≡ true → ps ≡ []
   sum : length pre + length ps ≡ length all
   regs : count + regs_in ps ≡ regs_in all
-  nums : counted number + nums_in ps ≡ nums_in all
-  reads : (ts : List Token) → read_operands all (pre ++ ts) ≡ joined (map index_of got) number (read_operands ps ts)
+  nums : counted amount + nums_in ps ≡ nums_in all
+  reads : (ts : List Token) → read_operands label all (pre ++ ts) ≡ joined (map index_of got) amount (read_operands label ps ts)
 
-partly-begin : (all : List Place) → Room all → Partly all [] all 0 (replicate 3 R0) no_number_lem
-unfolding counted
-partly-begin all room =
+partly-begin : (spells : Target → List ℕ) (label : Bool) (all : List Place) → Room all → (label ≡ true → NumberLast all)
+    → Partly spells label all [] all 0 (replicate 3 R0) (Number no_number_lem)
+unfolding counted Standing
+partly-begin spells label all room last =
     record {
       room = room;
       got = [];
       free = 3;
-      number = none;
+      amount = none;
       held = refl;
       count-is = refl;
       three = refl;
       stands = refl;
+      last = last;
+      done = λ h. absurd (true≢false (sym h));
       sum = omega arith;
       regs = omega arith;
       nums = omega arith;
-      reads = λ ts. joined-none (read_operands all ts);
+      reads = λ ts. joined-none (read_operands label all ts);
     }
 
 -- ---- a token at a place
 
-register-read : {p : Place} (t : Token) {k : ℕ} → OperandPlace false p → read_register t ≡ value k → (x : Result Operands) → read_place p t x ≡ with_register k x
+register-read : (label : Bool) {p : Place} (t : Token) {k : ℕ} → OperandPlace false p → read_register t ≡ value k → (x : Result DraftOperands)
+    → read_place label p t x ≡ with_register k x
 unfolding read_place
-register-read t register_place e x = rw (read_place, e)
+register-read label t register_place e x = rw (read_place, e)
 
-number_read : {p : Place} (t : Token) {z : ℤ} → OperandPlace true p → read_number t ≡ value z → (x : Result Operands) → read_place p t x ≡ with_number z x
+amount_read : (label : Bool) {p : Place} (t : Token) {a : Amount} → OperandPlace true p → read_amount label t ≡ value a → (x : Result DraftOperands)
+    → read_place label p t x ≡ with_amount a x
 unfolding read_place
-number_read t number_place e x = rw (read_place, e)
+amount_read label t number_place e x = rw (read_place, e)
 
 -- the same of one that is refused
-pub register-refuses : {p : Place} (t : Token) {k : ℕ} → OperandPlace false p → read_register t ≡ refused k → (x : Result Operands) → read_place p t x ≡ refused k
+pub register-refuses : (label : Bool) {p : Place} (t : Token) {k : ℕ} → OperandPlace false p → read_register t ≡ refused k → (x : Result DraftOperands)
+    → read_place label p t x ≡ refused k
 unfolding read_place
-register-refuses t register_place e x = rw (read_place, e)
+register-refuses label t register_place e x = rw (read_place, e)
 
-pub number-refuses : {p : Place} (t : Token) {k : ℕ} → OperandPlace true p → read_number t ≡ refused k → (x : Result Operands) → read_place p t x ≡ refused k
+pub amount-refuses : (label : Bool) {p : Place} (t : Token) {k : ℕ} → OperandPlace true p → read_amount label t ≡ refused k → (x : Result DraftOperands)
+    → read_place label p t x ≡ refused k
 unfolding read_place
-number-refuses t number_place e x = rw (read_place, e)
+amount-refuses label t number_place e x = rw (read_place, e)
 
 register-counts : {p : Place} (ps : List Place) → OperandPlace false p → regs_in (p ∷ ps) ≡ suc (regs_in ps)
 unfolding regs_in
 register-counts ps register_place = refl
 
-mark-asked : {p : Place} {byte : ℕ} {k : Refusal} → MarkPlace p byte k → (t : Token) (x : Result Operands)
-    → read_place p t x ≡ elim (eqb (mark_byte t) byte) [ true ↦ x | false ↦ refused (number_of k) ]
+mark-asked : (label : Bool) {p : Place} {byte : ℕ} {k : Refusal} → MarkPlace p byte k → (t : Token) (x : Result DraftOperands)
+    → read_place label p t x ≡ elim (eqb (mark_byte t) byte) [ true ↦ x | false ↦ refused (number_of k) ]
 unfolding read_place refusals
-mark-asked (a_mark a-comma) t x = refl
-mark-asked (a_mark an-opening) t x = refl
-mark-asked (a_mark a-closing) t x = refl
+mark-asked label (a_mark a-comma) t x = refl
+mark-asked label (a_mark an-opening) t x = refl
+mark-asked label (a_mark a-closing) t x = refl
 
-pub mark-refuses : {p : Place} {byte : ℕ} {k : Refusal} → MarkPlace p byte k → (t : Token) → (mark_byte t ≡ byte → ⊥) → (x : Result Operands) → read_place p t x ≡ refused (number_of k)
-mark-refuses {byte = byte} m t h x = mark-asked m t x ∙ rw (ne_eqb (mark_byte t) byte h)
+pub mark-refuses : (label : Bool) {p : Place} {byte : ℕ} {k : Refusal} → MarkPlace p byte k → (t : Token) → (mark_byte t ≡ byte → ⊥) → (x : Result DraftOperands)
+    → read_place label p t x ≡ refused (number_of k)
+mark-refuses label {byte = byte} m t h x = mark-asked label m t x ∙ rw (ne_eqb (mark_byte t) byte h)
 
 mark-regs : {p : Place} {byte : ℕ} {k : Refusal} (ps : List Place) → MarkPlace p byte k → regs_in (p ∷ ps) ≡ regs_in ps
 unfolding regs_in
@@ -223,81 +261,109 @@ mark-nums : {p : Place} {byte : ℕ} {k : Refusal} (ps : List Place) → MarkPla
 unfolding nums_in
 mark-nums ps (a_mark m) = refl
 
+mark-last : {p : Place} {byte : ℕ} {k : Refusal} (ps : List Place) → MarkPlace p byte k → NumberLast (p ∷ ps) → NumberLast ps
+unfolding NumberLast
+mark-last ps (a_mark m) h = h
+
+-- A label is read only where one may stand for the number.
+label-allowed : (spells : Target → List ℕ) (label : Bool) (t : Token) (a : KeptAmount) → read_amount label t ≡ value (amount_meant spells a) → names_label a ≡ true → label ≡ true
+unfolding read_amount read_exactly
+label-allowed spells true t a e h = refl
+label-allowed spells false t (Number w) e h = absurd (true≢false (sym h))
+label-allowed spells false t (Label p) e h = go (read_number t) e
+  where
+    go : (x : Result ℤ) → ◌≡◌ {A = Result Amount} (elim x [ value z ↦ value (exactly z) | refused k ↦ refused k ]) (value (to (spells p))) → false ≡ true
+    go (value z) e = let q : ◌≡◌ {A = ℕ} 0 1 = cc in absurd (omega arith)
+    go (refused k) e = not_refused e
+
 -- The next of three registers is put after those that were read.
 put_next : (got : List Register) (free count : ℕ) (r : Register) → length got ≡ count → 0 < free
     → set (got ++ replicate free R0) count r ≡ (got ++ (r ∷ [])) ++ replicate (pred free) R0
 put_next got zero count r h l = absurd (omega arith)
 put_next got (suc k) count r h l = set_at got R0 (replicate k R0) r count h ∙ sym (append_assoc got (r ∷ []) (replicate k R0))
 
-module _ {all : List Place} {pre : List Token} {ps : List Place} {count : ℕ} {rs : List Register} {w : Whole} where
-  -- One token more, by what it adds to what has been read.
-  read-on : {p : Place} (t : Token) (q : Partly all pre (p ∷ ps) count rs w) (got : List Register) (number : Option ℤ)
-      → ((x : Result Operands) → joined (map index_of q.got) q.number (read_place p t x) ≡ joined (map index_of got) number x)
-      → (ts : List Token) → read_operands all ((pre ++ (t ∷ [])) ++ ts) ≡ joined (map index_of got) number (read_operands ps ts)
-  unfolding read_operands
-  read-on t q got number h ts = rw (append_assoc pre (t ∷ []) ts) (q.reads (t ∷ ts) ∙ h (read_operands ps ts))
+-- A list with an entry is not empty.
+not-empty : {A X : Type 0} {x : A} {l : List A} → x ∷ l ≡ [] → X
+not-empty e = let q : ◌≡◌ {A = ℕ} 0 1 = cc in absurd (omega arith)
 
-  partly-register : {p : Place} (t : Token) (r : Register) → OperandPlace false p → Partly all pre (p ∷ ps) count rs w → read_register t ≡ value (index_of r)
-      → Partly all (pre ++ (t ∷ [])) ps (count + 1) (set rs count r) w
-  unfolding regs_in nums_in
+module _ {spells : Target → List ℕ} {label : Bool} {all : List Place} {pre : List Token} {ps : List Place} {count : ℕ} {rs : List Register} {a : KeptAmount} where
+  -- One token more, by what it adds to what has been read.
+  read-on : {p : Place} (t : Token) (q : Partly spells label all pre (p ∷ ps) count rs a) (got : List Register) (amount : Option Amount)
+      → ((x : Result DraftOperands) → joined (map index_of q.got) q.amount (read_place label p t x) ≡ joined (map index_of got) amount x)
+      → (ts : List Token) → read_operands label all ((pre ++ (t ∷ [])) ++ ts) ≡ joined (map index_of got) amount (read_operands label ps ts)
+  unfolding read_operands
+  read-on t q got amount h ts = rw (append_assoc pre (t ∷ []) ts) (q.reads (t ∷ ts) ∙ h (read_operands label ps ts))
+
+  partly-register : {p : Place} (t : Token) (r : Register) → OperandPlace false p → Partly spells label all pre (p ∷ ps) count rs a → read_register t ≡ value (index_of r)
+      → Partly spells label all (pre ++ (t ∷ [])) ps (count + 1) (set rs count r) a
+  unfolding regs_in nums_in NumberLast
   partly-register t r (register_place {bit = b}) q e =
       let free_one : 0 < q.free = omega (arith, q.three, q.regs, q.room.few) in
       record {
         room = q.room;
         got = q.got ++ (r ∷ []);
         free = pred q.free;
-        number = q.number;
+        amount = q.amount;
         held = rw q.held (put_next q.got q.free count r q.count-is free_one);
         count-is = rw (length-append q.got (r ∷ []), q.count-is);
         three = omega (arith, q.three);
         stands = q.stands;
+        last = q.last;
+        done = λ h. not-empty (q.done h);
         sum = rw (length-append pre (t ∷ [])) (omega (arith, q.sum));
         regs = omega (arith, q.regs);
         nums = q.nums;
-        reads = read-on t q (q.got ++ (r ∷ [])) q.number
-            (λ x. rw (register-read t (register_place {bit = b}) e x, joined-register (map index_of q.got) q.number (index_of r) x, map-append index_of q.got (r ∷ [])));
+        reads = read-on t q (q.got ++ (r ∷ [])) q.amount
+            (λ x. rw (register-read label t (register_place {bit = b}) e x, joined-register (map index_of q.got) q.amount (index_of r) x, map-append index_of q.got (r ∷ [])));
       }
 
-  partly-number : {p : Place} (t : Token) (z : ℤ) (w' : Whole) → OperandPlace true p → Partly all pre (p ∷ ps) count rs w → read_number t ≡ value z → w' ≡ whole_for z
-      → Partly all (pre ++ (t ∷ [])) ps count rs w'
-  unfolding regs_in nums_in counted
-  partly-number t z w' (number_place {bit = b} {width = d} {signed = f}) q e s =
-      let none_yet : counted q.number ≡ 0 = omega (arith, q.nums, q.room.single) in
+  partly-amount : {p : Place} (t : Token) (a' : KeptAmount) → OperandPlace true p → Partly spells label all pre (p ∷ ps) count rs a
+      → read_amount label t ≡ value (amount_meant spells a') → a' ≡ amount_back (label_start a') (some (amount_meant spells a'))
+      → Partly spells label all (pre ++ (t ∷ [])) ps count rs a'
+  unfolding regs_in nums_in counted NumberLast Standing
+  partly-amount t a' (number_place {bit = b} {width = d} {signed = f}) q e s =
+      let none_yet : counted q.amount ≡ 0 = omega (arith, q.nums, q.room.single) in
+      let end : label ≡ true → ps ≡ [] = q.last in
       record {
         room = q.room;
         got = q.got;
         free = q.free;
-        number = some z;
+        amount = some (amount_meant spells a');
         held = q.held;
         count-is = q.count-is;
         three = q.three;
-        stands = s;
+        stands = (refl, s);
+        last = λ h. rw (end h) tt;
+        done = λ h. end (label-allowed spells label t a' e h);
         sum = rw (length-append pre (t ∷ [])) (omega (arith, q.sum));
         regs = q.regs;
         nums = omega (arith, q.nums);
-        reads = read-on t q q.got (some z) (λ x. rw (number_read t (number_place {bit = b} {width = d} {signed = f}) e x, not-counted q.number none_yet) (joined_number (map index_of q.got) z x));
+        reads = read-on t q q.got (some (amount_meant spells a'))
+            (λ x. rw (amount_read label t (number_place {bit = b} {width = d} {signed = f}) e x, not-counted q.amount none_yet) (joined_amount (map index_of q.got) (amount_meant spells a') x));
       }
 
-  partly-mark : {p : Place} {byte : ℕ} {k : Refusal} (t : Token) → MarkPlace p byte k → Partly all pre (p ∷ ps) count rs w → mark_byte t ≡ byte
-      → Partly all (pre ++ (t ∷ [])) ps count rs w
+  partly-mark : {p : Place} {byte : ℕ} {k : Refusal} (t : Token) → MarkPlace p byte k → Partly spells label all pre (p ∷ ps) count rs a → mark_byte t ≡ byte
+      → Partly spells label all (pre ++ (t ∷ [])) ps count rs a
   partly-mark {p} {byte} t m q e =
       record {
         room = q.room;
         got = q.got;
         free = q.free;
-        number = q.number;
+        amount = q.amount;
         held = q.held;
         count-is = q.count-is;
         three = q.three;
         stands = q.stands;
+        last = λ h. mark-last ps m (q.last h);
+        done = λ h. not-empty (q.done h);
         sum = rw (length-append pre (t ∷ [])) (omega (arith, q.sum));
         regs = omega (arith, q.regs, mark-regs ps m);
         nums = omega (arith, q.nums, mark-nums ps m);
-        reads = read-on t q q.got q.number (λ x. rw (mark-asked m t x, eq-eqb (mark_byte t) byte e));
+        reads = read-on t q q.got q.amount (λ x. rw (mark-asked label m t x, eq-eqb (mark_byte t) byte e));
       }
 
   -- What is refused at the places that are left is refused at all of them.
-  partly-refuses : Partly all pre ps count rs w → (ts : List Token) (k : ℕ) → read_operands ps ts ≡ refused k → read_operands all (pre ++ ts) ≡ refused k
+  partly-refuses : Partly spells label all pre ps count rs a → (ts : List Token) (k : ℕ) → read_operands label ps ts ≡ refused k → read_operands label all (pre ++ ts) ≡ refused k
   unfolding joined
   partly-refuses q ts k e = q.reads ts ∙ rw e
 
@@ -359,71 +425,82 @@ counting-end q = omega (arith, q.sum, ap length (none_ahead q.ahead))
 -- ---- what has been read, by the operands
 
 -- Before the operands that are left,
-pub record Reading (all : List Place) (pre : List Token) (count : ℕ) (rs : List Register) (w : Whole) (left : List Operand) : Type 0 where
+pub record Reading (spells : Target → List ℕ) (label : Bool) (all : List Place) (pre : List Token) (count : ℕ) (rs : List Register) (a : KeptAmount) (left : List Operand) : Type 0 where
   ps : List Place
   ahead : Ahead ps left
-  partly : Partly all pre ps count rs w
+  partly : Partly spells label all pre ps count rs a
 
 -- and between an operand and the mark that may follow it.
-pub record Marking (all : List Place) (pre : List Token) (count : ℕ) (rs : List Register) (w : Whole) (o : Operand) (os : List Operand) : Type 0 where
+pub record Marking (spells : Target → List ℕ) (label : Bool) (all : List Place) (pre : List Token) (count : ℕ) (rs : List Register) (a : KeptAmount) (o : Operand) (os : List Operand) : Type 0 where
   marks : List Place
   rest : List Place
   mark-places : MarkPlaces (mark_of o) marks
   ahead : Ahead rest os
-  partly : Partly all pre (marks ++ rest) count rs w
+  partly : Partly spells label all pre (marks ++ rest) count rs a
 
-pub reading-begin : {all : List Place} {left : List Operand} → Room all → Ahead all left → Reading all [] 0 (replicate 3 R0) no_number_lem left
-reading-begin {all} room a = record { ps = all; ahead = a; partly = partly-begin all room }
+-- At first all operands of a form are left; a label may stand for the number as the form says.
+pub reading-begin : (spells : Target → List ℕ) (f : Form) {left : List Operand} → left ≡ operand_list f
+    → Reading spells (takes_label f) (places f) [] 0 (replicate 3 R0) (Number no_number_lem) left
+reading-begin spells f e =
+    record { ps = places f; ahead = rw e (form-ahead f); partly = partly-begin spells (takes_label f) (places f) (form-room f) (form-last f) }
 
-module _ {all : List Place} {pre : List Token} {count : ℕ} {rs : List Register} {w : Whole} {o : Operand} {os : List Operand} where
+module _ {spells : Target → List ℕ} {label : Bool} {all : List Place} {pre : List Token} {count : ℕ} {rs : List Register} {a : KeptAmount} {o : Operand} {os : List Operand} where
   -- The place of the next operand, by whether it is a number's.
-  ahead-at : (q : Reading all pre count rs w (o ∷ os)) {b : Bool} → is_number o ≡ b
-      → let n = next_of q.ahead in OperandPlace b n.place × Partly all pre (n.place ∷ (n.marks ++ n.rest)) count rs w
+  ahead-at : (q : Reading spells label all pre count rs a (o ∷ os)) {b : Bool} → is_number o ≡ b
+      → let n = next_of q.ahead in OperandPlace b n.place × Partly spells label all pre (n.place ∷ (n.marks ++ n.rest)) count rs a
   ahead-at q e =
       let n = next_of q.ahead in
-      (subst (λ b. OperandPlace b n.place) e n.operand-place, subst (λ ps. Partly all pre ps count rs w) n.splits q.partly)
+      (subst (λ b. OperandPlace b n.place) e n.operand-place, subst (λ ps. Partly spells label all pre ps count rs a) n.splits q.partly)
 
-  pub reading-register : Reading all pre count rs w (o ∷ os) → is_number o ≡ false → (t : Token) (r : Register) → read_register t ≡ value (index_of r)
-      → Marking all (pre ++ (t ∷ [])) (count + 1) (set rs count r) w o os
+  pub reading-register : Reading spells label all pre count rs a (o ∷ os) → is_number o ≡ false → (t : Token) (r : Register) → read_register t ≡ value (index_of r)
+      → Marking spells label all (pre ++ (t ∷ [])) (count + 1) (set rs count r) a o os
   reading-register q letter t r e =
       let n = next_of q.ahead in
       let (o, p) = ahead-at q letter in
       record { marks = n.marks; rest = n.rest; mark-places = n.mark-places; ahead = n.ahead; partly = partly-register t r o p e }
 
-  pub reading-number : Reading all pre count rs w (o ∷ os) → is_number o ≡ true → (t : Token) (z : ℤ) (w' : Whole) → read_number t ≡ value z → w' ≡ whole_for z
-      → Marking all (pre ++ (t ∷ [])) count rs w' o os
-  reading-number q digit t z w' e s =
+  pub reading-amount : Reading spells label all pre count rs a (o ∷ os) → is_number o ≡ true → (t : Token) (a' : KeptAmount)
+      → read_amount label t ≡ value (amount_meant spells a') → a' ≡ amount_back (label_start a') (some (amount_meant spells a'))
+      → Marking spells label all (pre ++ (t ∷ [])) count rs a' o os
+  reading-amount q digit t a' e s =
       let n = next_of q.ahead in
       let (o, p) = ahead-at q digit in
-      record { marks = n.marks; rest = n.rest; mark-places = n.mark-places; ahead = n.ahead; partly = partly-number t z w' o p e s }
+      record { marks = n.marks; rest = n.rest; mark-places = n.mark-places; ahead = n.ahead; partly = partly-amount t a' o p e s }
 
-  pub marking-none : Marking all pre count rs w o os → mark_of o ≡ None → Reading all pre count rs w os
+  pub marking-none : Marking spells label all pre count rs a o os → mark_of o ≡ None → Reading spells label all pre count rs a os
   marking-none q e =
       let m = none-marked (subst (λ m. MarkPlaces m q.marks) e q.mark-places) in
-      record { ps = q.rest; ahead = q.ahead; partly = subst (λ ms. Partly all pre (ms ++ q.rest) count rs w) m q.partly }
+      record { ps = q.rest; ahead = q.ahead; partly = subst (λ ms. Partly spells label all pre (ms ++ q.rest) count rs a) m q.partly }
 
   -- The place of the mark that follows.
-  mark-ahead : {m : Mark} (q : Marking all pre count rs w o os) → mark_of o ≡ Some m
-      → (p : Place) × (MarkPlace p m.byte m.refusal × Partly all pre (p ∷ q.rest) count rs w)
+  mark-ahead : {m : Mark} (q : Marking spells label all pre count rs a o os) → mark_of o ≡ Some m
+      → (p : Place) × (MarkPlace p m.byte m.refusal × Partly spells label all pre (p ∷ q.rest) count rs a)
   mark-ahead q e =
       let (p, (m, l)) = one-marked (subst (λ m. MarkPlaces m q.marks) e q.mark-places) in
-      (p, (m, subst (λ ms. Partly all pre (ms ++ q.rest) count rs w) l q.partly))
+      (p, (m, subst (λ ms. Partly spells label all pre (ms ++ q.rest) count rs a) l q.partly))
 
-  pub marking-mark : {m : Mark} → Marking all pre count rs w o os → mark_of o ≡ Some m → (t : Token) → mark_byte t ≡ m.byte
-      → Reading all (pre ++ (t ∷ [])) count rs w os
+  pub marking-mark : {m : Mark} → Marking spells label all pre count rs a o os → mark_of o ≡ Some m → (t : Token) → mark_byte t ≡ m.byte
+      → Reading spells label all (pre ++ (t ∷ [])) count rs a os
   marking-mark q e t b = let (p, (m, y)) = mark-ahead q e in record { ps = q.rest; ahead = q.ahead; partly = partly-mark t m y b }
 
+  -- No label was read where an operand or a mark is left.
+  pub reading-unlabelled : Reading spells label all pre count rs a (o ∷ os) → names_label a ≡ true → ⊥
+  reading-unlabelled q h = let (o, p) = ahead-at q refl in not-empty (p.done h)
+
+  pub marking-unlabelled : {m : Mark} → Marking spells label all pre count rs a o os → mark_of o ≡ Some m → names_label a ≡ true → ⊥
+  marking-unlabelled q e h = let (p, (m, y)) = mark-ahead q e in not-empty (y.done h)
+
   -- The place where the next token may be refused: what is refused there is refused at all places.
-  pub reading-refuses : {b : Bool} → Reading all pre count rs w (o ∷ os) → is_number o ≡ b
-      → (p : Place) × (ps : List Place) × OperandPlace b p × ((ts : List Token) (k : ℕ) → read_operands (p ∷ ps) ts ≡ refused k → read_operands all (pre ++ ts) ≡ refused k)
+  pub reading-refuses : {b : Bool} → Reading spells label all pre count rs a (o ∷ os) → is_number o ≡ b
+      → (p : Place) × (ps : List Place) × OperandPlace b p × ((ts : List Token) (k : ℕ) → read_operands label (p ∷ ps) ts ≡ refused k → read_operands label all (pre ++ ts) ≡ refused k)
   reading-refuses q e = let (o, p) = ahead-at q e in (_, _, o, partly-refuses p)
 
-  pub marking-refuses : {m : Mark} → Marking all pre count rs w o os → mark_of o ≡ Some m
-      → (p : Place) × (ps : List Place) × MarkPlace p m.byte m.refusal × ((ts : List Token) (k : ℕ) → read_operands (p ∷ ps) ts ≡ refused k → read_operands all (pre ++ ts) ≡ refused k)
+  pub marking-refuses : {m : Mark} → Marking spells label all pre count rs a o os → mark_of o ≡ Some m
+      → (p : Place) × (ps : List Place) × MarkPlace p m.byte m.refusal × ((ts : List Token) (k : ℕ) → read_operands label (p ∷ ps) ts ≡ refused k → read_operands label all (pre ++ ts) ≡ refused k)
   marking-refuses q e = let (p, (m, y)) = mark-ahead q e in (p, _, m, partly-refuses y)
 
   -- There is room for a register.
-  pub register-room : Reading all pre count rs w (o ∷ os) → is_number o ≡ false → count < 3
+  pub register-room : Reading spells label all pre count rs a (o ∷ os) → is_number o ≡ false → count < 3
   register-room q letter =
       let n = next_of q.ahead in
       let (o, p) = ahead-at q letter in
@@ -431,20 +508,17 @@ module _ {all : List Place} {pre : List Token} {count : ℕ} {rs : List Register
 
 -- ---- the end
 
--- Three registers, one by one.
-three-are : (rs : List Register) → length rs ≡ 3 → index_of (get_or rs 0 R0) ∷ index_of (get_or rs 1 R0) ∷ index_of (get_or rs 2 R0) ∷ [] ≡ map index_of rs
-three-are [] h = absurd (omega arith)
-three-are (a ∷ []) h = absurd (omega arith)
-three-are (a ∷ b ∷ []) h = absurd (omega arith)
-three-are (a ∷ b ∷ c ∷ []) h = refl
-three-are (a ∷ b ∷ c ∷ d ∷ rs) h = absurd (omega arith)
+amount_is : (spells : Target → List ℕ) (all : List Place) (n : Option Amount) (a : KeptAmount) → Standing spells a n → counted n ≡ nums_in all → amount_for all (amount_meant spells a) ≡ n
+unfolding counted Standing
+amount_is spells all none a s h = no_amount all (amount_meant spells a) (sym h)
+amount_is spells all (some x) a s h = an-amount all (amount_meant spells a) (omega arith) ∙ ap (λ x. some x) s.0
 
-number_is : (all : List Place) (n : Option ℤ) (w : Whole) → w ≡ whole_or n → counted n ≡ nums_in all → number_for all (whole_meant w) ≡ n
-unfolding counted
-number_is all none w s h = no_number all (whole_meant w) (sym h)
-number_is all (some z) w s h = a-number all (whole_meant w) (omega arith) ∙ ap (λ x. some x) (ap whole_meant s ∙ whole-meant z)
+amount-back : (spells : Target → List ℕ) (n : Option Amount) (a : KeptAmount) → Standing spells a n → a ≡ amount_back (label_start a) n
+unfolding Standing
+amount-back spells none a s = s
+amount-back spells (some x) a s = s.1
 
-or-none : (n : Option ℤ) → or_else n none ≡ n
+or-none : (n : Option Amount) → or_else n none ≡ n
 unfolding or_else
 or-none none = refl
 or-none (some z) = refl
@@ -461,27 +535,42 @@ held_at [] free i = none-held free i
 held_at (r ∷ got) free zero = sym (register-index r)
 held_at (r ∷ got) free (suc i) = held_at got free i
 
--- All places are read: the tokens are as many, these operands are what is read of them, and no part of them is free.
-pub record Complete (all : List Place) (pre : List Token) (o : KeptOperands) : Type 0 where
-  pub count : length pre ≡ length all
-  pub means : (ts : List Token) → read_operands all (pre ++ ts) ≡ value (operands_meant all o)
-  pub settled : SettledFor all o
+-- Three registers are those at their places.
+three-are : (rs : List Register) → length rs ≡ 3 → rs ≡ get_or rs 0 R0 ∷ get_or rs 1 R0 ∷ get_or rs 2 R0 ∷ []
+three-are [] h = absurd (omega arith)
+three-are (a ∷ []) h = absurd (omega arith)
+three-are (a ∷ b ∷ []) h = absurd (omega arith)
+three-are (a ∷ b ∷ c ∷ []) h = refl
+three-are (a ∷ b ∷ c ∷ d ∷ rs) h = absurd (omega arith)
 
-module _ {all : List Place} {pre : List Token} {count : ℕ} {rs : List Register} {w : Whole} where
-  partly-end : Partly all pre [] count rs w → Complete all pre (operands (get_or rs 0 R0) (get_or rs 1 R0) (get_or rs 2 R0) w)
+-- All places are read: the tokens are as many, this is what is read of them, and no part of it is free.
+pub record Complete (spells : Target → List ℕ) (label : Bool) (all : List Place) (pre : List Token) (rs : List Register) (a : KeptAmount) : Type 0 where
+  pub count : length pre ≡ length all
+  pub means : (ts : List Token) → read_operands label all (pre ++ ts) ≡ value (taken_for spells all rs a)
+  pub registers : let ns = registers_for all (map index_of rs) in rs ≡ register_at (get_or ns 0 0) ∷ register_at (get_or ns 1 0) ∷ register_at (get_or ns 2 0) ∷ []
+  pub amount : a ≡ amount_back (label_start a) (amount_for all (amount_meant spells a))
+
+module _ {spells : Target → List ℕ} {label : Bool} {all : List Place} {pre : List Token} {count : ℕ} {rs : List Register} {a : KeptAmount} where
+  partly-end : Partly spells label all pre [] count rs a → Complete spells label all pre rs a
   unfolding read_operands no_operands joined regs_in nums_in
   partly-end q =
       let l : length rs ≡ 3 = rw (q.held, length-append q.got (replicate q.free R0), length-replicate q.free R0) (omega (arith, q.count-is, q.three)) in
-      let registers : registers_for all (registers_of (operands (get_or rs 0 R0) (get_or rs 1 R0) (get_or rs 2 R0) w)) ≡ map index_of q.got
-      = ap (registers_for all) (three-are rs l ∙ ap (map index_of) q.held ∙ map-append index_of q.got (replicate q.free R0))
+      let registers : registers_for all (map index_of rs) ≡ map index_of q.got
+      = ap (registers_for all) (ap (map index_of) q.held ∙ map-append index_of q.got (replicate q.free R0))
       ∙ registers-first all (map index_of q.got) _ (length-map q.got index_of ∙ q.count-is ∙ omega (arith, q.regs)) in
-      let number = number_is all q.number w q.stands (omega (arith, q.nums)) in
+      let amount = amount_is spells all q.amount a q.stands (omega (arith, q.nums)) in
       record {
         count = omega (arith, q.sum);
-        means = λ ts. q.reads ts ∙ rw (registers, number, append-nil (map index_of q.got), or-none q.number);
-        settled = rw (registers, number, q.stands, q.held, held_at q.got q.free 0, held_at q.got q.free 1, held_at q.got q.free 2);
+        means = λ ts. q.reads ts ∙ rw (registers, amount, append-nil (map index_of q.got), or-none q.amount);
+        registers = three-are rs l ∙ rw (registers, q.held, held_at q.got q.free 0, held_at q.got q.free 1, held_at q.got q.free 2);
+        amount = rw amount (amount-back spells q.amount a q.stands);
       }
 
-pub reading-end : {all : List Place} {pre : List Token} {count : ℕ} {rs : List Register} {w : Whole} → Reading all pre count rs w []
-    → Complete all pre (operands (get_or rs 0 R0) (get_or rs 1 R0) (get_or rs 2 R0) w)
-reading-end {all} {pre} {count} {rs} {w} q = partly-end (subst (λ ps. Partly all pre ps count rs w) (none_ahead q.ahead) q.partly)
+pub reading-end : {spells : Target → List ℕ} {label : Bool} {all : List Place} {pre : List Token} {count : ℕ} {rs : List Register} {a : KeptAmount}
+    → Reading spells label all pre count rs a [] → Complete spells label all pre rs a
+reading-end {spells} {label} {all} {pre} {count} {rs} {a} q = partly-end (subst (λ ps. Partly spells label all pre ps count rs a) (none_ahead q.ahead) q.partly)
+
+-- As a draft of a mnemonic with that form: no part of it is free.
+pub draft-settled : {spells : Target → List ℕ} {label : Bool} {pre : List Token} {rs : List Register} {a : KeptAmount} (m : Mnemonic)
+    → Complete spells label (places (row_of m).form) pre rs a → DraftSettled spells (record { mnemonic = m; registers = rs; amount = a })
+draft-settled m q = λ i. record { mnemonic = sym (mnemonic-back m) i; registers = q.registers i; amount = q.amount i }

@@ -12,12 +12,11 @@ use Rattle.text_lexical.specs.Names.{Name, named}
 use Rattle.text_lexical.proofs.Tests.{by-test, both, and_both}
 use Rattle.text_lexical.proofs.Strings.{found}
 use Rattle.text.specs.Tokens.{Class, Register, Identifier, Number, Hex, Binary, Directive, Mark, Match, longest, Token, register, comma, colon, opening, closing, within, number_token, pattern_token, register_token, mark_token, token_of, Sized, sized, matched, front, infront, tokens_past, tokens}
-use Rattle.text.specs.Values.{read_number}
 use Rattle.text.specs.Lines.{Line, content, kept, line_of, record_of, read_line}
 use Rattle.text.specs.NameSets.{is_numbered, Naming}
 use Rattle.instruction.specs.Table.{Place, reg, num, mark, row_named}
-use Rattle.instruction.specs.Operands.{Instruction, read_register, read_identifier, mark_byte, Operands, separator_byte, separator_refusal, no_operands, with_register, with_number, read_place, read_operands, made, read_row, read_mnemonic, read_instruction, behind}
-use Rattle.instruction.specs.Fits.{places_of, Regs, number_field, has_number, Fits}
+use Rattle.instruction.specs.Operands.{Draft, takes_label, read_register, read_identifier, mark_byte, read_amount, DraftOperands, separator_byte, separator_refusal, no_operands, with_register, with_amount, read_place, read_operands, made, read_row, read_mnemonic, read_instruction, behind}
+use Rattle.instruction.specs.Fits.{InTable, places_of, Regs, number_field, has_number}
 use Rattle.instruction.proofs.Rows.{named-row}
 use Rattle.instruction.proofs.Results.{not_refused, test-value, option-value, result_value, through-value, when_some, each_take, each-drop}
 
@@ -28,46 +27,55 @@ numbered_token t = elim (read_register t) [ value n ↦ ltb n 16 | refused k ↦
 -- ---- operands
 
 -- Operands have what places ask for.
-abbrev Fitting : List Place → Operands → Type 0
-Fitting ps o = Regs ps o.registers × (is_some o.number ≡ has_number ps)
+abbrev Fitting : List Place → DraftOperands → Type 0
+Fitting ps o = Regs ps o.registers × (is_some o.amount ≡ has_number ps)
 
-read-operands : (ps : List Place) (ts : List Token) (o : Operands) → each numbered_token ts ≡ true → read_operands ps ts ≡ value o → Fitting ps o
-unfolding read_operands read_place Regs number_field has_number is_some each no_operands numbered_token with_register with_number
-read-operands [] ts o h e = let q : no_operands ≡ o = cc in subst (Fitting []) q (tt, refl)
-read-operands (p ∷ ps) [] o h e = not_refused e
-read-operands (reg bit ∷ ps) (t ∷ ts) o h e =
+read-operands : (label : Bool) (ps : List Place) (ts : List Token) (o : DraftOperands) → each numbered_token ts ≡ true → read_operands label ps ts ≡ value o → Fitting ps o
+unfolding read_operands read_place Regs number_field has_number is_some each no_operands numbered_token with_register with_amount
+read-operands label [] ts o h e = let q : no_operands ≡ o = cc in subst (Fitting []) q (tt, refl)
+read-operands label (p ∷ ps) [] o h e = not_refused e
+read-operands label (reg bit ∷ ps) (t ∷ ts) o h e =
     let (ht, h) = both (numbered_token t) (each numbered_token ts) h in
     let (n, f, e) = result_value (read_register t) _ o e in
-    let (o', e, q) = through-value (with_register n) (λ o. record { registers = n ∷ o.registers; number = o.number }) (λ o. refl) (λ k. refl) _ o e in
-    let (r, m) = read-operands ps ts o' h e in
+    let (o', e, q) = through-value (with_register n) (λ o. record { registers = n ∷ o.registers; amount = o.amount }) (λ o. refl) (λ k. refl) _ o e in
+    let (r, m) = read-operands label ps ts o' h e in
     subst (Fitting (reg bit ∷ ps)) q ((ltb-true n 16 (rw (numbered_token, f) at ht), r), m)
-read-operands (num bit width signed ∷ ps) (t ∷ ts) o h e =
-    let (z, f, e) = result_value (read_number t) _ o e in
-    let (o', e, q) = through-value (with_number z) (λ o. record { registers = o.registers; number = some z }) (λ o. refl) (λ k. refl) _ o e in
-    subst (Fitting (num bit width signed ∷ ps)) q ((read-operands ps ts o' (both (numbered_token t) _ h).1 e).0, refl)
-read-operands (mark m ∷ ps) (t ∷ ts) o h e =
-    read-operands ps ts o (both (numbered_token t) _ h).1 (test-value (eqb (mark_byte t) (separator_byte m)) _ (separator_refusal m) o e).1
+read-operands label (num bit width signed ∷ ps) (t ∷ ts) o h e =
+    let (a, f, e) = result_value (read_amount label t) _ o e in
+    let (o', e, q) = through-value (with_amount a) (λ o. record { registers = o.registers; amount = some a }) (λ o. refl) (λ k. refl) _ o e in
+    subst (Fitting (num bit width signed ∷ ps)) q ((read-operands label ps ts o' (both (numbered_token t) _ h).1 e).0, refl)
+read-operands label (mark m ∷ ps) (t ∷ ts) o h e =
+    read-operands label ps ts o (both (numbered_token t) _ h).1 (test-value (eqb (mark_byte t) (separator_byte m)) _ (separator_refusal m) o e).1
 
 -- ---- an instruction
 
-read-mnemonic : (t : Token) (count : ℕ) (ts : List Token) (i : Instruction) → each numbered_token ts ≡ true → read_mnemonic t count ts ≡ value i → Fits i
-unfolding read_mnemonic read_row made
-read-mnemonic t count ts i h e =
-    let (s, f, e) = option-value (read_identifier t) _ 14 i e in
-    let (r, g, e) = option-value (row_named (map lower s)) _ 15 i e in
-    let (c, e) = test-value (eqb count (length (places_of r))) _ 16 i e in
-    let (o, e, q) = through-value (made r) (λ o. record { row = r; registers = o.registers; number = o.number }) (λ o. refl) (λ k. refl) _ i e in
-    let (l, n) = read-operands (places_of r) ts o h e in
-    subst Fits q (record { in_table = (named-row (map lower s) r g).0; registers = l; number = n })
+-- What a line has of an instruction fits, whatever number its amount comes to.
+pub record DraftFits (d : Draft) : Type 0 where
+  -- its row is one of the table
+  pub in_table : InTable d.row
+  -- it has the registers that its form names
+  pub registers : Regs (places_of d.row) d.registers
+  -- and an amount exactly if its form has a number
+  pub amount : is_some d.amount ≡ has_number (places_of d.row)
 
--- An instruction that is read from a line fits, if the line's tokens name registers of the sixteen.
-pub read_fits : (l : Line) (i : Instruction) → each numbered_token l.first ≡ true → read_instruction l ≡ value i → Fits i
+read-mnemonic : (t : Token) (count : ℕ) (ts : List Token) (d : Draft) → each numbered_token ts ≡ true → read_mnemonic t count ts ≡ value d → DraftFits d
+unfolding read_mnemonic read_row made
+read-mnemonic t count ts d h e =
+    let (s, f, e) = option-value (read_identifier t) _ 14 d e in
+    let (r, g, e) = option-value (row_named (map lower s)) _ 15 d e in
+    let (c, e) = test-value (eqb count (length (places_of r))) _ 16 d e in
+    let (o, e, q) = through-value (made r) (λ o. record { row = r; registers = o.registers; amount = o.amount }) (λ o. refl) (λ k. refl) _ d e in
+    let (l, n) = read-operands (takes_label r.form) (places_of r) ts o h e in
+    subst DraftFits q (record { in_table = (named-row (map lower s) r g).0; registers = l; amount = n })
+
+-- What is read from a line fits, if the line's tokens name registers of the sixteen.
+pub read_fits : (l : Line) (d : Draft) → each numbered_token l.first ≡ true → read_instruction l ≡ value d → DraftFits d
 unfolding read_instruction each
-read_fits l i h e = go l.first h e
+read_fits l d h e = go l.first h e
   where
-    go : (ts : List Token) → each numbered_token ts ≡ true → ◌≡◌ {A = Result Instruction} (elim ts [ [] ↦ refused 14 | t ∷ ts ↦ read_mnemonic t (l.count - 1) ts ]) (value i) → Fits i
+    go : (ts : List Token) → each numbered_token ts ≡ true → ◌≡◌ {A = Result Draft} (elim ts [ [] ↦ refused 14 | t ∷ ts ↦ read_mnemonic t (l.count - 1) ts ]) (value d) → DraftFits d
     go [] h e = not_refused e
-    go (t ∷ ts) h e = read-mnemonic t (l.count - 1) ts i (both (numbered_token t) (each numbered_token ts) h).1 e
+    go (t ∷ ts) h e = read-mnemonic t (l.count - 1) ts d (both (numbered_token t) (each numbered_token ts) h).1 e
 
 -- ---- the tokens of a text
 

@@ -25,7 +25,7 @@ use Rattle.text.specs.NameSets.{Naming}
 use Rattle.text.proofs.Tokens.{Within64, tokens-nil, reads-identifier, reads-register, reads-decimal, reads-comma, reads-opening, reads-closing, reads-space}
 use Rattle.text.proofs.Lines.{visible, high-visible, high-plain, decimal-visible, Closed, closed-append, closed-every, decimal-closed, Trimmed, read-visible}
 use Rattle.instruction.specs.Table.{Place, reg, num, mark, a-comma, an-opening, a-closing, I, places, Row, row, table, row_coded}
-use Rattle.instruction.specs.Operands.{Instruction, read_register, read_identifier, mark_byte, no_operands, with_register, with_number, read_place, read_operands, made, read_row, read_mnemonic, read_instruction}
+use Rattle.instruction.specs.Operands.{Instruction, exactly, Draft, Amount, takes_label, read_register, read_identifier, mark_byte, read_exactly, read_amount, no_operands, with_register, with_amount, read_place, read_operands, made, read_row, read_mnemonic, read_instruction}
 use Rattle.instruction.specs.Words.{field_at, registers_in, number_in, unused_from, taken, instruction_of}
 use Rattle.instruction.specs.Text.{register_text, number_text, separator_text, places_text, operands_text, instruction_text}
 use Rattle.instruction.specs.Fits.{InTable, places_of, Regs, NumberField, number_field, has_number, width_of, number_width, Fits, reduced_in, reduced_to}
@@ -77,19 +77,33 @@ unfolding kept_in is_some
 kept_whole none n h = sym (nothing n h)
 kept_whole (some f) n h = refl
 
--- They are read as the registers and the number.
-places-read : (ps : List Place) (rs : List ℕ) (n : Option ℤ) → Regs ps rs → Given ps n
-    → read_operands ps (places_tokens ps rs n) ≡ value (record { registers = rs; number = kept_in (number_field ps) n })
-unfolding places_tokens Regs is_some number_field has_number kept_in read_operands read_place read_register read_number mark_byte no_operands with_register with_number
-places-read [] [] n f g = refl
-places-read [] (r ∷ rs) n f g = absurd f
-places-read (reg bit ∷ ps) [] n f g = absurd f
-places-read (reg bit ∷ ps) (r ∷ rs) n f g = rw (places-read ps rs n f.1 g)
-places-read (num bit width signed ∷ ps) rs none f g = absurd (true≢false (sym (g refl)))
-places-read (num bit width signed ∷ ps) rs (some z) f g = rw (places-read ps rs (some z) f (λ h. refl))
-places-read (mark a-comma ∷ ps) rs n f g = places-read ps rs n f g
-places-read (mark an-opening ∷ ps) rs n f g = places-read ps rs n f g
-places-read (mark a-closing ∷ ps) rs n f g = places-read ps rs n f g
+-- The amount that is exactly a number, if there is one; and what a line has of an instruction whose number it tells.
+unfoldable pub exact : Option ℤ → Option Amount
+exact none = none
+exact (some z) = some (exactly z)
+
+unfoldable pub drafted : Instruction → Draft
+drafted i = record { row = i.row; registers = i.registers; amount = exact i.number }
+
+-- A number's token is read as exactly it, where a label may stand too.
+number-read : (label : Bool) (z : ℤ) → read_amount label (number z) ≡ value (exactly z)
+unfolding read_amount read_exactly read_number read_identifier
+number-read true z = refl
+number-read false z = refl
+
+-- They are read as the registers and exactly the number.
+places-read : (label : Bool) (ps : List Place) (rs : List ℕ) (n : Option ℤ) → Regs ps rs → Given ps n
+    → read_operands label ps (places_tokens ps rs n) ≡ value (record { registers = rs; amount = exact (kept_in (number_field ps) n) })
+unfolding places_tokens Regs is_some number_field has_number kept_in read_operands read_place read_register mark_byte no_operands with_register with_amount exact
+places-read label [] [] n f g = refl
+places-read label [] (r ∷ rs) n f g = absurd f
+places-read label (reg bit ∷ ps) [] n f g = absurd f
+places-read label (reg bit ∷ ps) (r ∷ rs) n f g = rw (places-read label ps rs n f.1 g)
+places-read label (num bit width signed ∷ ps) rs none f g = absurd (true≢false (sym (g refl)))
+places-read label (num bit width signed ∷ ps) rs (some z) f g = rw (read_place, number-read label z, places-read label ps rs (some z) f (λ h. refl))
+places-read label (mark a-comma ∷ ps) rs n f g = places-read label ps rs n f g
+places-read label (mark an-opening ∷ ps) rs n f g = places-read label ps rs n f g
+places-read label (mark a-closing ∷ ps) rs n f g = places-read label ps rs n f g
 
 -- A token is no colon.
 unfoldable pub no_colon : Token → Bool
@@ -367,9 +381,9 @@ module _ (i : Instruction) (f : Fits i) where
   pub tokens-kept : (line_of (identifier i.row.mnemonic ∷ operand_tokens i)).first ≡ identifier i.row.mnemonic ∷ operand_tokens i
   tokens-kept = ap (λ (l : Line). l.first) (line-whole _ few-tokens)
 
-  -- They are read as the instruction.
-  pub tokens-read : read_instruction (line_of (identifier i.row.mnemonic ∷ operand_tokens i)) ≡ value i
-  unfolding read_instruction read_mnemonic read_identifier read_row made operand_tokens has_number
+  -- They are read as the instruction, its number exactly.
+  pub tokens-read : read_instruction (line_of (identifier i.row.mnemonic ∷ operand_tokens i)) ≡ value (drafted i)
+  unfolding read_instruction read_mnemonic read_identifier read_row made operand_tokens has_number drafted
   tokens-read =
       let c : suc (length (operand_tokens i)) - 1 ≡ length (places_of i.row) = let c = count in omega arith in
       rw (line-whole (identifier i.row.mnemonic ∷ operand_tokens i) few-tokens, c)
@@ -378,7 +392,7 @@ module _ (i : Instruction) (f : Fits i) where
         (row-facts i.row f.in_table).again,
         read_row,
         eq-eqb (length (places_of i.row)) _ refl,
-        places-read (places_of i.row) i.registers i.number f.registers given,
+        places-read (takes_label i.row.form) (places_of i.row) i.registers i.number f.registers given,
         kept_whole (number_field (places_of i.row)) i.number f.number,
       ))
 

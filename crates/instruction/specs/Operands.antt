@@ -1,11 +1,11 @@
--- An instruction, and how the tokens of a line are read as one. Quotations are document 01's.
-use Rattle.std.specs.Prelude.{ℕ, ◌-◌, true, false, List, [], ◌∷◌, map, length, drop, eqb, ℤ}
+-- An instruction, and how the tokens of a line are read as one. Quotations are document 01's, and document 02's where it is named.
+use Rattle.std.specs.Prelude.{ℕ, ◌-◌, Bool, true, false, List, [], ◌∷◌, map, length, drop, eqb, ℤ}
 use Rattle.std.proofs.Math.Option.{Option, none, some}
 use Rattle.text_lexical.specs.Bytes.{Result, value, refused, lower}
 use Rattle.text.specs.Tokens.{Token, identifier, register, number, hex, binary, directive, comma, colon, opening, closing}
 use Rattle.text.specs.Values.{read_number}
 use Rattle.text.specs.Lines.{Line}
-use Rattle.instruction.specs.Table.{Separator, a-comma, an-opening, a-closing, Place, reg, num, mark, places, Row, row_named}
+use Rattle.instruction.specs.Table.{Separator, a-comma, an-opening, a-closing, Place, reg, num, mark, Form, R, I, Shift, Load, Store, Branch, Jump, System, places, Row, row_named}
 
 -- "each has its mnemonic, lowered, the number of the register in each place its form names, and, where the form has one, the
 -- number its operand means": the mnemonic's row, the registers in operand order, and the number, not yet reduced.
@@ -13,6 +13,34 @@ pub record Instruction : Type 0 where
   pub row : Row
   pub registers : List ℕ
   pub number : Option ℤ
+
+-- Its operands by themselves.
+pub record Operands : Type 0 where
+  pub registers : List ℕ
+  pub number : Option ℤ
+
+-- The operand that is an instruction's number: exactly this one, or the distance to a label. Document 02, a: "The last operand of jal and
+-- the six branches may now be an Identifier, meaning a label anywhere in the source".
+pub data Amount : Type 0 where
+  exactly : ℤ → Amount
+  to : List ℕ → Amount
+
+-- What a line has of an instruction: its number may be the distance to a label, which all lines tell.
+pub record Draft : Type 0 where
+  pub row : Row
+  pub registers : List ℕ
+  pub amount : Option Amount
+
+-- The forms whose last operand may be a label.
+abbrev pub takes_label : Form → Bool
+takes_label Branch = true
+takes_label Jump = true
+takes_label R = false
+takes_label I = false
+takes_label Shift = false
+takes_label Load = false
+takes_label Store = false
+takes_label System = false
 
 -- ---- one operand token
 
@@ -56,22 +84,30 @@ mark_byte (hex n) = 0
 mark_byte (binary n) = 0
 mark_byte (directive s) = 0
 
+-- What a token is where a number stands, and perhaps a label: "8 number expected", but "Such operands no longer give 8" (document 02, a).
+unfoldable pub read_exactly : Token → Result Amount
+read_exactly t = elim (read_number t) [ value z ↦ value (exactly z) | refused k ↦ refused k ]
+
+unfoldable pub read_amount : Bool → Token → Result Amount
+read_amount false t = read_exactly t
+read_amount true t = elim (read_identifier t) [ some s ↦ value (to s) | none ↦ read_exactly t ]
+
 -- ---- the operands
 
-pub record Operands : Type 0 where
+pub record DraftOperands : Type 0 where
   pub registers : List ℕ
-  pub number : Option ℤ
+  pub amount : Option Amount
 
-unfoldable pub no_operands : Operands
-no_operands = record { registers = []; number = none }
+unfoldable pub no_operands : DraftOperands
+no_operands = record { registers = []; amount = none }
 
-unfoldable pub with_register : ℕ → Result Operands → Result Operands
-with_register n (value o) = value (record { registers = n ∷ o.registers; number = o.number })
+unfoldable pub with_register : ℕ → Result DraftOperands → Result DraftOperands
+with_register n (value o) = value (record { registers = n ∷ o.registers; amount = o.amount })
 with_register n (refused k) = refused k
 
-unfoldable pub with_number : ℤ → Result Operands → Result Operands
-with_number z (value o) = value (record { registers = o.registers; number = some z })
-with_number z (refused k) = refused k
+unfoldable pub with_amount : Amount → Result DraftOperands → Result DraftOperands
+with_amount a (value o) = value (record { registers = o.registers; amount = some a })
+with_amount a (refused k) = refused k
 
 -- The byte of a mark between operands, and "19 comma, 20 `(`, 21 `)` expected".
 abbrev pub separator_byte : Separator → ℕ
@@ -84,31 +120,32 @@ separator_refusal a-comma = 19
 separator_refusal an-opening = 20
 separator_refusal a-closing = 21
 
--- A token at a place, before what follows it: "operands left to right", so its own refusal comes first.
-unfoldable pub read_place : Place → Token → Result Operands → Result Operands
-read_place (reg bit) t rest = elim (read_register t) [ value n ↦ with_register n rest | refused k ↦ refused k ]
-read_place (num bit width signed) t rest = elim (read_number t) [ value z ↦ with_number z rest | refused k ↦ refused k ]
-read_place (mark m) t rest = elim (eqb (mark_byte t) (separator_byte m)) [ true ↦ rest | false ↦ refused (separator_refusal m) ]
+-- A token at a place, before what follows it: "operands left to right", so its own refusal comes first. A label may stand for the number,
+-- or not.
+unfoldable pub read_place : Bool → Place → Token → Result DraftOperands → Result DraftOperands
+read_place label (reg bit) t rest = elim (read_register t) [ value n ↦ with_register n rest | refused k ↦ refused k ]
+read_place label (num bit width signed) t rest = elim (read_amount label t) [ value a ↦ with_amount a rest | refused k ↦ refused k ]
+read_place label (mark m) t rest = elim (eqb (mark_byte t) (separator_byte m)) [ true ↦ rest | false ↦ refused (separator_refusal m) ]
 
 -- The tokens at the places of a form. (That there are as many of them is tested before.)
-unfoldable pub read_operands : List Place → List Token → Result Operands
-read_operands [] ts = value no_operands
-read_operands (p ∷ ps) [] = refused 16
-read_operands (p ∷ ps) (t ∷ ts) = read_place p t (read_operands ps ts)
+unfoldable pub read_operands : Bool → List Place → List Token → Result DraftOperands
+read_operands label [] ts = value no_operands
+read_operands label (p ∷ ps) [] = refused 16
+read_operands label (p ∷ ps) (t ∷ ts) = read_place label p t (read_operands label ps ts)
 
 -- ---- the instruction of a line
 
-unfoldable pub made : Row → Result Operands → Result Instruction
-made r (value o) = value (record { row = r; registers = o.registers; number = o.number })
+unfoldable pub made : Row → Result DraftOperands → Result Draft
+made r (value o) = value (record { row = r; registers = o.registers; amount = o.amount })
 made r (refused k) = refused k
 
 -- "16 wrong operand token count; then operands"; the count is that of all operand tokens.
-unfoldable pub read_row : Row → ℕ → List Token → Result Instruction
+unfoldable pub read_row : Row → ℕ → List Token → Result Draft
 read_row r count ts =
-    elim (eqb count (length (places r.form))) [ true ↦ made r (read_operands (places r.form) ts) | false ↦ refused 16 ]
+    elim (eqb count (length (places r.form))) [ true ↦ made r (read_operands (takes_label r.form) (places r.form) ts) | false ↦ refused 16 ]
 
 -- "14 mnemonic expected; 15 unknown mnemonic"; "its mnemonic lowered"
-unfoldable pub read_mnemonic : Token → ℕ → List Token → Result Instruction
+unfoldable pub read_mnemonic : Token → ℕ → List Token → Result Draft
 read_mnemonic t count ts =
     elim (read_identifier t) [
       | none ↦ refused 14
@@ -116,7 +153,7 @@ read_mnemonic t count ts =
     ]
 
 -- The instruction that a line's tokens, its label taken off, are read as.
-unfoldable pub read_instruction : Line → Result Instruction
+unfoldable pub read_instruction : Line → Result Draft
 read_instruction l = elim l.first [ [] ↦ refused 14 | t ∷ ts ↦ read_mnemonic t (l.count - 1) ts ]
 
 -- A line without its first k tokens.

@@ -1,5 +1,5 @@
 -- What the code's values mean in terms of the definitions, and what its functions promise.
-use Rattle.std.specs.Prelude.{ℕ, ◌≡◌, List, [], ◌∷◌, get_or, ℤ, Some, None}
+use Rattle.std.specs.Prelude.{ℕ, ◌≡◌, Bool, true, false, List, [], ◌∷◌, map, length, take, drop, get_or, ℤ, Some, None}
 use Rattle.std.specs.Prelude.{Option as StdOption}
 use Rattle.std.proofs.Math.Option.{Option, none, some}
 use Rattle.text_lexical.specs.Bytes.{bytes, same, find}
@@ -9,10 +9,14 @@ use Rattle.text_lexical.specs.declared.register.Register.TheVariants.{R0}
 use Rattle.text_lexical.specs.declared.number.Whole.{Whole}
 use Rattle.text_lexical.specs.declared.number.Whole.TheVariants.{NotNegative}
 use Rattle.instruction.specs.Table.{Place, reg, num, mark, Form, R, I, Shift, Load, Store, Branch, Jump, System, places, Row, row_named}
-use Rattle.instruction.specs.Operands.{Instruction as Meant, Operands as MeantOperands}
+use Rattle.instruction.specs.Operands.{Instruction as Meant, Operands as MeantOperands, Amount as MeantAmount, exactly, to, Draft as MeantDraft, DraftOperands}
 use Rattle.instruction.specs.declared.instruction.Instruction.{Instruction}
 use Rattle.instruction.specs.declared.instruction.Instruction.TheVariants.{Add, Sub, Mul, Mulh, Divu, Remu, Div, Rem, Addi, And, Or, Xor, Andi, Ori, Xori, Sll, Srl, Sra, Slli, Srli, Srai, Sltu, Sgeu, Slt, Sge, Seq, Sne, Cmov, Cmovz, Cmovnz, Lb, Lbu, Lh, Lhu, Lw, Ld, Sb, Sh, Sw, Sd, Beq, Bne, Blt, Bge, Bltu, Bgeu, Jal, Jalr, Ecall, Ebreak}
 use Rattle.instruction.specs.declared.instruction.Operands.{Operands}
+use Rattle.instruction.specs.declared.instruction.Target.{Target}
+use Rattle.instruction.specs.declared.instruction.Amount.{Amount}
+use Rattle.instruction.specs.declared.instruction.Amount.TheVariants.{Number, Label}
+use Rattle.instruction.specs.declared.instruction.Draft.{Draft}
 use Rattle.instruction.specs.declared.form.Form.{Form as CodeForm}
 use Rattle.instruction.specs.declared.form.Form.TheVariants as F
 use Rattle.instruction.specs.declared.opcode.Mnemonic.{Mnemonic}
@@ -229,6 +233,62 @@ operands_for o =
 -- Operands of the code's are settled by what a form takes of them.
 abbrev pub SettledFor : List Place → Operands → Type 0
 SettledFor ps o = o ≡ operands_for (operands_meant ps o)
+
+-- ---- drafts
+
+-- An amount of the code's, by what a label that it names is spelled.
+abbrev pub amount_meant : (Target → List ℕ) → Amount → MeantAmount
+amount_meant spells (Number w) = exactly (whole_meant w)
+amount_meant spells (Label t) = to (spells t)
+
+-- The part of a source where a label is spelled.
+abbrev pub spelled_in : List ℕ → Target → List ℕ
+spelled_in s t = take t.length (drop t.start s)
+
+-- Whether a label stands for the number.
+abbrev pub names_label : Amount → Bool
+names_label (Number w) = false
+names_label (Label t) = true
+
+-- The amount, where a form has a place for it.
+unfoldable pub amount_for : List Place → MeantAmount → Option MeantAmount
+amount_for [] a = none
+amount_for (num bit width signed ∷ ps) a = some a
+amount_for (reg bit ∷ ps) a = amount_for ps a
+amount_for (mark m ∷ ps) a = amount_for ps a
+
+-- What a form takes of registers and an amount.
+abbrev pub taken_for : (Target → List ℕ) → List Place → List Register → Amount → DraftOperands
+taken_for spells ps rs a = record { registers = registers_for ps (map index_of rs); amount = amount_for ps (amount_meant spells a) }
+
+abbrev pub draft_meant : (Target → List ℕ) → Draft → MeantDraft
+draft_meant spells d =
+    let ps = places (row_of d.mnemonic).form in
+    record { row = row_of d.mnemonic; registers = registers_for ps (map index_of d.registers); amount = amount_for ps (amount_meant spells d.amount) }
+
+-- The code's amount for one, whose label, if it is one, stands at a place; a 0 where there is none.
+abbrev pub amount_back : ℕ → Option MeantAmount → Amount
+amount_back start none = Number no_number_lem
+amount_back start (some (exactly z)) = Number (whole_for z)
+amount_back start (some (to u)) = Label (record { start = start; length = length u })
+
+-- The code's draft for one; R0 where there is no register.
+abbrev pub draft_for : ℕ → MeantDraft → Draft
+draft_for start d =
+    record {
+      mnemonic = mnemonic_for d.row.mnemonic;
+      registers = register_at (get_or d.registers 0 0) ∷ register_at (get_or d.registers 1 0) ∷ register_at (get_or d.registers 2 0) ∷ [];
+      amount = amount_back start d.amount;
+    }
+
+-- Where an amount's label stands; 0 where it is none.
+abbrev pub label_start : Amount → ℕ
+label_start (Number w) = 0
+label_start (Label t) = t.start
+
+-- No part of a draft is free.
+abbrev pub DraftSettled : (Target → List ℕ) → Draft → Type 0
+DraftSettled spells d = d ≡ draft_for (label_start d.amount) (draft_meant spells d)
 
 -- A row of the table with operands of the code's.
 abbrev pub row_meant : Row → Operands → Meant

@@ -1,6 +1,10 @@
 // The fields of a word: where each begins, how many bits it has, and whether it holds numbers below zero. Which form has which is told next to
 // the form's operands (`form::Form::layout`); encoding and decoding take them from there.
-ghost use Rattle.std.specs.Prelude.{◌≡◌, ◌<◌, ◌^◌};
+ghost use Rattle.std.specs.Prelude.{◌≡◌, ◌^◌, ◌<◌, ◌≤◌};
+ghost use Rattle.text_lexical.specs.Promised.{whole_meant};
+ghost use Rattle.instruction.specs.Words.{is_signed};
+
+use text_lexical::number::Whole;
 
 // A field: its lowest bit, its width in bits, and whether it is signed, so that half of its numbers are below zero. It has its lowest bit and not
 // what 1 counts there, since a field is looked up: to shift by its bit is quick, where to divide is not.
@@ -18,6 +22,18 @@ impl Field {
         ensures { result ≡ 2 ^ self.width }
     {
         1 << self.width
+    }
+
+    // Whether a signed field has room for a number: half of its numbers are below zero.
+    pub fn holds(self, number: Whole) -> bool
+        requires { (0 < self.width) × (self.width ≤ 32) }
+        ensures { result ≡ is_signed self.width (whole_meant number) }
+    {
+        let half = 1 << (self.width - 1);
+        if number.is_negative() {
+            return number.magnitude() <= half;
+        }
+        number.magnitude() < half
     }
 }
 

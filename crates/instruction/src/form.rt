@@ -1,6 +1,7 @@
 // A form, described once: which operands it has, which mark follows each, and in which fields of a word they stand. Whoever reads operands goes
 // through the operands from left to right.
 ghost use Rattle.std.specs.Prelude.{◌≡◌};
+ghost use Rattle.instruction.specs.Operands.{takes_label};
 ghost use Rattle.instruction.specs.Promised.{form_meant};
 ghost use Rattle.instruction.specs.Forms.{operand_list, is_number, mark_of, layout_of};
 
@@ -8,7 +9,7 @@ use crate::field::{AMOUNT, Field, HIGH, IMMEDIATE, LOW, OFFSET, OPCODE, THIRD};
 use refusal::refusal::Refusal;
 
 // The forms of instructions.
-#[derive(Clone, Copy)]
+#[derive(Clone, Copy, PartialEq)]
 pub enum Form {
     // `rd, rs1, rs2`
     R,
@@ -97,6 +98,13 @@ impl Form {
         ensures { result.now ≡ operand_list (form_meant self) }
     {
         OPERANDS[self as usize]
+    }
+
+    // Whether a label may stand for the number, which is then the last operand.
+    pub fn takes_label(self) -> bool
+        ensures { result ≡ takes_label (form_meant self) }
+    {
+        matches!(self, Form::Branch | Form::Jump)
     }
 
     pub fn layout(self) -> Layout

@@ -1,6 +1,6 @@
 // The instructions of zkIR v3.4: fifty cases, each with its registers and, where the form has one, its number.
 ghost use Rattle.std.specs.Prelude.{◌≡◌};
-ghost use Rattle.instruction.specs.Promised.{operands_with, row_of, keep, parts_of, instruction_meant, parts_meant};
+ghost use Rattle.instruction.specs.Promised.{names_label, operands_with, row_of, keep, parts_of, instruction_meant, parts_meant};
 
 use crate::opcode::Mnemonic;
 use text_lexical::number::Whole;
@@ -79,6 +79,38 @@ pub struct Operands {
     pub second: Register,
     pub third: Register,
     pub number: Whole,
+}
+
+// A label that an operand names: where its spelling stands in the source, two numbers as a label has them.
+#[derive(Clone, Copy)]
+pub struct Target {
+    pub start: usize,
+    pub length: usize,
+}
+
+// The operand that is an instruction's number, or a label whose distance is to be it.
+#[derive(Clone, Copy)]
+pub enum Amount {
+    Number(Whole),
+    Label(Target),
+}
+
+// What a line has of an instruction: its mnemonic, its registers in operand order, and its number, which only all lines may tell. What
+// its form has no place for is R0 and 0.
+#[derive(Clone, Copy)]
+pub struct Draft {
+    pub mnemonic: Mnemonic,
+    pub registers: [Register; 3],
+    pub amount: Amount,
+}
+
+impl Draft {
+    // Whether a label stands for its number.
+    pub fn names_label(self) -> bool
+        ensures { result ≡ names_label self.amount }
+    {
+        matches!(self.amount, Amount::Label(_))
+    }
 }
 
 impl Operands {

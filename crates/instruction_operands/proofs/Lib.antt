@@ -1,3 +1,3 @@
 pub mod Line
 pub mod Sources
-pub mod Tokens
+pub mod Taking

@@ -1,14 +1,14 @@
 -- The tokens that a line's record keeps, as the code looks at them: the mnemonic's, and those after it.
 use Prim.Native.Nat.{ℕ, zero, suc, ◌+◌, ◌-◌, ◌≤◌, ◌<◌}
-use mathlib.Core.Path.{◌≡◌, refl, sym, ap, ◌∙◌, subst}
+use mathlib.Core.Path.{◌≡◌, refl, sym, ap, ◌∙◌}
 use native.Mathlib.Omega.{arith}
 use native.Mathlib.Numerals.{add-one}
-use mathlib.Core.Bool.{true, false, true≢false}
+use mathlib.Core.Bool.{Bool, true, false, true≢false}
 use Rattle.std.specs.Option.{is_some, MatchOption}
 use mathlib.Core.Option.{none, some}
-use mathlib.Core.List.{List, [], ◌∷◌, map}
-use lib.ListN.{length, take, drop, get_or, length-take, length-map, drop_of_length-le, get_or-map}
-use lib.Seq.{take-nil, drop-cons, get_or-take, get_or-drop}
+use mathlib.Core.List.{List, [], ◌∷◌, ◌++◌, map}
+use lib.ListN.{length, take, drop, get_or, length-take, length-map, length-append, drop_of_length-le, get_or-map}
+use lib.Seq.{take-nil, drop-cons, get_or-take, get_or-drop, get_or-append_seam}
 use lib.Dec.{eqb}
 use borrow.Author.Tests.{eq-eqb, ne_eqb}
 use Rattle.std.specs.Prelude.{Ok, Err, Some, None}
@@ -21,24 +21,28 @@ use Rattle.refusal.specs.declared.refusal.Refusal.{Refusal}
 use Rattle.refusal.specs.declared.refusal.Refusal.TheVariants.{MnemonicExpected, UnknownMnemonic, OperandCount}
 use Rattle.text.specs.Tokens.{Token}
 use Rattle.text.specs.Lines.{Line as MeantLine}
-use Rattle.text.specs.Promised.{kind_meant, firsts, meant, spelling, Kept}
+use Rattle.text.specs.Promised.{kind_meant, filler, firsts, meant, spelling, Kept}
 use Rattle.text.specs.declared.lexer.Kind.{Kind}
-use Rattle.text.specs.declared.lexer.Kind.TheVariants.{Identifier, Register, NoRegister, Number, Negative, Hex, Binary, Directive, Comma, Colon, LParen, RParen}
+use Rattle.text.specs.declared.lexer.Kind.TheVariants.{Identifier, Register, NoRegister, Number as NumberKind, Negative, Hex, Binary, Directive, Comma, Colon, LParen, RParen}
 use Rattle.text.specs.declared.lexer.Token.{Token as KeptToken}
 use Rattle.text.specs.declared.parser.Line.{Line}
 use Rattle.instruction.specs.Table.{Place, Form, R, I, Shift, Load, Store, Branch, Jump, System, Row, places, table, row_named}
-use Rattle.instruction.specs.Operands.{read_identifier, read_operands, made, read_row, read_mnemonic, read_instruction, behind}
-use Rattle.instruction.specs.Promised.{row_of, form_meant, found_meant, operands_meant, SettledFor}
+use Rattle.instruction.specs.Operands.{takes_label, read_identifier, read_operands, made, read_row, read_mnemonic, read_instruction, behind}
+use Rattle.instruction.specs.Promised.{row_of, form_meant, found_meant, spelled_in, taken_for, draft_meant}
 use Rattle.instruction.specs.declared.form.Form.{Form as CodeForm}
 use Rattle.instruction.specs.Forms.{mark_of}
 use Rattle.instruction.specs.declared.form.Mark.{Mark}
 use Rattle.instruction.specs.declared.form.Operand.{Operand}
-use Rattle.instruction.specs.declared.instruction.Operands.{Operands}
+use Rattle.instruction.specs.declared.instruction.Amount.{Amount}
+use Rattle.instruction.specs.declared.instruction.Amount.TheVariants.{Number, Label}
+use Rattle.instruction.specs.declared.instruction.Draft.{Draft}
 use Rattle.instruction.specs.declared.opcode.Mnemonic.{Mnemonic}
 use Rattle.instruction.proofs.Forms.{Counting, counting-none, counting-mark, counting-most, counting-end}
 use Rattle.instruction.proofs.Lookup.{row-by-name}
-use Rattle.instruction_operands.specs.declared.assembler.Parsed.{Parsed}
-use Rattle.instruction_operands.specs.Promised.{Reads, RowIs, ParsedIs}
+use Rattle.instruction_operands.specs.Sources.{LastStands, OperandsTaken}
+use Rattle.instruction_operands.specs.Promised.{left_meant, TokensTook, TokensRefuse, tokens_spell, TokensStand, LastToken, RowIs, ParsedIs}
+use Rattle.instruction_operands.specs.Laws.{left_before}
+use Rattle.instruction_operands.specs.declared.tokens.Tokens.{Tokens}
 
 -- ---- forms
 
@@ -97,11 +101,11 @@ past = record { kind = Identifier; start = 0; length = 0 }
 -- ---- operand tokens
 
 -- As many tokens are looked at as there are places.
-read_take : (ps : List Place) (ts : List Token) → read_operands ps (take (length ps) ts) ≡ read_operands ps ts
+read_take : (label : Bool) (ps : List Place) (ts : List Token) → read_operands label ps (take (length ps) ts) ≡ read_operands label ps ts
 unfolding read_operands
-read_take [] ts = refl
-read_take (p ∷ ps) [] = refl
-read_take (p ∷ ps) (t ∷ ts) = rw (read_take ps ts)
+read_take label [] ts = refl
+read_take label (p ∷ ps) [] = refl
+read_take label (p ∷ ps) (t ∷ ts) = rw (read_take label ps ts)
 
 map-take : {A B : Type 0} (f : A → B) (n : ℕ) (l : List A) → map f (take n l) ≡ take n (map f l)
 map-take f zero l = refl
@@ -116,9 +120,10 @@ drop-take f (suc k) n (suc m) [] e = sym (take-nil n)
 drop-take f (suc k) n (suc m) (a ∷ l) e = drop-take f k n m l (omega arith)
 
 -- What is read at places after the mnemonic is read of all tokens that are kept after it.
-read_kept : (s : List ℕ) (ts : List KeptToken) (at count : ℕ) (ps : List Place) → at < count → count - at - 1 ≡ length ps
-    → read_operands ps (drop (at + 1) (firsts s ts count)) ≡ read_operands ps (map (meant s) (drop (at + 1) ts))
-read_kept s ts at count ps h e = ap (read_operands ps) (drop-take (meant s) (at + 1) (length ps) count ts (omega arith)) ∙ read_take ps (map (meant s) (drop (at + 1) ts))
+read_kept : (s : List ℕ) (ts : List KeptToken) (at count : ℕ) (label : Bool) (ps : List Place) → at < count → count - at - 1 ≡ length ps
+    → read_operands label ps (drop (at + 1) (firsts s ts count)) ≡ read_operands label ps (map (meant s) (drop (at + 1) ts))
+read_kept s ts at count label ps h e =
+    ap (read_operands label ps) (drop-take (meant s) (at + 1) (length ps) count ts (omega arith)) ∙ read_take label ps (map (meant s) (drop (at + 1) ts))
 
 -- ---- a row's operands
 
@@ -129,34 +134,48 @@ row-refused r count ts h = rw (read_row, ne_eqb count (length (places r.form)) h
 
 module _ (m : Mnemonic) (l : Line) (at : ℕ) (form : CodeForm) (f : form_meant form ≡ (row_of m).form) where
   -- There are not as many tokens as the form has.
-  pub row-other : (l.count - at - 1 ≡ length (places (form_meant form)) → ⊥) → RowIs m l at (Err OperandCount)
-  row-other h =
+  pub row-other : (s : List ℕ) → (l.count - at - 1 ≡ length (places (form_meant form)) → ⊥) → RowIs s m l at (Err OperandCount)
+  row-other s h =
       record {
-        means = λ s. row-refused (row_of m) (l.count - at - 1) (drop (at + 1) (firsts s l.tokens l.count)) (λ e. h (e ∙ ap (λ x. length (places x)) (sym f)));
+        means = row-refused (row_of m) (l.count - at - 1) (drop (at + 1) (firsts s l.tokens l.count)) (λ e. h (e ∙ ap (λ x. length (places x)) (sym f)));
         settled = tt;
       }
 
-  module _ (h : at < l.count) (e : l.count - at - 1 ≡ length (places (form_meant form))) where
-    -- There are as many.
-    as-many : (s : List ℕ) → made (row_of m) (read_operands (places (form_meant form)) (map (meant s) (drop (at + 1) l.tokens)))
-        ≡ read_row (row_of m) (l.count - at - 1) (drop (at + 1) (firsts s l.tokens l.count))
+  -- There are as many.
+  module _ (h : at < l.count) (e : l.count - at - 1 ≡ length (places (form_meant form))) (s t : Tokens) (left : s.left.now ≡ drop (at + 1) l.tokens) where
+    as-many : made (row_of m) (read_operands (takes_label (row_of m).form) (places (row_of m).form) (left_meant s))
+        ≡ read_row (row_of m) (l.count - at - 1) (drop (at + 1) (firsts s.source.now l.tokens l.count))
     unfolding read_row
-    as-many s =
-        let c : l.count - at - 1 ≡ length (places (row_of m).form) = e ∙ ap (λ x. length (places x)) f in
-        rw (read_row, eq-eqb (l.count - at - 1) (length (places (row_of m).form)) c)
-        (ap (λ x. made (row_of m) (read_operands (places x) (map (meant s) (drop (at + 1) l.tokens)))) f
-        ∙ ap (made (row_of m)) (sym (read_kept s l.tokens at l.count (places (row_of m).form) h c)))
+    as-many =
+        let r = row_of m in
+        let c : l.count - at - 1 ≡ length (places r.form) = e ∙ ap (λ x. length (places x)) f in
+        rw (read_row, eq-eqb (l.count - at - 1) (length (places r.form)) c)
+        (ap (λ x. made r (read_operands (takes_label r.form) (places r.form) (map (meant s.source.now) x))) left
+        ∙ ap (made r) (sym (read_kept s.source.now l.tokens at l.count (takes_label r.form) (places r.form) h c)))
 
-    pub row-fault : (x : Refusal) → Reads (places (form_meant form)) l.tokens at (Err x) → RowIs m l at (Err x)
-    unfolding made
-    row-fault x r = record { means = λ s. ap (made (row_of m)) (r.means s) ∙ as-many s; settled = tt }
+    -- A label that is the last token that was taken is the last of the line.
+    last-is : (ts : List Token) → TokensTook s ts t → length ts ≡ l.count - at - 1 → (a : Amount) → LastStands TokensTook TokensStand s a t → LastToken l a
+    last-is ts took n (Number w) k = tt
+    last-is ts (_, ks, took, is) n (Label p) (u, pre, (_, ks', took', is'), (k, first, place)) =
+        let own : ks ++ t.left.now ≡ ks' ++ (k ∷ t.left.now) = sym took ∙ took' ∙ ap (λ (x : List KeptToken). ks' ++ x) first in
+        let many : length ks ≡ length ts = sym (length-map ks (meant s.source.now)) ∙ ap length (sym is) in
+        let before : suc (length ks') ≡ length ks = omega (arith, length-append ks t.left.now, length-append ks' (k ∷ t.left.now), ap length own) in
+        let index : at + 1 + length ks' ≡ l.count - 1 = omega (arith, before, many, n, h) in
+        let last : get_or l.tokens (l.count - 1) filler ≡ k
+        = ap (λ i. get_or l.tokens i filler) (sym index) ∙ sym (get_or-drop (at + 1) l.tokens (length ks') filler)
+        ∙ ap (λ (x : List KeptToken). get_or x (length ks') filler) (sym left ∙ took' ∙ ap (λ (x : List KeptToken). ks' ++ x) first) ∙ get_or-append_seam ks' k t.left.now filler in
+        place ∙ (λ i. record { start = (sym last i).start; length = (sym last i).length })
 
-    pub row-made : (o : Operands) → Reads (places (form_meant form)) l.tokens at (Ok o) → RowIs m l at (Ok (record { mnemonic = m; operands = o }))
+    pub row-read : (r : Answer Draft Refusal) → OperandsTaken TokensTook TokensRefuse tokens_spell TokensStand m s r t → RowIs s.source.now m l at r
     unfolding made
-    row-made o r =
+    row-read (Err x) k = record { means = sym (ap (made (row_of m)) k) ∙ as-many; settled = tt }
+    row-read (Ok d) k =
+        let r = row_of m in
+        let own : value (taken_for (spelled_in s.source.now) (places r.form) d.registers d.amount) ≡ read_operands (takes_label r.form) (places r.form) (left_meant s)
+        = sym (k.means (left_meant t)) ∙ ap (read_operands (takes_label r.form) (places r.form)) (sym (left_before s k.tokens t k.took)) in
         record {
-          means = λ s. ap (λ x. made (row_of m) (value (operands_meant (places x) o))) (sym f) ∙ ap (made (row_of m)) (r.means s) ∙ as-many s;
-          settled = subst (λ x. SettledFor (places x) o) f r.settled;
+          means = ap (λ x. value (draft_meant (spelled_in s.source.now) (record { mnemonic = x; registers = d.registers; amount = d.amount }))) k.named ∙ ap (made r) own ∙ as-many;
+          settled = (k.settled, last-is k.tokens k.took (k.count ∙ sym (e ∙ ap (λ x. length (places x)) f)) d.amount k.stands);
         }
 
 -- ---- the mnemonic's token
@@ -202,7 +221,7 @@ module _ (s : List ℕ) (l : Line) (at : ℕ) (k : Kept s l) (few : at ≤ 2) wh
         no-identifier Identifier f = absurd (f refl)
         no-identifier (Register r) f = refl
         no-identifier NoRegister f = refl
-        no-identifier (Number n) f = refl
+        no-identifier (NumberKind n) f = refl
         no-identifier (Negative n) f = refl
         no-identifier (Hex n) f = refl
         no-identifier (Binary n) f = refl
@@ -226,9 +245,9 @@ module _ (s : List ℕ) (l : Line) (at : ℕ) (k : Kept s l) (few : at ≤ 2) wh
       unfolding read_mnemonic read_identifier
       no-mnemonic e = record { means = (let q : none ≡ row_named (map lower word) = rw e at named in rw (i, read_mnemonic, ← q)) ∙ a-token; settled = tt }
 
-      pub row-is : (m : Mnemonic) → o ≡ Some m → (r : Answer Parsed Refusal) → RowIs m l at r → ParsedIs s l at r
+      pub row-is : (m : Mnemonic) → o ≡ Some m → (r : Answer Draft Refusal) → RowIs s m l at r → ParsedIs s l at r
       unfolding read_mnemonic read_identifier
-      row-is m e r p = record { means = p.means s ∙ (let q : some (row_of m) ≡ row_named (map lower word) = rw e at named in rw (i, read_mnemonic, ← q)) ∙ a-token; settled = p.settled }
+      row-is m e r p = record { means = p.means ∙ (let q : some (row_of m) ≡ row_named (map lower word) = rw e at named in rw (i, read_mnemonic, ← q)) ∙ a-token; settled = p.settled }
 
 -- ---- a line without a label
 

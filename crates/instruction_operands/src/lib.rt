@@ -3,3 +3,4 @@
 
 pub mod assembler;
 pub mod source;
+mod tokens;

@@ -1,10 +1,10 @@
--- The numbers of the refusals: document 01 counts them from 1 to 32.
+-- The numbers of the refusals: document 01 counts them from 1 to 32, and document 02 on from there.
 use Rattle.std.specs.Prelude.{ℕ, List, [], ◌∷◌, get_or, ◌-◌, Ok, Err}
 use Rattle.std.specs.Prelude.{Result as Answer}
 use Rattle.std.proofs.Math.Option.{Option, none, some}
 use Rattle.text_lexical.specs.Bytes.{Result, value, refused}
 use Rattle.refusal.specs.declared.refusal.Refusal.{Refusal}
-use Rattle.refusal.specs.declared.refusal.Refusal.TheVariants.{SourceTooLong, NotAscii, BadToken, DuplicateLabel, TableFull, ConfigTokens, KeyExpected, NumberExpected, UnknownKey, LimbBitsRange, LimbBitsOdd, DataLimbsRange, AddrLimbsRange, MnemonicExpected, UnknownMnemonic, OperandCount, RegisterExpected, NoSuchRegister, CommaExpected, OpeningExpected, ClosingExpected, TooManyWords, ImageTooShort, HeaderCut, WrongMagic, WrongVersion, CodeSize, ImageLength, UnusualHeader, UnknownOpcode, UnusedBit, TextTooShort}
+use Rattle.refusal.specs.declared.refusal.Refusal.TheVariants.{SourceTooLong, NotAscii, BadToken, DuplicateLabel, TableFull, ConfigTokens, KeyExpected, NumberExpected, UnknownKey, LimbBitsRange, LimbBitsOdd, DataLimbsRange, AddrLimbsRange, MnemonicExpected, UnknownMnemonic, OperandCount, RegisterExpected, NoSuchRegister, CommaExpected, OpeningExpected, ClosingExpected, TooManyWords, ImageTooShort, HeaderCut, WrongMagic, WrongVersion, CodeSize, ImageLength, UnusualHeader, UnknownOpcode, UnusedBit, TextTooShort, NoSuchLabel, LabelTooFar}
 
 abbrev pub number_of : Refusal → ℕ
 number_of SourceTooLong = 1
@@ -39,8 +39,10 @@ number_of UnusualHeader = 29
 number_of UnknownOpcode = 30
 number_of UnusedBit = 31
 number_of TextTooShort = 32
+number_of NoSuchLabel = 33
+number_of LabelTooFar = 34
 
--- The refusals in the order of their numbers, and the one with a number from 1 to 32.
+-- The refusals in the order of their numbers, and the one with a number.
 unfoldable pub refusals : List Refusal
 refusals =
     SourceTooLong ∷ NotAscii ∷ BadToken ∷ DuplicateLabel ∷ TableFull
@@ -49,10 +51,10 @@ refusals =
     ∷ OperandCount ∷ RegisterExpected ∷ NoSuchRegister ∷ CommaExpected ∷ OpeningExpected
     ∷ ClosingExpected ∷ TooManyWords ∷ ImageTooShort ∷ HeaderCut ∷ WrongMagic
     ∷ WrongVersion ∷ CodeSize ∷ ImageLength ∷ UnusualHeader ∷ UnknownOpcode
-    ∷ UnusedBit ∷ TextTooShort ∷ []
+    ∷ UnusedBit ∷ TextTooShort ∷ NoSuchLabel ∷ LabelTooFar ∷ []
 
 abbrev pub refusal_at : ℕ → Refusal
-refusal_at n = get_or refusals (n - 1) TextTooShort
+refusal_at n = get_or refusals (n - 1) LabelTooFar
 
 -- An answer that may be a refusal, by what its value means.
 abbrev pub answered : {A B : Type 0} → (A → B) → Answer A Refusal → Result B

@@ -1,4 +1,4 @@
-// The thirty-two refusals of document 01, each by a name of its own.
+// The refusals, each by a name of its own: document 01's thirty-two, and those of document 02.
 #![tactic(auto)]
 
 pub mod refusal;

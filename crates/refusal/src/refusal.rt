@@ -37,6 +37,8 @@ pub enum Refusal {
     UnknownOpcode,
     UnusedBit,
     TextTooShort,
+    NoSuchLabel,
+    LabelTooFar,
 }
 
 impl From<Refusal> for u8 {

@@ -2,7 +2,7 @@
 ghost use Rattle.std.specs.Prelude.{◌≡◌, ◌≤◌, length, take};
 ghost use Rattle.test_words.specs.Rooms.{AnyText, Went, room_laws};
 
-use instruction::instruction::Instruction;
+use instruction::instruction::{Amount, Draft, Instruction, Operands};
 use instruction_display::display::put_instruction;
 use instruction_operands::assembler::parse_instruction;
 use itoa::Buffer;
@@ -10,6 +10,7 @@ use refusal::refusal::Refusal;
 use test_replay::report::Report;
 use text::parser::tokenize;
 use text_lexical::bytes::{Margin, run_end};
+use text_lexical::number::Whole;
 use text_writer::sink::Sink;
 
 // The text of an instruction in the room: how long it was said to be, and where it ends.
@@ -19,15 +20,23 @@ pub struct Text {
     pub end: usize,
 }
 
-// The instruction of the line that begins at `from`, its mnemonic the token at `place`, which the list has as a digit: a type of three places
-// would be made here alone, and unmade at the call.
-pub(crate) fn read(text: &[u8], from: usize, place: usize) -> Result<Instruction, Refusal>
+// What the line that begins at `from` has of an instruction, its mnemonic the token at `place`, which the list has as a digit: a type of three
+// places would be made here alone, and unmade at the call.
+pub(crate) fn read(text: &[u8], from: usize, place: usize) -> Result<Draft, Refusal>
     requires in_text { from ≤ length text.now }
     requires place_in_range { place ≤ 2 }
 {
     let line = tokenize(text, run_end::<Margin>(text, from))?;
-    let parsed = parse_instruction(text, &line, place)?;
-    Ok(Instruction::from_parts(parsed.mnemonic, parsed.operands))
+    parse_instruction(text, &line, place)
+}
+
+// The instruction of a line by itself: the distance to a label, which other lines tell, is 0.
+pub(crate) fn instruction_of(draft: Draft) -> Instruction {
+    let number = match draft.amount {
+        Amount::Number(number) => number,
+        Amount::Label(_) => Whole::default(),
+    };
+    Instruction::from_parts(draft.mnemonic, Operands::new(draft.registers, number))
 }
 
 // Takes a text into a room as far as the room goes, and counts all of it. So nothing has to be known of a text before it is put.

@@ -4,9 +4,27 @@ ghost use Rattle.refusal.specs.Refusals.{number_of};
 ghost use Rattle.test_words.specs.Records.{room_byte, holds_text, same_text, refusal_at};
 
 use crate::calls::Text;
+use instruction::instruction::{Amount, Draft};
 use refusal::refusal::Refusal;
 use test_replay::cursor::Cursor;
 use test_replay::tally::Outcome;
+
+// Where the list goes on after the label that an instruction names, if it names one, and the list has where that stands, counted from the
+// line's first byte.
+pub(crate) fn after_label(draft: Draft, start: usize, place: Cursor) -> Option<Cursor> {
+    let Amount::Label(label) = draft.amount else {
+        return Some(place);
+    };
+    let mut next = place.after(2);
+    let from = next.number();
+    let length = next.number();
+    let is_there = start.wrapping_add(from as usize) == label.start
+        && length == label.length as u64;
+    if !place.has_tag(b'n') || !is_there {
+        return None;
+    }
+    Some(next)
+}
 
 // Where the list goes on after a line with a text.
 pub(crate) fn after_text(place: Cursor, text: Text) -> Cursor {

@@ -12,7 +12,7 @@ mod list;
 use instruction::instruction::Instruction;
 use instruction_codec::encoder::decode;
 use instruction_encoder::encoder::encode;
-use list::{after_text, has_text, refusal};
+use list::{after_label, after_text, has_text, refusal};
 use std::io;
 use std::io::Write;
 use test_replay::cursor::Cursor;
@@ -29,7 +29,7 @@ fn reads(text: &[u8], word: u32) -> bool {
     }
     match calls::read(text, 8, 0) {
         Err(_) => false,
-        Ok(instruction) => encode(instruction) == word,
+        Ok(draft) => !draft.names_label() && encode(calls::instruction_of(draft)) == word,
     }
 }
 
@@ -70,7 +70,7 @@ fn word_outcome(place: Cursor) -> Outcome {
     }
 }
 
-// The instruction of a line: its text with the number as it stands there, its word, and all that holds of that word.
+// The instruction of a line: its text with the number as it stands there, or 0 for a label, its word, and all that holds of that word.
 fn instruction_outcome(instruction: Instruction, place: Cursor) -> Outcome {
     let mut room = [b'$'; 96];
     let text = calls::write(instruction, &mut room);
@@ -100,7 +100,10 @@ fn line_outcome(place: Cursor, room: &mut [u8; 512]) -> Outcome {
     }
     match calls::read(room, piece.start, mnemonic as usize) {
         Err(met) => refusal(met, after),
-        Ok(instruction) => instruction_outcome(instruction, after),
+        Ok(draft) => match after_label(draft, piece.start, after) {
+            None => Outcome::Differs,
+            Some(place) => instruction_outcome(calls::instruction_of(draft), place),
+        },
     }
 }
 

@@ -16,7 +16,7 @@ use Rattle.text_lexical.proofs.Tests.{by-test, not-true, no_both, or_elim, both,
 use Rattle.text_lexical.proofs.Strings.{every-head, every-tail, every-cons, every-mono, every_take, every-run, take-run, run-le, past-run, run-stop, run_past}
 use Rattle.text.specs.Tokens.{is_identifier, is_number, is_prefixed, is_directive, is_mark, Class, Register, Identifier, Number, Hex, Binary, Directive, Mark, is_in, classes, class_of, Match, longest, Token, Sized, sized, matched, front, infront, tokens, token_of}
 use Rattle.text.specs.Lines.{kept_byte, trim_end, trim, cut, content, indent}
-use Rattle.text.specs.Places.{rest_at, left_at, end_at}
+use Rattle.text.specs.Places.{rest_at, left_at, end_at, Uncut}
 use Rattle.text.proofs.Scanning.{longest-down, register-identifier, start-from, digit-from}
 use Rattle.text.proofs.Tokens.{tokens-nil, tokens-blank, tokens-front, tokens-bad}
 
@@ -443,6 +443,31 @@ found-solid names ok s m n h =
   where
     solid-take : (n : ℕ) (s : List ℕ) → n ≤ run solid s → every solid (take n s) ≡ true
     solid-take n s q = rw (sym (take-take n (run solid s) s q) ∙ ap (take n) (take-run solid s)) (every_take solid n (before solid s) (every-run solid s))
+
+-- ---- where no comment begins
+
+pub run-held : (p : ℕ → Bool) (s : List ℕ) (i : ℕ) → i < run p s → p (get_or s i 0) ≡ true
+unfolding run before
+run-held p [] i h = absurd (omega arith)
+run-held p (b ∷ s) zero h = by-test (p b) (λ e. e) (λ e. absurd (omega (arith, rw (before, e) at h)))
+run-held p (b ∷ s) (suc i) h = by-test (p b) (λ e. run-held p s i (omega (arith, rw (before, e) at h))) (λ e. absurd (omega (arith, rw (before, e) at h)))
+
+-- Within a run of bytes of which `#` is none,
+pub run-uncut : (p : ℕ → Bool) → p 35 ≡ false → (s : List ℕ) (at : ℕ) → Uncut s at (at + run p (drop at s))
+run-uncut p f s at i l h e =
+    let n : at + (i - at) ≡ i = omega arith in
+    let q : get_or (drop at s) (i - at) 0 ≡ 35 = get_or-drop at s (i - at) 0 ∙ ap (λ (x : ℕ). get_or s x 0) n ∙ e in
+    true≢false (sym (run-held p (drop at s) (i - at) (omega arith)) ∙ ap p q ∙ f)
+
+-- so also within a token,
+pub found-uncut : (names : List Name) → each (λ n. is_identifier n.spelling) names ≡ true → (s : List ℕ) (at : ℕ) (m : Token) (n : ℕ)
+    → front names (drop at s) ≡ some (record { token = m; size = n }) → Uncut s at (at + n)
+unfolding solid edge between
+found-uncut names ok s at m n h i l k e = let (p, q) = front-within names ok (drop at s) m n h in run-uncut solid refl s at i l (omega arith) e
+
+-- and on from there, where none begins from there on.
+pub uncut_on : (s : List ℕ) (from at to : ℕ) → Uncut s from at → Uncut s at to → Uncut s from to
+uncut_on s from at to f g i l h e = split i at (λ m. f i l m e) (λ m. g i m h e)
 
 -- The margin in front, and what stands behind it.
 margin-split : (t : List ℕ) → before margin t ++ drop (run margin t) t ≡ t

@@ -21,14 +21,15 @@ use Rattle.text.specs.Tokens.{Token as Meant}
 use Rattle.text.specs.Lines.{indent, kept, line_of, record_of, read_line}
 use Rattle.text.specs.Lines.{Line as Record}
 use Rattle.text.specs.NameSets.{Naming}
-use Rattle.text.specs.Places.{rest_at, left_at, end_at, StartsAt}
+use Rattle.text.specs.Places.{rest_at, left_at, end_at, Uncut, StartsAt}
 use Rattle.text.specs.Promised.{meant, past, scan_at, infront_of, followed, tokens_from, all_from, filler, first_kept, line_with, record_at, firsts}
 use Rattle.text.specs.declared.lexer.Token.{Token}
 use Rattle.text.specs.declared.lexer.Scan.{Scan}
 use Rattle.text.specs.declared.lexer.Scan.TheVariants.{Found, Bad, End}
 use Rattle.text.specs.declared.parser.Line.{Line}
-use Rattle.text.proofs.Left.{blank-margin, left-byte, none_read, content-at, indent-at}
-use Rattle.text.proofs.Stepping.{Leads, Stepped, stepped}
+use Rattle.text.proofs.Left.{blank-margin, blank-inside, left-byte, blanks_at, none_read, uncut_on, content-at, indent-at}
+use Rattle.text.proofs.Endings.{run-within}
+use Rattle.text.proofs.Stepping.{Leads, Stepped, stepped, uncut}
 
 -- ---- the tokens of a line
 
@@ -213,6 +214,56 @@ module _ (names : List Name) where
       first [] g h = absurd (omega arith)
       first (t ∷ us) g h = g
 
+  -- ---- where tokens stand
+
+  -- A token stands at a place of a line: from there on the line reads as it and those after it.
+  record Stands (s : List ℕ) (from : ℕ) (t : Token) (ts : List Token) : Type 0 where
+    behind : from ≤ t.start
+    means : tokens names (left_at s t.start) ≡ some (meant s t ∷ map (meant s) ts)
+    uncut : Uncut s from t.start
+    ends : end_at s t.start ≡ end_at s from
+
+  AllStand : List ℕ → ℕ → List Token → Type 0
+  AllStand s from [] = Unit {0}
+  AllStand s from (t ∷ ts) = Stands s from t ts × AllStand s from ts
+
+  AllStandIf : List ℕ → ℕ → Option (List Token) → Type 0
+  AllStandIf s from none = Unit {0}
+  AllStandIf s from (some ts) = AllStand s from ts
+
+  -- from a place before on the line too
+  stand-before : (s : List ℕ) (from at : ℕ) (ts : List Token) → from ≤ at → Uncut s from at → end_at s at ≡ end_at s from → AllStand s at ts → AllStand s from ts
+  unfolding AllStand
+  stand-before s from at [] l u e h = tt
+  stand-before s from at (t ∷ ts) l u e (p, h) = (
+    record { behind = omega (arith, p.behind); means = p.means; uncut = uncut_on s from at t.start u p.uncut; ends = p.ends ∙ e },
+    stand-before s from at ts l u e h,
+  )
+
+  -- The last one alone is what the line reads as from its place on.
+  pub record StandsLast (s : List ℕ) (from : ℕ) (t : Token) : Type 0 where
+    pub behind : from ≤ t.start
+    pub means : tokens names (left_at s t.start) ≡ some (meant s t ∷ [])
+    pub uncut : Uncut s from t.start
+    pub ends : end_at s t.start ≡ end_at s from
+
+  last-stands : (s : List ℕ) (from : ℕ) (ts : List Token) → 0 < length ts → AllStand s from ts → StandsLast s from (get_or ts (length ts - 1) filler)
+  unfolding AllStand
+  last-stands s from [] l h = absurd (omega arith)
+  last-stands s from (t ∷ []) l (p, h) = record { behind = p.behind; means = p.means; uncut = p.uncut; ends = p.ends }
+  last-stands s from (t ∷ u ∷ ts) l (p, h) =
+      let e : suc (suc (length ts)) - 1 ≡ suc (suc (length ts) - 1) = omega arith in rw e (last-stands s from (u ∷ ts) (omega arith) h)
+
+  -- The last token of a record that keeps all of them.
+  abbrev LastStands : List ℕ → ℕ → Answer Line Refusal → Type 0
+  LastStands s from (Ok l) = 0 < l.count → l.count ≤ kept → StandsLast s from (get_or l.tokens (l.count - 1) filler)
+  LastStands s from (Err e) = Unit {0}
+
+  last-with : (s : List ℕ) (from : ℕ) (o : Option (List Token)) → AllStandIf s from o → LastStands s from (line_with s from o)
+  unfolding AllStandIf
+  last-with s from none h = tt
+  last-with s from (some ts) h = λ l k. rw (kept_at ts (length ts - 1) (omega arith) (omega arith)) (last-stands s from ts l h)
+
   -- ---- the loop
 
   -- The state of the loop, after `count` tokens, at the place `at`.
@@ -283,6 +334,32 @@ module _ (names : List Name) where
         go Bad l = tt
         go (End stop) l = tt
 
+    tokens-stand : (n : ℕ) (s : List ℕ) (at : ℕ) → length s < n + at → AllStandIf s at (tokens_from names n s at)
+    unfolding tokens_from AllStandIf AllStand meant_all
+    tokens-stand zero s at h = tt
+    tokens-stand (suc n) s at h =
+        go (scan_at names s at) refl (stepped names ok s at (scan_at names s at) refl).leads (tokens-from (suc n) s at h) (λ next l. tokens-stand n s next (omega arith))
+      where
+        infront-stands : (t : Token) (next : ℕ) (o : Option (List Token)) → Found t next ≡ scan_at names s at → Leads s at (Found t next) → tokens names (left_at s at) ≡ meant_all s (infront_of t o)
+            → AllStandIf s next o → AllStandIf s at (infront_of t o)
+        infront-stands t next none q l e f = tt
+        infront-stands t next (some ts) q l e f =
+            let (b, z, p, m, i, k) = l in (
+              record {
+                behind = omega (arith, b);
+                means = ap (λ (x : ℕ). tokens names (left_at s x)) b ∙ sym (blanks_at names s at) ∙ e;
+                uncut = λ c m n. uncut names ok s at t next q c m (omega (arith, b));
+                ends = ap (end_at s) b ∙ (run-within blank blank-inside s at (past s at) (omega arith) refl).2;
+              },
+              stand-before s at next ts (omega arith) (uncut names ok s at t next q) k f,
+            )
+
+        go : (r : Scan) → r ≡ scan_at names s at → Leads s at r → tokens names (left_at s at) ≡ meant_all s (followed r (tokens_from names n s))
+            → ((next : ℕ) → at < next → AllStandIf s next (tokens_from names n s next)) → AllStandIf s at (followed r (tokens_from names n s))
+        go (Found t next) q l e f = infront-stands t next (tokens_from names n s next) q l e (f next l.3)
+        go Bad q l e f = tt
+        go (End stop) q l e f = tt
+
     -- The record of the line from a place on says all of it.
     pub line_read_lem : (s : List ℕ) (from : ℕ) (r : Answer Line Refusal) → r ≡ record_at names s from → LineRead s from r
     unfolding read_line record_at
@@ -291,6 +368,17 @@ module _ (names : List Name) where
         let p : past s at ≡ at = omega (arith, no_blank s from at refl) in
         rw e (line-with s from (all_from names s at) (tokens-parts (suc (length s)) s at) (rw p at (first-at (suc (length s)) s at))
         (ap record_of (ap (tokens names) (content-at s from) ∙ tokens-from (suc (length s)) s at (omega arith))))
+
+    -- Where the last token stands of a line whose content starts at a place.
+    pub last_token : {s : List ℕ} {from : ℕ} → StartsAt s from → {l : Line} → Ok l ≡ record_at names s from → 0 < l.count → l.count ≤ kept
+        → StandsLast s from (get_or l.tokens (l.count - 1) filler)
+    unfolding record_at
+    last_token {s} {from} h {l} e = go (Ok l) e
+      where
+        go : (r : Answer Line Refusal) → r ≡ record_at names s from → LastStands s from r
+        go r q =
+            let b : begin s from ≡ from = omega (arith, indent-at s from, h.no_indent) in
+            rw q (rw b (last-with s from (all_from names s from) (tokens-stand (suc (length s)) s from (omega arith))))
 
     module _ (s : List ℕ) (from : ℕ) (ts : List Token) (n at : ℕ) (r : Reading s from ts n at) where
       -- what is found next, and what is then left

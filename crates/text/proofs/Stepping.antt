@@ -16,14 +16,14 @@ use Rattle.text_lexical.proofs.Tests.{by-test}
 use Rattle.text_lexical.proofs.Strings.{run-over, run-no, run-stop}
 use Rattle.text.specs.Tokens.{Token as Meant, Sized, longest, matched, front, infront, tokens}
 use Rattle.text.specs.NameSets.{Naming}
-use Rattle.text.specs.Places.{left_at, end_at}
+use Rattle.text.specs.Places.{left_at, end_at, Uncut}
 use Rattle.text.specs.Promised.{kind_for, meant, found_at, token_at, stands_at, past, scan_at, number_start, mark_kind}
 use Rattle.text.specs.declared.lexer.Kind.{Kind}
 use Rattle.text.specs.declared.lexer.Kind.TheVariants.{Number, Negative}
 use Rattle.text.specs.declared.lexer.Token.{Token}
 use Rattle.text.specs.declared.lexer.Scan.{Scan}
 use Rattle.text.specs.declared.lexer.Scan.TheVariants.{Found, Bad, End}
-use Rattle.text.proofs.Left.{solid, digit-solid, high-solid, mark-solid, solid-plain, blank-inside, blanks_at, front_at, left-byte, solid-left, found-at, found-solid, nothing_left, none_read, left-read-bad, end_on}
+use Rattle.text.proofs.Left.{solid, digit-solid, high-solid, mark-solid, solid-plain, blank-inside, blanks_at, front_at, left-byte, solid-left, found-at, found-solid, nothing_left, none_read, left-read-bad, end_on, run-uncut, found-uncut, uncut_on}
 use Rattle.text.proofs.Endings.{run-within}
 use Rattle.text.proofs.Meanings.{front-means, kind-sign}
 use Rattle.text.proofs.Marks.{marked}
@@ -51,6 +51,11 @@ abbrev pub Leads : List ℕ → ℕ → Scan → Type 0
 Leads s from (Found t next) = (t.start ≡ past s from) × (t.start + t.length ≡ next) × (0 < t.length) × (from < next) × (next ≤ length s) × (end_at s next ≡ end_at s from)
 Leads s from Bad = Unit {0}
 Leads s from (End e) = from ≤ length s → e ≡ end_at s from
+
+abbrev UncutIf : List ℕ → ℕ → Scan → Type 0
+UncutIf s from (Found t next) = Uncut s from next
+UncutIf s from Bad = Unit {0}
+UncutIf s from (End e) = Unit {0}
 
 Signs : List ℕ → Scan → Type 0
 Signs s (Found t next) = (n : ℕ) → (t.kind ≡ Negative n → get_or s t.start 0 ≡ 45) × (t.kind ≡ Number n → get_or s t.start 0 ≡ 45 → ⊥)
@@ -191,6 +196,20 @@ module _ (names : List Name) where
 
     pub stepped : (s : List ℕ) (from : ℕ) (r : Scan) → r ≡ scan_at names s from → Stepped s from r
     stepped s from r e = rw e (record { means = means s from (scan_at names s from) (finds s from); leads = leads s from (scan_at names s from) (finds s from) })
+
+    -- No comment begins before the token that is found, nor within it.
+    blanks-uncut : (s : List ℕ) (from : ℕ) → Uncut s from (past s from)
+    unfolding blank
+    blanks-uncut s from = run-uncut blank refl s from
+
+    uncuts : (s : List ℕ) (from : ℕ) (r : Scan) → Finds s from r → UncutIf s from r
+    uncuts s from _ (a-token t e) =
+        let at = past s from in uncut_on s from at (at + t.size) (blanks-uncut s from) (found-uncut names ok.identifiers s at t.token t.size e)
+    uncuts s from _ (no-token e n) = tt
+    uncuts s from _ (the_end e) = tt
+
+    pub uncut : (s : List ℕ) (from : ℕ) (t : Token) (next : ℕ) → Found t next ≡ scan_at names s from → Uncut s from next
+    uncut s from t next e = rw (← e) at (uncuts s from (scan_at names s from) (finds s from))
 
     -- ---- the sign of a number
 

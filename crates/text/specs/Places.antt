@@ -1,5 +1,5 @@
 -- A line where it stands in a text, as the code reads it: from a place on, up to byte 10 or the text's end.
-use Rattle.std.specs.Prelude.{ℕ, ◌+◌, ◌≤◌, ◌≡◌, List, length, drop}
+use Rattle.std.specs.Prelude.{ℕ, ◌+◌, ◌≤◌, ◌<◌, ◌≡◌, List, length, drop, get_or}
 use Rattle.text_lexical.specs.Bytes.{inside, before}
 use Rattle.text.specs.Lines.{trim_end, cut, indent}
 
@@ -14,6 +14,10 @@ left_at s at = trim_end (cut (rest_at s at))
 -- Where the line ends.
 unfoldable pub end_at : List ℕ → ℕ → ℕ
 end_at s at = at + length (rest_at s at)
+
+-- No comment begins from one place up to another.
+abbrev pub Uncut : List ℕ → ℕ → ℕ → Type 0
+Uncut s from to = (i : ℕ) → from ≤ i → i < to → get_or s i 0 ≡ 35 → ⊥
 
 -- The content of a line starts at a place: no margin stands there.
 pub record StartsAt (s : List ℕ) (at : ℕ) : Type 0 where

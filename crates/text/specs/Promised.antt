@@ -158,6 +158,30 @@ number_of (End e) = None
 unfoldable pub number_at : List Name → List ℕ → ℕ → Maybe NumberAt
 number_at names s at = number_of (token_at names s at)
 
+-- The place after a token that is found, if it is an Identifier.
+abbrev pub after_kind : Kind → ℕ → Maybe ℕ
+after_kind Identifier next = Some next
+after_kind (RegisterKind r) next = None
+after_kind NoRegister next = None
+after_kind (Number n) next = None
+after_kind (Negative n) next = None
+after_kind (Hex n) next = None
+after_kind (Binary n) next = None
+after_kind Directive next = None
+after_kind Comma next = None
+after_kind Colon next = None
+after_kind LParen next = None
+after_kind RParen next = None
+
+abbrev pub after_identifier : Scan → Maybe ℕ
+after_identifier (Found t next) = after_kind t.kind next
+after_identifier Bad = None
+after_identifier (End e) = None
+
+-- Where the Identifier that stands at a place ends, by a set of names.
+unfoldable pub identifier_end : List Name → List ℕ → ℕ → Maybe ℕ
+identifier_end names s at = after_identifier (token_at names s at)
+
 -- A number's first byte: a digit or `-`.
 unfoldable pub number_start : ℕ → Bool
 number_start b = digit b || eqb b 45

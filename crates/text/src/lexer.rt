@@ -63,7 +63,7 @@ fn found(kind: Kind, at: usize, end: usize) -> Scan
 }
 
 // A word: a Register or an Identifier.
-fn word(text: &[u8], at: usize) -> Scan
+pub(crate) fn word(text: &[u8], at: usize) -> Scan
     requires in_text { at < length text.now }
     requires name_starts { name_start (get_or text.now at 0) ≡ true }
     ensures { result ≡ token_at present text.now at }

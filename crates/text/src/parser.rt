@@ -2,7 +2,7 @@
 ghost use Rattle.std.specs.Prelude.{◌≡◌, ◌≤◌, length};
 ghost use Rattle.text_lexical.specs.Names.{present};
 ghost use Rattle.text.specs.Places.{StartsAt};
-ghost use Rattle.text.specs.Promised.{extracted, number_at, record_at};
+ghost use Rattle.text.specs.Promised.{extracted, number_at, identifier_end, record_at};
 
 use crate::lexer::{Kind, Scan, Token};
 use crate::reader::Reader;
@@ -48,6 +48,23 @@ pub fn number_at(text: &[u8], at: usize) -> Option<NumberAt>
         return None;
     };
     Some(NumberAt { number, end: next })
+}
+
+// Where the Identifier that stands at a place ends: none where none stands there.
+pub fn identifier_end(text: &[u8], at: usize) -> Option<usize>
+    requires { at ≤ length text.now }
+    ensures { result ≡ identifier_end present text.now at }
+{
+    if text.len() <= at || !text_lexical::bytes::is_name_start(text[at]) {
+        return None;
+    }
+    let Scan::Found { token, next } = crate::lexer::word(text, at) else {
+        return None;
+    };
+    if token.kind == Kind::Identifier {
+        return Some(next);
+    }
+    None
 }
 
 // How many tokens of a line its record keeps.

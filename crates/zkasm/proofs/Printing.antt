@@ -14,7 +14,7 @@ use Rattle.text_lexical.specs.Names.{present}
 use Rattle.text_lexical.proofs.Numbers.{decimal-length}
 use Rattle.text.specs.Lines.{lines}
 use Rattle.image.specs.Settings.{Settings}
-use Rattle.image.specs.Assembling.{Walk, finished, stopped, Assembled, accepted, rejected, start, walk, most_bytes, refusing, read_to, reading, assembling}
+use Rattle.image.specs.Assembling.{State, reads, Walk, finished, stopped, Assembled, accepted, rejected, start, walk, Fault, fault_in, most_bytes, refusing, line_refused, read_to, reading, assembling}
 use Rattle.image.specs.Listing.{text_of, written, listing}
 use Rattle.image.specs.Meaning.{instructions_of, image_of}
 use Rattle.image.specs.Lent.{over, assembled, refusal, answer_of, image_after, listed, unlisted, list_answer_of, text_after}
@@ -76,16 +76,20 @@ Unneeded (accepted st) = Unit {0}
 Unneeded (rejected r) = r.needed ≡ none
 
 reading-unneeded : (s : List ℕ) (room : ℕ) → Unneeded (reading present s room)
-unfolding reading refusing read_to
+unfolding reading refusing line_refused read_to
 reading-unneeded s room = go (leb (length s) most_bytes) (every ascii s) (walk present room 1 0 start (lines s))
   where
+    by-fault : (st : State) (o : Option Fault) → Unneeded (elim o [ none ↦ accepted st | some f ↦ line_refused f st.labels ])
+    by-fault st none = tt
+    by-fault st (some f) = refl
+
     go : (v u : Bool) (w : Walk) → Unneeded (elim v [
       | false ↦ refusing 1 0 0 [] none
-      | true ↦ elim u [ false ↦ refusing 2 0 (length (lines (before ascii s))) [] none | true ↦ read_to w ]
+      | true ↦ elim u [ false ↦ refusing 2 0 (length (lines (before ascii s))) [] none | true ↦ read_to (reads present s) w ]
     ])
     go false u w = refl
     go true false w = refl
-    go true true (finished st) = tt
+    go true true (finished st) = by-fault st (fault_in (reads present s))
     go true true (stopped n line st) = refl
 
 pub output_long : (s : List ℕ) → most_input < length s → program_output s ≡ refusal_text 1 0
@@ -134,8 +138,8 @@ module _ (s : List ℕ) (size : ℕ) (short : length s ≤ most_input) (room : i
     where
       go : (a : Assembled) → program_output s ≡ output_of s a → MeansIf present s a → assembled words labels setup ≡ answer_of a → Listable s words a
       go (accepted st) o m e =
-          let n : words ≡ length st.instructions = cc in
-          record { output = o; count = ap length (sym m.instructions) ∙ sym n; holds = λ old. refl }
+          let n : words ≡ st.words = cc in
+          record { output = o; count = sym m.words ∙ sym n; holds = λ old. refl }
       go (rejected r) o m e = let z : ◌≡◌ {A = ℕ} 0 1 = cc in absurd (omega arith)
 
 -- The bytes of an image, at the front of the buffer.

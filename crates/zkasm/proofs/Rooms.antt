@@ -4,8 +4,8 @@ use Prim.Native.Nat.{ℕ, suc, ◌+◌, ◌*◌, ◌≤◌}
 use native.Mathlib.Omega.{arith}
 use mathlib.Core.Bool.{Bool, true, false}
 use mathlib.Core.Option.{none}
-use mathlib.Core.List.{List, [], ◌∷◌, map, flat_map}
-use lib.ListN.{length, length-append, length-map}
+use mathlib.Core.List.{List, [], ◌∷◌, map}
+use lib.ListN.{length, length-map}
 use lib.Dec.{eqb}
 use borrow.Author.Tests.{le-leb}
 use Rattle.text_lexical.specs.Names.{Name, present}
@@ -13,15 +13,15 @@ use Rattle.text.specs.Lines.{extended, lines, read_line}
 use Rattle.instruction.specs.Words.{word_of}
 use Rattle.image.specs.Settings.{begin}
 use Rattle.image.specs.Program.{header_size, image_length}
-use Rattle.image.specs.Assembling.{Effect, nothing, sets, codes, faulty, Context, read_on, context_after, reads_from, reads, Assembled, accepted, rejected, reading, fitted, assembling}
+use Rattle.image.specs.Assembling.{Effect, nothing, sets, codes, faulty, Context, read_on, context_after, reads_from, reads, words_of, address_in, Assembled, accepted, rejected, reading, fitted, assembling}
 use Rattle.image.specs.Listing.{text_of, listing_fault, written, listing}
-use Rattle.image.specs.Meaning.{coded_by, coded_in, instructions_of, settings_of, image_of}
+use Rattle.image.specs.Meaning.{instructions_of, settings_of, image_of}
 use Rattle.zkasm.specs.Zkasm.{most_input, table_room, input_words, image_room, text_room}
 use Rattle.image.proofs.ConfigLines.{settings-pass}
 use Rattle.image.proofs.Images.{Words}
 use Rattle.image.proofs.Listed.{AllDecoded, words-of-image, image-listed}
 use Rattle.image.proofs.Lengths.{listed-short}
-use Rattle.image.proofs.Walking.{MeansIf, reading-means}
+use Rattle.image.proofs.Walking.{words_in, coded-length, MeansIf, reading-means}
 use Rattle.image.proofs.Fitting.{source_fits, fit_words, fit-decoded}
 use Rattle.text.proofs.NameSets.{present-naming}
 
@@ -41,23 +41,24 @@ lines-few (b ∷ s) = go (eqb b 10) (lines-few s)
     go true h = omega arith
     go false h = omega (arith, longer (lines s))
 
-effect-few : (e : Effect) → length (coded_by e) ≤ 1
-unfolding coded_by
+effect-few : (e : Effect) → words_of e ≤ 1
+unfolding words_of
 effect-few nothing = omega arith
 effect-few (sets s) = omega arith
-effect-few (codes i) = omega arith
+effect-few (codes d) = omega arith
 effect-few (faulty n) = omega arith
 
-lines-words : (names : List Name) (c : Context) (ls : List (List ℕ)) → length (coded_in (reads_from names c ls)) ≤ length ls
-unfolding coded_in reads_from flat_map
+lines-words : (names : List Name) (c : Context) (ls : List (List ℕ)) → words_in (reads_from names c ls) ≤ length ls
+unfolding words_in reads_from
 lines-words names c [] = omega arith
 lines-words names c (l ∷ ls) =
     let e = (read_on c (read_line names l)).effect in
-    omega (arith, length-append (coded_by e) (coded_in (reads_from names (context_after c e) ls)), effect-few e, lines-words names (context_after c e) ls)
+    omega (arith, effect-few e, lines-words names (context_after c e) ls)
 
 pub words-few : (s : List ℕ) → length s ≤ most_input → length (instructions_of present s) ≤ input_words
 unfolding instructions_of reads
-words-few s h = omega (arith, lines-words present (record { setup = begin }) (lines s), lines-few s)
+words-few s h =
+    omega (arith, coded-length (address_in 0 (reads present s)) 0 (reads present s), lines-words present (record { setup = begin }) (lines s), lines-few s)
 
 -- So the image buffer suffices.
 pub never-23 : (s : List ℕ) (size : ℕ) → length s ≤ most_input → image_room ≤ size → assembling present s table_room size ≡ reading present s table_room
@@ -67,7 +68,7 @@ never-23 s size h room = go (reading present s table_room) (reading-means presen
     go : (a : Assembled) → MeansIf present s a → fitted size a ≡ a
     go (rejected r) m = refl
     go (accepted st) m =
-        rw (fitted, le-leb (32 + 4 * length st.instructions) size (omega (arith, words-few s h, ap length m.instructions)))
+        rw (fitted, le-leb (32 + 4 * st.words) size (omega (arith, words-few s h, m.words)))
 
 -- ---- the image of an input
 

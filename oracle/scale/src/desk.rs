@@ -244,3 +244,42 @@ fn listed(listed: &Result<String, NotListed>) -> Told<3> {
     };
     (number, numbers.map(|number| number as u64))
 }
+
+#[cfg(test)]
+mod tests {
+    use super::*;
+    use crate::interface::Crate;
+
+    /// The library with a fault: the image's last word has a number that is greater by 4.
+    struct Off;
+
+    impl Interface for Off {
+        fn assemble(&mut self, source: &[u8], table: &mut [Label], image: &mut [u8]) -> Told<8> {
+            let told = Crate.assemble(source, table, image);
+            let at = HEADER + 4 * (told.1[0] as usize - 1);
+            let word = u32::from_le_bytes(image[at..at + 4].try_into().expect("a word"));
+            // The number of a branch begins at bit 15.
+            image[at..at + 4].copy_from_slice(&word.wrapping_add(4 << 15).to_le_bytes());
+            told
+        }
+
+        fn open(&mut self, image: &[u8]) -> Told<12> {
+            Crate.open(image)
+        }
+
+        fn list(&mut self, image: &[u8], text: &mut [u8]) -> Told<3> {
+            Crate.list(image, text)
+        }
+    }
+
+    #[test]
+    fn a_wrong_distance_is_noticed() {
+        for source in ["x: beq r1, r2, x", "ecall\nx: ecall\nbgeu r1, r2, x"] {
+            let asked = Asked::new(source.as_bytes());
+            let (labels, length) = enough(&asked);
+            assert!(Desk::new(Crate).assemble(&asked, labels, length).is_ok());
+            let difference = Desk::new(Off).assemble(&asked, labels, length);
+            assert!(difference.is_err_and(|text| text.contains("the image")));
+        }
+    }
+}

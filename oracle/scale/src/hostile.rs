@@ -32,16 +32,49 @@ pub fn source(rng: &mut Rng) -> Vec<u8> {
         _ => gen::source(rng.pick(&KINDS), rng.bits()),
     };
     for _ in 0..rng.below(5) {
-        change(rng, &mut source, piece);
+        match rng.below(10) {
+            0 => aim(rng, &mut source),
+            _ => change(rng, &mut source, piece),
+        }
     }
     source
 }
 
-/// About as many instructions or bytes as there may be.
+/// Puts a line into a source, or behind its end, that jumps to one of its labels, if it has any.
+fn aim(rng: &mut Rng, source: &mut Vec<u8>) {
+    let is_part = |byte: &u8| byte.is_ascii_alphanumeric() || *byte == b'_';
+    let colons: Vec<usize> = (0..source.len()).filter(|at| source[*at] == b':').collect();
+    if colons.is_empty() {
+        return;
+    }
+    let colon = rng.pick(&colons);
+    let length = source[..colon]
+        .iter()
+        .rev()
+        .take_while(|it| is_part(it))
+        .count();
+    let jump = rng.pick(&[
+        "\njal ra,",
+        "\nbne r1, r2, ",
+        "\n\tBLTU a0,a1,",
+        "\nx: jal r0, ",
+    ]);
+    let line = [jump.as_bytes(), &source[colon - length..colon], b"\n"].concat();
+    let ends = (0..source.len()).filter(|at| source[*at] == b'\n');
+    let ends: Vec<usize> = ends.chain([source.len()]).collect();
+    let at = rng.pick(&ends);
+    source.splice(at..at, line);
+}
+
+/// About as many instructions or bytes as there may be, or about as many words as a branch goes over.
 fn beyond_a_limit(rng: &mut Rng) -> Vec<u8> {
-    let mut source = match rng.percent(50) {
-        true => b"ecall\n".repeat(MOST_WORDS + rng.below(3)),
-        false => {
+    let mut source = match rng.below(3) {
+        0 => b"ecall\n".repeat(MOST_WORDS + rng.below(3)),
+        1 => {
+            let words = b"ecall\n".repeat(16_381 + rng.below(6));
+            [b"l: blt r1, r2, m\n", &words[..], b"m: bge r1, r2, l"].concat()
+        }
+        _ => {
             let some = [bytes(rng, |rng| rng.below(128) as u8), vec![b'\n']].concat();
             let length = MOST_SOURCE_BYTES + rng.below(2);
             some.into_iter().cycle().take(length).collect()
@@ -94,9 +127,9 @@ fn piece(rng: &mut Rng) -> Vec<u8> {
 }
 
 #[rustfmt::skip]
-const PIECES: [&str; 13] = [
+const PIECES: [&str; 18] = [
     "\n", "\r\n", " ", "\t", "\x0b", "é", "\0", ".config limb_bits ", "\nl:\n", "l: ", ", ", "(r1)",
-    "\necall\n",
+    "\necall\n", "\njal ra, l\n", "\nbeq r1, r2, x\n", "l: jal r0, l", ", l\n", "\nx:\n",
 ];
 
 /// A header's field or a word.

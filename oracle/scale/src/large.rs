@@ -1,4 +1,5 @@
-//! Sources of any length, as they are usual and as a rival would make them. All are accepted.
+//! Sources of any length, as they are usual and as a rival would make them. All are accepted by the
+//! library; the reference knows none of the labels that instructions name.
 
 use oracle::gen::Rng;
 use oracle::{MOST_SOURCE_BYTES, MOST_WORDS};
@@ -20,7 +21,7 @@ const fn kind(name: &'static str, make: fn(&mut Rng, usize) -> Vec<u8>) -> Kind 
 }
 
 /// Usual ones, and behind them those that are made to be slow.
-pub const KINDS: [Kind; 13] = [
+pub const KINDS: [Kind; 19] = [
     kind("ordinary program", ordinary),
     kind("a label before every instruction", labelled),
     kind("mostly comments", comments),
@@ -37,6 +38,24 @@ pub const KINDS: [Kind; 13] = [
     kind("labels that are each the front of the next", nested),
     kind("the shortest labels, one a line", shortest),
     kind("one line of tokens", one_line),
+    kind("a target on every fourth line", targets),
+    kind("the same with numbers", numbers),
+    Kind {
+        most: MOST_WORDS * JUMP,
+        ..kind("forward and backward jumps", jumps)
+    },
+    kind(
+        "32,768 jumps over as many labels as fit",
+        jumps_over_shortest,
+    ),
+    kind(
+        "jumps, labels of 16 bytes, alike but for the end",
+        jumps_over_alike,
+    ),
+    kind(
+        "jumps, labels of 240 bytes, alike but for the end",
+        jumps_over_long,
+    ),
 ];
 
 impl Kind {
@@ -56,6 +75,11 @@ fn filled(bytes: usize, mut line: impl FnMut(usize) -> String) -> Vec<u8> {
         }
         out.extend_from_slice(next.as_bytes());
     }
+    ended(out, bytes)
+}
+
+/// A comment fills the rest.
+fn ended(mut out: Vec<u8>, bytes: usize) -> Vec<u8> {
     if out.len() < bytes {
         out.push(b'#');
         out.resize(bytes, b'-');
@@ -168,16 +192,22 @@ fn in_no_order(rng: &mut Rng, bytes: usize) -> Vec<u8> {
 }
 
 fn long_labels(rng: &mut Rng, bytes: usize) -> Vec<u8> {
-    let stem = "salt_of_the_loaf_".repeat(14);
     let first = rng.below(1000);
-    filled(bytes, |number| {
-        format!("{}{:06}:\n", &stem[..234], first + number)
-    })
+    filled(bytes, |number| format!("{}:\n", long_name(first + number)))
+}
+
+fn long_name(number: usize) -> String {
+    let stem = "salt_of_the_loaf_".repeat(14);
+    format!("{}{number:06}", &stem[..234])
 }
 
 fn alike_before(rng: &mut Rng, bytes: usize) -> Vec<u8> {
     let first = rng.below(1000);
-    filled(bytes, |number| format!("salt_and_{:07}:\n", first + number))
+    filled(bytes, |number| format!("{}:\n", alike_name(first + number)))
+}
+
+fn alike_name(number: usize) -> String {
+    format!("salt_and_{number:07}")
 }
 
 fn alike_behind(rng: &mut Rng, bytes: usize) -> Vec<u8> {
@@ -218,4 +248,92 @@ fn one_line(rng: &mut Rng, bytes: usize) -> Vec<u8> {
         0 => ".text".to_string(),
         _ => format!(" {}", rng.pick(&tokens)),
     })
+}
+
+/// Eight lines at a time with a jump forward and one back, each to a label among them.
+fn targets(rng: &mut Rng, bytes: usize) -> Vec<u8> {
+    filled(bytes, |number| {
+        let names = ["done", "again"].map(|stem| format!("{stem}_{number}"));
+        loop_to(rng, &names, &names)
+    })
+}
+
+/// The same with numbers, and blanks behind them, so that their lines are as long.
+fn numbers(rng: &mut Rng, bytes: usize) -> Vec<u8> {
+    filled(bytes, |number| {
+        let names = ["done", "again"].map(|stem| format!("{stem}_{number}"));
+        let distances = [12, -28].map(|distance: i32| distance.to_string());
+        let padded = [0, 1].map(|at| format!("{:1$}", distances[at], names[at].len()));
+        loop_to(rng, &names, &padded)
+    })
+}
+
+/// Eight lines, most with a comment, whose fourth goes on at the seventh, and whose eighth at the
+/// first.
+fn loop_to(rng: &mut Rng, names: &[String; 2], targets: &[String; 2]) -> String {
+    let mut text = String::new();
+    for line in 0..8 {
+        text += &match line {
+            0 => format!("{}: {}", names[1], instruction(rng)),
+            3 => format!("beq a0, zero, {}", targets[0]),
+            6 => format!("{}: {}", names[0], instruction(rng)),
+            7 => format!("jal zero, {}", targets[1]),
+            _ => instruction(rng),
+        };
+        if rng.percent(70) {
+            text += &format!("    # {}", rng.pick(&REMARKS));
+        }
+        text.push('\n');
+    }
+    text
+}
+
+/// The length of each line of `jumps`.
+const JUMP: usize = "l000000: bne a0, a1, l000000\n".len();
+
+/// Sixteen lines at a time that jump to one another, forward and backward.
+fn jumps(rng: &mut Rng, bytes: usize) -> Vec<u8> {
+    let first = rng.below(1000);
+    filled(bytes, |number| {
+        let from = first + 16 * number;
+        let line = |at: usize| {
+            let to = from + (at * 5 + 11) % 16;
+            format!("l{:06}: bne a0, a1, l{to:06}\n", from + at)
+        };
+        (0..16).map(line).collect()
+    })
+}
+
+fn jumps_over_shortest(rng: &mut Rng, bytes: usize) -> Vec<u8> {
+    jumps_over(rng, bytes, short_name)
+}
+
+fn jumps_over_alike(rng: &mut Rng, bytes: usize) -> Vec<u8> {
+    jumps_over(rng, bytes, alike_name)
+}
+
+fn jumps_over_long(rng: &mut Rng, bytes: usize) -> Vec<u8> {
+    jumps_over(rng, bytes, long_name)
+}
+
+/// Labels, as many as fit, and behind them jumps to them in no order: as many as there may be in 1 MB,
+/// but in no more than half of the source.
+fn jumps_over(rng: &mut Rng, bytes: usize, name: fn(usize) -> String) -> Vec<u8> {
+    let jump = |number| format!("jal r0,{}\n", name(number));
+    let longest = jump(MOST_SOURCE_BYTES / 2).len();
+    let jumps = (bytes * MOST_WORDS / MOST_SOURCE_BYTES).min(bytes / 2 / longest);
+    let mut out = Vec::with_capacity(bytes);
+    let mut labels = 0;
+    loop {
+        let label = format!("{}:\n", name(labels));
+        if out.len() + label.len() + jumps * longest > bytes {
+            break;
+        }
+        out.extend_from_slice(label.as_bytes());
+        labels += 1;
+    }
+    if labels > 0 {
+        out.extend((0..jumps).flat_map(|_| jump(rng.below(labels)).into_bytes()));
+    }
+    ended(out, bytes)
 }

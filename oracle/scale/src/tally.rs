@@ -16,7 +16,7 @@ impl Call {
     fn has(self, number: usize) -> bool {
         let of_opening = matches!(number, 10..=13 | 24..=28);
         match self {
-            Call::Assembling => (1..=23).contains(&number),
+            Call::Assembling => matches!(number, 1..=23 | 33..=34),
             Call::Opening => of_opening,
             Call::Listing => of_opening || (29..=32).contains(&number),
         }
@@ -24,13 +24,16 @@ impl Call {
 }
 
 /// For each call how often it was accepted, at 0, and refused by each number.
-pub struct Tally([Row; 33]);
+pub struct Tally([Row; 1 + LAST]);
+
+/// The last refusal's number.
+const LAST: usize = 34;
 
 type Row = [u64; CALLS.len()];
 
 impl Default for Tally {
     fn default() -> Self {
-        Tally([Row::default(); 33])
+        Tally([Row::default(); 1 + LAST])
     }
 }
 

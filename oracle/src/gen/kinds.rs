@@ -59,7 +59,7 @@ fn good_lines(rng: &mut Rng, lines: usize, first: usize) -> Vec<u8> {
     out
 }
 
-fn any_instruction(rng: &mut Rng) -> Vec<Token> {
+pub fn any_instruction(rng: &mut Rng) -> Vec<Token> {
     let row = rng.pick(&ROWS);
     instruction(rng, &row)
 }

@@ -4,6 +4,7 @@ mod kinds;
 mod numbers;
 mod rng;
 mod spelling;
+mod targets;
 
 pub use kinds::damaged_image;
 pub use numbers::{GOOD_NUMBERS, ODD_NUMBERS};
@@ -31,9 +32,11 @@ pub enum Kind {
     StrayByte,
     /// An accepted program with a few bytes changed.
     Damaged,
+    /// Labels, and instructions that name them as targets, also where none may stand.
+    Target,
 }
 
-pub const KINDS: [Kind; 10] = [
+pub const KINDS: [Kind; 11] = [
     Kind::ShortLine,
     Kind::Program,
     Kind::NearMiss,
@@ -44,15 +47,19 @@ pub const KINDS: [Kind; 10] = [
     Kind::LongLine,
     Kind::StrayByte,
     Kind::Damaged,
+    Kind::Target,
 ];
+
+/// How many kinds share the small seeds: as many as there were at first.
+const FIRST_KINDS: u64 = 10;
 
 /// The source of a kind and a seed.
 pub fn source(kind: Kind, seed: u64) -> Vec<u8> {
-    // No two pairs of kind and small seed begin alike.
-    let mut rng = Rng::new(
-        seed.wrapping_mul(KINDS.len() as u64)
-            .wrapping_add(kind as u64),
-    );
+    // No two pairs of kind and small seed begin alike. Later kinds have seeds far away, so that the
+    // first ones give the same sources as before.
+    let (round, place) = (kind as u64 / FIRST_KINDS, kind as u64 % FIRST_KINDS);
+    let begin = seed.wrapping_mul(FIRST_KINDS).wrapping_add(place);
+    let mut rng = Rng::new(begin ^ round << 63);
     match kind {
         Kind::ShortLine => kinds::short_line(&mut rng),
         Kind::Program => kinds::program(&mut rng),
@@ -64,6 +71,7 @@ pub fn source(kind: Kind, seed: u64) -> Vec<u8> {
         Kind::LongLine => kinds::long_line(&mut rng),
         Kind::StrayByte => kinds::stray_byte(&mut rng),
         Kind::Damaged => kinds::damaged(&mut rng),
+        Kind::Target => targets::target(&mut rng),
     }
 }
 

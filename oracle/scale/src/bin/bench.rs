@@ -3,13 +3,15 @@
 //!
 //! Each row takes the same amount of text or words, cut into different sources or images of its
 //! length, so that short ones are not learned by heart. A time is that of the best of several runs.
-//! Buffers are not cleared between calls.
+//! Buffers are not cleared between calls. The reference knows no labels as jump targets: it is asked
+//! with 0 and blanks in their places.
 
 use std::hint::black_box;
 use std::time::{Duration, Instant};
 
 use oracle::gen::Rng;
 use oracle::model::HEADER;
+use oracle::Targeted;
 use scale::desk::{MOST_IMAGE, MOST_LABELS, MOST_TEXT};
 use scale::large::{self, Kind};
 use zkasm::Label;
@@ -94,6 +96,8 @@ fn assembling(Buffers { table, image, .. }: &mut Buffers, kind: &Kind) {
             let answer = zkasm::assemble(text.as_bytes(), table, image);
             black_box(answer).expect("it is accepted");
         });
+        let lines = |text: &String| Targeted::new(text).lines().to_string();
+        let texts: Vec<String> = texts.iter().map(lines).collect();
         let reference = best(&texts, |text| {
             let program = zkir_assembler::assembler::assemble(text);
             black_box(program.expect("it is accepted").to_bytes());

@@ -160,6 +160,24 @@ impl Run {
                 self.source(&source, bytes as u64);
             }
         }
+        self.far_targets();
+    }
+
+    /// Labels as far away as a branch reaches, a word less and one more, and as far as can be.
+    fn far_targets(&mut self) {
+        self.begin("targets about a branch's reach");
+        for words in (16_382..=16_385).chain(MOST_WORDS - 2..=MOST_WORDS) {
+            for jump in [
+                "jal r15, far",
+                "beq r1, r2, far",
+                "BGEU r15, r0, far # away",
+            ] {
+                let forward = [jump.as_bytes(), b"\n", &many_words(words - 1, "far: ecall")];
+                let backward = [b"far:\n", &many_words(words, jump)[..]];
+                self.source(&forward.concat(), words as u64);
+                self.source(&backward.concat(), words as u64);
+            }
+        }
     }
 
     /// Compares all that there is to a source, and keeps count.

@@ -19,4 +19,4 @@ returns-in_default c =
 pub returns : goal.returns
 returns c =
     word_line present c.args.source.now c.args.start c.requires c.first_word-first.ensures c.in-Some.is c.in_ok-word.was present-naming no-mnemonics (λ i. omega (arith, c.type_inv.source i))
-    c.in_ok-mnemonic.mnemonic c.in_ok-mnemonic.ensures _ _ (rw c.form.ensures at c.in_ok-tail.ensures)
+    c.in_ok-mnemonic.mnemonic c.in_ok-mnemonic.ensures _ _ c.in_ok-tail.ensures

@@ -9,5 +9,5 @@ use Rattle.image_line.proofs.fast.read_tail.Goals as goal
 pub returns : goal.returns
 returns c =
     let (n, k) = ended present _ _ c.in_ok-end.end c.in_ok-end.ensures in
-    let is_ok : c.read_operands.result ≡ Ok c.in_ok-operands.operands = search (rules, c.in_ok-operands.ensures.value) in
+    let is_ok : c.read_operands.result ≡ Ok c.in_ok-draft.draft = search (rules, c.in_ok-draft.ensures.value) in
     tail-is (rw is_ok at c.read_operands.ensures) n k

@@ -1,21 +1,19 @@
 -- `instruction_operands::assembler::parse_row` meets its contract.
-use Rattle.std.proofs.Common.{rules, ◌≡◌, sym, ◌∙◌}
-use Rattle.std.specs.Prelude.{Err}
-use Rattle.instruction_operands.proofs.Line.{row-other, row-fault, row-made}
+use Rattle.std.proofs.Common.{arith, sym, subst, ◌+◌, ◌∙◌}
+use lib.ListN.{drop, length-drop}
+use lib.Seq.{take_all}
+use Rattle.instruction_operands.specs.Promised.{RowIs}
+use Rattle.instruction_operands.proofs.Line.{row-other, row-read}
 use Rattle.instruction_operands.proofs.assembler.parse_row.Goals as goal
 
 pub returns-then-line-at : goal.returns-then-line-at
 returns-then-line-at c =
-    row-other c.args.mnemonic c.args.line.now c.args.at c.form-form.result c.form-form.ensures (λ e. c.if-line-at.true (e ∙ sym c.operand_count.ensures))
-
-pub returns-in_err-operands : goal.returns-in_err-operands
-returns-in_err-operands c =
-    let passed : c.from_residual.result ≡ Err c.in_err-operands.field-0.0 = search rules in
-    rw passed
-    (row-fault c.args.mnemonic c.args.line.now c.args.at c.form-form.result c.form-form.ensures c.requires.token_there (c.if-line-at.false ∙ c.operand_count.ensures) _
-    c.in_err-operands.ensures)
+    row-other c.args.mnemonic c.args.line.now c.args.at c.form.result c.form.ensures c.args.source.now (λ e. c.if-line-at.true (e ∙ sym c.operand_count.ensures))
 
 pub returns : goal.returns
 returns c =
-    row-made c.args.mnemonic c.args.line.now c.args.at c.form-form.result c.form-form.ensures c.requires.token_there (c.if-line-at.false ∙ c.operand_count.ensures) _
-    c.in_ok-operands.ensures
+    let rest = drop (c.args.at + 1) c.args.line.now.tokens in
+    let left = c.new-tokens.ensures.left ∙ take_all _ rest (omega (arith, length-drop (c.args.at + 1) c.args.line.now.tokens)) in
+    subst (λ s. RowIs s c.args.mnemonic c.args.line.now c.args.at c.read_operands.result) c.new-tokens.ensures.source
+    (row-read c.args.mnemonic c.args.line.now c.args.at c.form.result c.form.ensures c.requires.token_there (c.if-line-at.false ∙ c.operand_count.ensures) c.new-tokens.result _ left _
+    c.read_operands.ensures)

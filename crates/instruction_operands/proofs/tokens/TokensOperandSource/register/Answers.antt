@@ -1,9 +1,9 @@
--- `instruction_operands::assembler`: a line's tokens give a register as they promise.
+-- `instruction_operands::tokens`: a line's tokens give a register as they promise.
 use Rattle.std.proofs.Common.{rules, ◌≡◌}
 use Rattle.std.specs.Prelude.{Err}
 use Rattle.refusal.specs.declared.refusal.Refusal.TheVariants.{OperandCount}
-use Rattle.instruction_operands.proofs.Tokens.{none-left, register-next}
-use Rattle.instruction_operands.proofs.assembler.TokensOperandSource.register.Goals as goal
+use Rattle.instruction_operands.proofs.Taking.{none-left, register-next}
+use Rattle.instruction_operands.proofs.tokens.TokensOperandSource.register.Goals as goal
 
 pub returns-in_err-take : goal.returns-in_err-take
 returns-in_err-take c =
