@@ -2,6 +2,7 @@
 //! to ask it, and the lists of such answers.
 
 mod answer;
+mod edits;
 pub mod falsified;
 pub mod gen;
 mod images;
@@ -16,6 +17,7 @@ mod vectors;
 mod words;
 
 pub use answer::{answer, Answer, Label, Settings};
+pub use edits::Edit;
 pub use images::image_of;
 pub use limits::{answer_within, Asked, MOST_SOURCE_BYTES, MOST_WORDS};
 pub use targets::{Target, Targeted};

@@ -217,7 +217,7 @@ fn target_in(line: &str) -> Option<(Range<usize>, bool)> {
 }
 
 /// The tokens of a line's content with their places in it, unless one is bad.
-fn tokens(content: &str) -> Option<Vec<(Token, Range<usize>)>> {
+pub(crate) fn tokens(content: &str) -> Option<Vec<(Token, Range<usize>)>> {
     let mut lexer = Token::lexer(content);
     let mut tokens = Vec::new();
     while let Some(token) = lexer.next() {

@@ -44,7 +44,7 @@ not_refused (rejected r) x e h k = true≢false (sym h)
 
 module _ (names : List Name) (source : List ℕ) (room : ℕ) (image image' : List ℕ) (x : Answer) (e : x ≡ answer_of (assembling names source room (length image)))
     (h : image' ≡ image_after names source (assembling names source room (length image)) image) (k : Accepted names source room (length image)) where
-  answers : x ≡ assembled (length (instructions_of names source)) (length (entered (assembling names source room (length image)))) (settings_of names source)
+  pub answers : x ≡ assembled (length (instructions_of names source)) (length (entered (assembling names source room (length image)))) (settings_of names source)
   unfolding answer_of entered
   answers =
       let a = accepted-assembles names source room (length image) k in
@@ -58,11 +58,11 @@ module _ (names : List Name) (source : List ℕ) (room : ℕ) (image image' : Li
 -- ---- the bytes that a call has filled
 
 module _ {names : List Name} {source : List ℕ} (c : AcceptedCall names source) where
-  accepted-here : Accepted names source (length c.table) (length c.image)
+  pub accepted-here : Accepted names source (length c.table) (length c.image)
   accepted-here = accepts _ (answer_meant c.answer) c.promised.answer c.not_refused
 
   -- They are the source's image.
-  filled-image : filled c ≡ image_of names source
+  pub filled-image : filled c ≡ image_of names source
   filled-image =
       let room = length c.table in
       let a = answers names source room c.image c.image' (answer_meant c.answer) c.promised.answer c.promised.image_holds accepted-here in

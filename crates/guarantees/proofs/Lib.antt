@@ -8,3 +8,6 @@ pub mod Calls
 pub mod Numbered
 pub mod Longest
 pub mod Targets
+pub mod Edits
+pub mod EditExamples
+pub mod EditsRefuted

@@ -28,7 +28,7 @@ drafted-one (sets s) = refl
 drafted-one (codes d) = refl
 drafted-one (faulty n) = refl
 
-drafted-length : (rs : List Read) → length (drafted rs) ≡ words_in rs
+pub drafted-length : (rs : List Read) → length (drafted rs) ≡ words_in rs
 unfolding drafted words_in
 drafted-length [] = refl
 drafted-length (r ∷ rs) = omega (arith, length-append (drafted_by r.effect) (drafted rs), drafted-one r.effect, drafted-length rs)

@@ -3,3 +3,5 @@ pub mod Promises
 pub mod Examples
 pub mod Calls
 pub mod Targets
+pub mod Edits
+pub mod EditExamples

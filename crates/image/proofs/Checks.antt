@@ -3,7 +3,6 @@ use mathlib.Core.Path.{◌≡◌, refl, ap, ◌∙◌}
 use Prim.Native.Nat.{ℕ, ◌≤◌}
 use native.Mathlib.Omega.{arith}
 use mathlib.Core.Bool.{true, false}
-use mathlib.Core.Option.{none}
 use mathlib.Core.List.{List, [], ◌∷◌, map}
 use lib.ListN.{length, take, drop, get_or}
 use lib.IntN.{ℤ}
@@ -11,13 +10,13 @@ use borrow.Author.Tests.{eq-eqb, ne_eqb}
 use Rattle.text_lexical.specs.Bytes.{Result, value, refused, same}
 use Rattle.text_lexical.specs.Numbers.{residue}
 use Rattle.text.specs.Lines.{Line as Record, kept}
-use Rattle.text.specs.Promised.{extracted, extract_meant, kind_meant, spelling, meant}
-use Rattle.text.specs.declared.lexer.Kind.{Kind}
-use Rattle.text.specs.declared.lexer.Kind.TheVariants.{Identifier, Register, NoRegister, Number, Negative, Hex, Binary, Directive, Comma, Colon, LParen, RParen}
+use Rattle.text.specs.Promised.{extracted, extract_meant, spelling, meant}
+use Rattle.text.specs.declared.lexer.Kind.TheVariants.{Identifier}
 use Rattle.text.specs.declared.lexer.Token.{Token}
 use Rattle.text.specs.declared.parser.Line.{Line}
 use Rattle.text.proofs.Meanings.{extracted-number}
 use Rattle.instruction.specs.Operands.{read_identifier}
+use Rattle.instruction.proofs.Results.{no-identifier}
 use Rattle.image.specs.Settings.{Settings, settings, limb_bits_key, data_limbs_key, addr_limbs_key, set_field, checked, configured_by, configured_with, configured}
 use Rattle.image.specs.Promised.{record_meant}
 
@@ -45,22 +44,6 @@ module _ (s : Settings) (key : List ℕ) (v : ℕ) where
 
 -- ---- the line
 
--- A kind that is no Identifier is not read as one.
-other-kind : (k : Kind) (u : List ℕ) → (k ≡ Identifier → ⊥) → read_identifier (kind_meant k u) ≡ none
-unfolding read_identifier
-other-kind Identifier u h = absurd (h refl)
-other-kind (Register r) u h = refl
-other-kind NoRegister u h = refl
-other-kind (Number n) u h = refl
-other-kind (Negative n) u h = refl
-other-kind (Hex n) u h = refl
-other-kind (Binary n) u h = refl
-other-kind Directive u h = refl
-other-kind Comma u h = refl
-other-kind Colon u h = refl
-other-kind LParen u h = refl
-other-kind RParen u h = refl
-
 -- The second and the third of a list's first three.
 second-third : {A B : Type 0} (f : A → B) (l : List A) (d : A) → 3 ≤ length l → drop 1 (map f (take 3 l)) ≡ f (get_or l 1 d) ∷ f (get_or l 2 d) ∷ []
 second-third f [] d h = absurd (omega arith)
@@ -84,7 +67,7 @@ module _ (setup : Settings) (s : List ℕ) (l : Line) (d : Token) (full : length
   -- the second has to be an Identifier
   pub config-key : ((get_or l.tokens 1 d).kind ≡ Identifier → ⊥) → configured setup (record_meant s l) ≡ refused 7
   unfolding configured_by
-  config-key h = config-by ∙ rw (configured_by, other-kind (get_or l.tokens 1 d).kind (spelling s (get_or l.tokens 1 d)) h)
+  config-key h = config-by ∙ rw (configured_by, no-identifier (get_or l.tokens 1 d).kind (spelling s (get_or l.tokens 1 d)) h)
 
   module _ (named : (get_or l.tokens 1 d).kind ≡ Identifier) where
     -- and the third a number

@@ -21,7 +21,7 @@ use Rattle.text.proofs.Lines.{visible, closed-append, Trimmed, decimal-visible, 
 use Rattle.instruction.specs.Operands.{Draft, read_identifier, read_instruction, behind}
 use Rattle.image.specs.Settings.{Settings, begin, settings_fault, set_field, checked, configured_by, configured_with, configured}
 use Rattle.instruction.specs.Kinds.{Kind, empty, labelled, config, ignored, plain, kind_of}
-use Rattle.image.specs.Assembling.{Context, Effect, nothing, sets, codes, faulty, setting, coding, after_label, read_kind, read_on, changed_by, context_after, reads_from, reads}
+use Rattle.image.specs.Assembling.{Context, first_context, Effect, nothing, sets, codes, faulty, setting, coding, after_label, read_kind, read_on, changed_by, context_after, reads_from, reads}
 use Rattle.image.specs.Meaning.{settings_in, settings_of}
 use Rattle.image.proofs.Settings.{no-fault, begin-good}
 
@@ -124,7 +124,7 @@ good-from names c s h (l ∷ ls) =
 -- Whatever the source, its settings pass the checks.
 pub settings-pass : (names : List Name) (source : List ℕ) → settings_fault (settings_of names source) ≡ none
 unfolding settings_of reads
-settings-pass names source = good-from names (record { setup = begin }) begin (no-fault begin begin-good) (lines source)
+settings-pass names source = good-from names first_context begin (no-fault begin begin-good) (lines source)
 
 -- ---- a listed `.config` line
 

@@ -22,9 +22,9 @@ use Rattle.instruction.proofs.Rows.{carried}
 use Rattle.instruction.proofs.Decoding.{decode-encode, word_bound, decoded-fits, decoded-reduced, encode-decode}
 use Rattle.instruction.proofs.Reading.{numbered_token, DraftFits, read_fits, line-numbered, behind-numbered}
 use Rattle.instruction.proofs.Text.{operand_tokens, no_colon, no-colon, tokens-kept, tokens-read, text-visible, text-line}
-use Rattle.image.specs.Settings.{Settings, begin, configured}
+use Rattle.image.specs.Settings.{Settings, configured}
 use Rattle.instruction.specs.Kinds.{Kind, empty, labelled, config, ignored, plain, identifier_kind, kind_of}
-use Rattle.image.specs.Assembling.{Context, Effect, nothing, sets, codes, faulty, setting, coding, after_label, read_kind, read_on, context_after, reads_from, reads, words_of, address_in}
+use Rattle.image.specs.Assembling.{Context, first_context, Effect, nothing, sets, codes, faulty, setting, coding, after_label, read_kind, read_on, context_after, reads_from, reads, words_of, address_in}
 use Rattle.image.specs.Meaning.{resolved, settled, coded_by, coded_in, instructions_of}
 use Rattle.image.proofs.Images.{Words}
 use Rattle.image.proofs.Listed.{Decoded, AllDecoded}
@@ -111,7 +111,7 @@ fit-lines names N addresses words c (l ∷ ls) =
 
 pub source_fits : (names : List Name) → Naming names → (source : List ℕ) → AllFit (instructions_of names source)
 unfolding instructions_of reads
-source_fits names N source = fit-lines names N (address_in 0 (reads names source)) 0 (record { setup = begin }) (lines source)
+source_fits names N source = fit-lines names N (address_in 0 (reads names source)) 0 first_context (lines source)
 
 -- ---- their words
 

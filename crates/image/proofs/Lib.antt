@@ -13,3 +13,5 @@ pub mod Checks
 pub mod Heads
 pub mod Over
 pub mod Placed
+pub mod Edited
+pub mod Spelled

@@ -3,12 +3,11 @@ use mathlib.Core.Path.{◌≡◌, refl, sym, ap, ◌∙◌}
 use Prim.Native.Nat.{ℕ, ◌+◌}
 use native.Mathlib.Nat.{add_assoc, add-zero}
 use native.Mathlib.Omega.{arith}
-use mathlib.Core.Option.{Option, none, some}
+use mathlib.Core.Option.{Option}
 use mathlib.Core.List.{List, [], ◌∷◌, ◌++◌, append_assoc}
-use Rattle.text_lexical.specs.Bytes.{same, find}
 use Rattle.text_lexical.specs.Names.{Name}
 use Rattle.instruction.specs.Operands.{Instruction, Draft}
-use Rattle.image.specs.Assembling.{Label, Read, codes, reads, words_of, address_of, address_in}
+use Rattle.image.specs.Assembling.{Read, codes, reads, words_of, address_in}
 use Rattle.image.specs.Meaning.{settled, coded_by, coded_in, instructions_of}
 use Rattle.image.proofs.Walking.{words_in}
 

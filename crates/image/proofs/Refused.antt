@@ -10,7 +10,7 @@ use Rattle.text_lexical.specs.Bytes.{Result, value, refused, between, same, lowe
 use Rattle.text_lexical.specs.Numbers.{residue}
 use Rattle.text_lexical.proofs.Tests.{both}
 use Rattle.text_lexical.proofs.Tests.{by-test as cases}
-use Rattle.text.specs.Tokens.{Token, identifier, register, number, hex, binary, directive, comma, colon, opening, closing}
+use Rattle.text.specs.Tokens.{Token, register, number, hex, binary}
 use Rattle.text.specs.Values.{read_number}
 use Rattle.text.specs.Lines.{Line}
 use Rattle.instruction.specs.Table.{Place, reg, num, mark, Separator, a-comma, an-opening, a-closing, Form, places, Row, row_named}
@@ -105,27 +105,13 @@ module _ (q : ℕ → Bool) (ok : each q line_numbers ≡ true) where
   of-number (number z) = tt
   of-number (hex n) = tt
   of-number (binary n) = tt
-  of-number (identifier s) = listed 8 refl
-  of-number (register r) = listed 8 refl
-  of-number (directive s) = listed 8 refl
-  of-number comma = listed 8 refl
-  of-number colon = listed 8 refl
-  of-number opening = listed 8 refl
-  of-number closing = listed 8 refl
+  of-number t = listed 8 refl
 
   of-register : (t : Token) → Of (read_register t)
   unfolding read_register
   of-register (register (some n)) = tt
   of-register (register none) = listed 18 refl
-  of-register (number z) = listed 17 refl
-  of-register (hex n) = listed 17 refl
-  of-register (binary n) = listed 17 refl
-  of-register (identifier s) = listed 17 refl
-  of-register (directive s) = listed 17 refl
-  of-register comma = listed 17 refl
-  of-register colon = listed 17 refl
-  of-register opening = listed 17 refl
-  of-register closing = listed 17 refl
+  of-register t = listed 17 refl
 
   of-mark : (m : Separator) → P (separator_refusal m)
   of-mark a-comma = listed 19 refl

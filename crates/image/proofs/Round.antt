@@ -3,7 +3,7 @@ use mathlib.Core.Path.{◌≡◌, refl, sym, ap, ap₂, ◌∙◌, subst}
 use Prim.Native.Nat.{ℕ, suc, ◌+◌, ◌≤◌}
 use native.Mathlib.Nat.{add_assoc, add-zero}
 use native.Mathlib.Omega.{arith}
-use mathlib.Core.Bool.{Bool, true, false}
+use mathlib.Core.Bool.{true, false}
 use mathlib.Core.Option.{Option, none, some}
 use mathlib.Core.List.{List, [], ◌∷◌, ◌++◌, flat_map, append_assoc}
 use lib.ListN.{length, length-append}
@@ -21,7 +21,7 @@ use Rattle.instruction.specs.Text.{instruction_text}
 use Rattle.instruction.proofs.Text.{exact, drafted}
 use Rattle.image.specs.Settings.{Settings, settings, begin, limb_bits_key, data_limbs_key, addr_limbs_key, set_field}
 use Rattle.instruction.specs.Kinds.{plain, kind_of}
-use Rattle.image.specs.Assembling.{State, start, next, Context, Effect, nothing, sets, codes, faulty, Read, coding, read_kind, read_on, changed_by, context_after, reads_from, reads, entering, with_settings, most_words, with_instruction, doing, step, context_of, finished, walk, words_of, address_in, fault_in, accepted, read_to, most_bytes, reading}
+use Rattle.image.specs.Assembling.{State, start, next, Context, first_context, Effect, nothing, sets, codes, faulty, Read, coding, read_kind, read_on, changed_by, context_after, reads_from, reads, entering, with_settings, most_words, with_instruction, doing, step, context_of, finished, walk, words_of, address_in, fault_in, accepted, read_to, most_bytes, reading}
 use Rattle.image.specs.Listing.{line_text, setting_text, settings_text, word_text}
 use Rattle.image.specs.Meaning.{resolved, settled, coded_by, coded_in, instructions_of, is_target, names_target, any_target, settings_in}
 use Rattle.image.proofs.Settings.{Good, no-fault, small-bits, small-data, small-addr}
@@ -224,10 +224,10 @@ module _ (names : List Name) (ok : each (λ n. is_identifier n.spelling) names �
   addr-visible = config-visible names ok addr_limbs_key k.addr_limbs s.addr_limbs (small-addr s g)
 
   -- each line, after which these are the settings
-  bits-read : read_on (record { setup = begin }) (read_line names (config_text limb_bits_key s.limb_bits)) ≡ set_read (settings s.limb_bits 2 2)
+  bits-read : read_on first_context (read_line names (config_text limb_bits_key s.limb_bits)) ≡ set_read (settings s.limb_bits 2 2)
   unfolding set_read begin settings between
   bits-read =
-      config-read names ok limb_bits_key k.limb_bits s.limb_bits (small-bits s g) (record { setup = begin }) (settings s.limb_bits 2 2) (set-bits begin s.limb_bits)
+      config-read names ok limb_bits_key k.limb_bits s.limb_bits (small-bits s g) first_context (settings s.limb_bits 2 2) (set-bits begin s.limb_bits)
       (no-fault (settings s.limb_bits 2 2) (record { bits = g.bits; even = g.even; data_limbs = refl; addr_limbs = refl }))
 
   data-read : read_on (record { setup = settings s.limb_bits 2 2 }) (read_line names (config_text data_limbs_key s.data_limbs)) ≡ set_read (settings s.limb_bits s.data_limbs 2)
@@ -253,8 +253,8 @@ module _ (names : List Name) (ok : each (λ n. is_identifier n.spelling) names �
       let c = config_text addr_limbs_key s.addr_limbs in
       let s₁ = settings s.limb_bits 2 2 in
       let s₂ = settings s.limb_bits s.data_limbs 2 in
-      ap (λ (x : List ℕ). reads_from names (record { setup = begin }) (lines x)) (apart a b c)
-      ∙ reads-line names (record { setup = begin }) a (line_text b ++ (line_text c ++ rest)) (set_read s₁) bits-visible bits-read
+      ap (λ (x : List ℕ). reads_from names first_context (lines x)) (apart a b c)
+      ∙ reads-line names first_context a (line_text b ++ (line_text c ++ rest)) (set_read s₁) bits-visible bits-read
       ∙ ap (λ (x : List Read). set_read s₁ ∷ x) (reads-line names (record { setup = s₁ }) b (line_text c ++ rest) (set_read s₂) data-visible data-read
       ∙ ap (λ (x : List Read). set_read s₂ ∷ x) (reads-line names (record { setup = s₂ }) c rest (set_read s) addr-visible addr-read))
     where

@@ -1,15 +1,16 @@
--- What the lines of a source that is read to its end come to is what is read off the source: how many instructions there are, the labels'
--- addresses, the settings. And what is known of an accepted source.
-use mathlib.Core.Path.{◌≡◌, refl, sym, ap, ◌∙◌, subst}
+-- What the lines of a source that is read to its end come to is what is read off the source: how many instructions there are, the labels
+-- and their addresses, the settings. And what is known of an accepted source.
+use mathlib.Core.Path.{◌≡◌, refl, sym, ap, ap₂, ◌∙◌, fun_ext, subst}
 use Prim.Native.Nat.{ℕ, suc, ◌+◌, ◌≤◌}
 use native.Mathlib.Nat.{add_assoc, add-zero}
 use native.Mathlib.Omega.{arith}
 use mathlib.Core.Bool.{Bool, true, false, true≢false}
 use mathlib.Core.Option.{Option, none, some}
-use mathlib.Core.List.{List, [], ◌∷◌, ◌++◌}
+use mathlib.Core.List.{List, [], ◌∷◌, ◌++◌, map, append_assoc, append-nil}
 use lib.ListN.{length, length-append}
 use lib.Dec.{leb, ltb}
 use borrow.Author.Tests.{ltb-true, leb-true}
+use Rattle.std.proofs.lemmas.List.{map-append}
 use Rattle.text_lexical.specs.Bytes.{ascii, every, same, before, find}
 use Rattle.text_lexical.specs.Names.{Name}
 use Rattle.text.specs.Lines.{lines, indent, read_line}
@@ -17,6 +18,7 @@ use Rattle.image.specs.Settings.{Settings}
 use Rattle.image.specs.Program.{image_length}
 use Rattle.image.specs.Assembling.{Label, State, start, Step, next, stop, Effect, nothing, sets, codes, faulty, Read, read_on, changed_by, context_after, reads_from, reads, is_known, address_of, address_after, with_label, enter, entering, with_settings, most_words, with_instruction, doing, step, context_of, Walk, finished, stopped, walk, words_of, is_labelled, address_in, Fault, fault_in, Assembled, accepted, rejected, refusing, line_refused, read_to, most_bytes, reading, fitted, assembling}
 use Rattle.image.specs.Meaning.{coded_by, coded_in, instructions_of, settings_in, settings_of, is_accepted, Accepted}
+use Rattle.image.specs.Lent.{addressed}
 
 -- ---- how many words lines come to
 
@@ -42,85 +44,77 @@ coded-length addresses words (r ∷ rs) =
 
 -- ---- where labels are
 
--- The first of two that is there.
-unfoldable pub first_of : {A : Type 0} → Option A → Option A → Option A
-first_of none o = o
-first_of (some a) o = some a
+-- A line's label, with so many words before it.
+unfoldable pub own_label : ℕ → Option (List ℕ) → List (List ℕ × ℕ)
+own_label words none = []
+own_label words (some s) = (s, address_after words) ∷ []
 
-first-assoc : {A : Type 0} (a b c : Option A) → first_of (first_of a b) c ≡ first_of a (first_of b c)
-unfolding first_of
-first-assoc none b c = refl
-first-assoc (some x) b c = refl
+-- The labels of some lines, in order.
+unfoldable pub labels_in : ℕ → List Read → List (List ℕ × ℕ)
+labels_in words [] = []
+labels_in words (r ∷ rs) = own_label words r.label ++ labels_in (words + words_of r.effect) rs
 
-pub first-none : {A : Type 0} (a : Option A) → first_of a none ≡ a
-unfolding first_of
-first-none none = refl
-first-none (some x) = refl
+-- The address of the first with a spelling, if there is one.
+unfoldable first_address : List (List ℕ × ℕ) → List ℕ → Option ℕ
+first_address [] u = none
+first_address (l ∷ ls) u = elim (same l.0 u) [ true ↦ some l.1 | false ↦ first_address ls u ]
 
--- The address of a line's label, if it has this spelling.
-unfoldable pub own_address : ℕ → Option (List ℕ) → List ℕ → Option ℕ
-own_address words none u = none
-own_address words (some s) u = elim (same s u) [ true ↦ some (address_after words) | false ↦ none ]
-
--- The first line's label comes before those of the others.
-address-first : (words : ℕ) (r : Read) (rs : List Read) (u : List ℕ)
-    → address_in words (r ∷ rs) u ≡ first_of (own_address words r.label u) (address_in (words + words_of r.effect) rs u)
-unfolding address_in is_labelled first_of own_address
-address-first words r rs u = go r.label (address_in (words + words_of r.effect) rs u)
+-- So labels have their addresses,
+address-of-first : (labels : List Label) (u : List ℕ) → address_of labels u ≡ first_address (map addressed labels) u
+unfolding address_of find first_address
+address-of-first [] u = refl
+address-of-first (l ∷ labels) u = go (same l.spelling u) (address-of-first labels u)
   where
-    by-same : (v : Bool) (x : Option ℕ)
-        → ◌≡◌ {A = Option ℕ} (elim v [ true ↦ some (address_after words) | false ↦ x ]) (first_of (elim v [ true ↦ some (address_after words) | false ↦ none ]) x)
-    by-same true x = refl
-    by-same false x = refl
+    address : Option Label → Option ℕ
+    address o = elim o [ none ↦ none | some m ↦ some m.address ]
 
-    go : (o : Option (List ℕ)) (x : Option ℕ)
-        → ◌≡◌ {A = Option ℕ} (elim (is_labelled (record { label = o; effect = r.effect }) u) [ true ↦ some (address_after words) | false ↦ x ]) (first_of (own_address words o u) x)
-    go none x = refl
-    go (some s) x = by-same (same s u) x
+    known : Option Label
+    known = find (λ m. same m.spelling u) labels
 
--- The address of a label that was looked for.
-addressed : Option Label → Option ℕ
-addressed o = elim o [ none ↦ none | some l ↦ some l.address ]
-
--- A label that is entered last is found last.
-address-last : (labels : List Label) (l : Label) (u : List ℕ)
-    → address_of (labels ++ (l ∷ [])) u ≡ first_of (address_of labels u) (elim (same l.spelling u) [ true ↦ some l.address | false ↦ none ])
-unfolding address_of find first_of addressed
-address-last [] l u = go (same l.spelling u)
-  where
-    go : (v : Bool) → addressed (elim v [ true ↦ some l | false ↦ none ]) ≡ elim v [ true ↦ some l.address | false ↦ none ]
-    go true = refl
-    go false = refl
-address-last (k ∷ labels) l u = go (same k.spelling u) (address-last labels l u)
-  where
-    last : Option ℕ
-    last = elim (same l.spelling u) [ true ↦ some l.address | false ↦ none ]
-
-    go : (v : Bool) → address_of (labels ++ (l ∷ [])) u ≡ first_of (address_of labels u) last
-        → addressed (elim v [ true ↦ some k | false ↦ find (λ m. same m.spelling u) (labels ++ (l ∷ [])) ])
-        ≡ first_of (addressed (elim v [ true ↦ some k | false ↦ find (λ m. same m.spelling u) labels ])) last
+    go : (v : Bool) → address known ≡ first_address (map addressed labels) u
+        → address (elim v [ true ↦ some l | false ↦ known ]) ≡ elim v [ true ↦ some l.address | false ↦ first_address (map addressed labels) u ]
     go true h = refl
     go false h = h
 
+-- and so do the lines that they are on.
+address-in-first : (words : ℕ) (rs : List Read) (u : List ℕ) → address_in words rs u ≡ first_address (labels_in words rs) u
+unfolding address_in is_labelled first_address labels_in own_label
+address-in-first words [] u = refl
+address-in-first words (r ∷ rs) u = go r.label (address-in-first later rs u)
+  where
+    later : ℕ
+    later = words + words_of r.effect
+
+    go : (o : Option (List ℕ)) → address_in later rs u ≡ first_address (labels_in later rs) u
+        → ◌≡◌ {A = Option ℕ} (elim (is_labelled (record { label = o; effect = r.effect }) u) [ true ↦ some (address_after words) | false ↦ address_in later rs u ])
+        (first_address (own_label words o ++ labels_in later rs) u)
+    go none h = h
+    go (some s) h = ap (λ (x : Option ℕ). elim (same s u) [ true ↦ some (address_after words) | false ↦ x ]) h
+
+-- Lines with the same labels have the same addresses.
+pub same-addresses : (words : ℕ) (rs rs' : List Read) → labels_in words rs ≡ labels_in words rs' → address_in words rs ≡ address_in words rs'
+same-addresses words rs rs' e =
+    fun_ext (λ u. address-in-first words rs u ∙ ap (λ (ls : List (List ℕ × ℕ)). first_address ls u) e ∙ sym (address-in-first words rs' u))
+
 -- ---- a line
 
--- What a line's label leads to: words and settings stay, and the label's address is known from then on.
+-- What a line's label leads to: words and settings stay, and the label is the last one.
 record Enters (st : State) (label : Option (List ℕ)) (st' : State) : Type 0 where
   words : st'.words ≡ st.words
   setup : st'.setup ≡ st.setup
-  addresses : (u : List ℕ) → address_of st'.labels u ≡ first_of (address_of st.labels u) (own_address st.words label u)
+  labels : map addressed st'.labels ≡ map addressed st.labels ++ own_label st.words label
 
 abbrev EntersIf : State → Option (List ℕ) → Step → Type 0
 EntersIf st label (next st') = Enters st label st'
 EntersIf st label (stop n st') = Unit {0}
 
 enters : (room : ℕ) (st : State) (at : ℕ) (label : Option (List ℕ)) → EntersIf st label (entering room st at label)
-unfolding entering enter with_label own_address
-enters room st at none = record { words = refl; setup = refl; addresses = λ u. sym (first-none (address_of st.labels u)) }
+unfolding entering enter with_label own_label
+enters room st at none = record { words = refl; setup = refl; labels = sym (append-nil (map addressed st.labels)) }
 enters room st at (some s) = go (is_known st.labels s) (ltb (length st.labels) room)
   where
     entered : Enters st (some s) (with_label st at s)
-    entered = record { words = refl; setup = refl; addresses = λ u. address-last st.labels _ u }
+    entered = record { words = refl; setup = refl; labels = map-append addressed st.labels (record { spelling = s; start = at; address = address_after st.words } ∷ []) }
 
     go : (v w : Bool) → EntersIf st (some s) (elim v [ true ↦ stop 4 st | false ↦ elim w [ true ↦ next (with_label st at s) | false ↦ stop 5 st ] ])
     go true w = tt
@@ -154,29 +148,25 @@ does st (faulty n) = tt
 pub record Leads (st : State) (rs : List Read) (st' : State) : Type 0 where
   pub words : st'.words ≡ st.words + words_in rs
   pub setup : st'.setup ≡ settings_in st.setup rs
-  pub addresses : (u : List ℕ) → address_of st'.labels u ≡ first_of (address_of st.labels u) (address_in st.words rs u)
+  pub labels : map addressed st'.labels ≡ map addressed st.labels ++ labels_in st.words rs
   pub few : st.words ≤ 32768 → st'.words ≤ 32768
 
 leads-none : (st : State) → Leads st [] st
-unfolding words_in settings_in address_in
-leads-none st = record { words = sym (add-zero st.words); setup = refl; addresses = λ u. sym (first-none (address_of st.labels u)); few = λ h. h }
+unfolding words_in settings_in labels_in
+leads-none st = record { words = sym (add-zero st.words); setup = refl; labels = sym (append-nil (map addressed st.labels)); few = λ h. h }
 
 -- A line that goes on, and those that follow it.
 leads-on : (st st₁ st₂ st' : State) (r : Read) (rs : List Read) → Enters st r.label st₁ → Does st₁ r.effect st₂ → Leads st₂ rs st' → Leads st (r ∷ rs) st'
-unfolding words_in settings_in
+unfolding words_in settings_in labels_in
 leads-on st st₁ st₂ st' r rs a b c =
     let w : st₂.words ≡ st.words + words_of r.effect = b.words ∙ ap (λ (n : ℕ). n + words_of r.effect) a.words in
     let s : st₂.setup ≡ changed_by st.setup r.effect = b.setup ∙ ap (λ (x : Settings). changed_by x r.effect) a.setup in
     record {
       words = c.words ∙ ap (λ (n : ℕ). n + words_in rs) w ∙ add_assoc st.words (words_of r.effect) (words_in rs);
       setup = c.setup ∙ ap (λ (x : Settings). settings_in x rs) s;
-      addresses = λ u.
-          let own = own_address st.words r.label u in
-          c.addresses u
-          ∙ ap (λ (n : ℕ). first_of (address_of st₂.labels u) (address_in n rs u)) w
-          ∙ ap (λ (x : Option ℕ). first_of x (address_in (st.words + words_of r.effect) rs u)) (ap (λ (x : List Label). address_of x u) b.labels ∙ a.addresses u)
-          ∙ first-assoc (address_of st.labels u) own (address_in (st.words + words_of r.effect) rs u)
-          ∙ ap (first_of (address_of st.labels u)) (sym (address-first st.words r rs u));
+      labels = c.labels
+          ∙ ap₂ (λ (x : List (List ℕ × ℕ)) (n : ℕ). x ++ labels_in n rs) (ap (map addressed) b.labels ∙ a.labels) w
+          ∙ append_assoc (map addressed st.labels) (own_label st.words r.label) (labels_in (st.words + words_of r.effect) rs);
       few = λ h. c.few (b.few (omega (arith, a.words)));
     }
 
@@ -243,10 +233,15 @@ module _ (names : List Name) (source : List ℕ) (room : ℕ) (st : State) (e : 
   unfolding settings_of start
   finished-setup = finished-leads.setup
 
-  -- and each label's address is the one that its line has in the source.
+  -- the labels are those of its lines,
+  pub finished-labels : map addressed st.labels ≡ labels_in 0 (reads names source)
+  unfolding start
+  finished-labels = finished-leads.labels
+
+  -- and each has the address that its line has in the source.
   pub finished-addresses : (u : List ℕ) → address_of st.labels u ≡ address_in 0 (reads names source) u
-  unfolding start address_of find first_of
-  finished-addresses = finished-leads.addresses
+  finished-addresses u =
+      address-of-first st.labels u ∙ ap (λ (ls : List (List ℕ × ℕ)). first_address ls u) finished-labels ∙ sym (address-in-first 0 (reads names source) u)
 
 -- ---- an accepted source
 
@@ -254,6 +249,7 @@ pub record Means (names : List Name) (source : List ℕ) (st : State) : Type 0 w
   pub words : st.words ≡ length (instructions_of names source)
   pub setup : st.setup ≡ settings_of names source
   pub few : st.words ≤ 32768
+  pub labels : map addressed st.labels ≡ labels_in 0 (reads names source)
   pub addresses : (u : List ℕ) → address_of st.labels u ≡ address_in 0 (reads names source) u
   pub no-fault : fault_in (reads names source) ≡ none
 
@@ -273,6 +269,7 @@ means-read names source room (finished st) e = go (fault_in (reads names source)
           words = finished-words names source room st e;
           setup = finished-setup names source room st e;
           few = finished-few names source room st e;
+          labels = finished-labels names source room st e;
           addresses = finished-addresses names source room st e;
           no-fault = h;
         }

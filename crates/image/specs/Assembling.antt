@@ -64,6 +64,10 @@ enter room st at s =
 pub record Context : Type 0 where
   pub setup : Settings
 
+-- What a source's first line is read by.
+abbrev pub first_context : Context
+first_context = record { setup = begin }
+
 -- What a line does, its label aside.
 pub data Effect : Type 0 where
   nothing : Effect
@@ -122,7 +126,7 @@ reads_from names c (l ∷ ls) = read_on c (read_line names l) ∷ reads_from nam
 
 -- The lines of a source, in order: the first is line 1.
 unfoldable pub reads : List Name → List ℕ → List Read
-reads names source = reads_from names (record { setup = begin }) (lines source)
+reads names source = reads_from names first_context (lines source)
 
 -- ---- what a line leads to
 

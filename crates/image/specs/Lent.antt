@@ -28,6 +28,10 @@ unfoldable pub entered : Assembled → List Label
 entered (accepted st) = st.labels
 entered (rejected r) = r.labels
 
+-- Labels by spelling and address: where they start in a source is another matter.
+abbrev pub addressed : Label → List ℕ × ℕ
+addressed l = (l.spelling, l.address)
+
 -- After a refusal the image buffer holds what it held before (demand 1).
 unfoldable pub image_after : List Name → List ℕ → Assembled → List ℕ → List ℕ
 image_after names source (accepted st) old = over (image_of names source) old

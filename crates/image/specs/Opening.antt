@@ -6,7 +6,7 @@ use Rattle.text_lexical.specs.Bytes.{Result, value, refused}
 use Rattle.image.specs.Settings.{settings_fault}
 use Rattle.image.specs.Program.{Header, magic, version, header_size, header_of, code_of, data_of}
 
--- The parts, and where the code ends, which begins behind the header; the data fill the rest.
+-- The parts, and where the code ends, which begins after the header; the data fill the rest.
 pub record Opened : Type 0 where
   pub header : Header
   pub code_end : ℕ

@@ -85,10 +85,10 @@ header_of b =
       stack_size = number_at 28 4 b;
     }
 
--- The code part: so many bytes behind the header as its code size says.
+-- The code part: so many bytes after the header as its code size says.
 unfoldable pub code_of : List ℕ → List ℕ
 code_of b = take (header_of b).code_size (drop header_size b)
 
--- The data part: the bytes behind the code.
+-- The data part: the bytes after the code.
 unfoldable pub data_of : List ℕ → List ℕ
 data_of b = drop (header_size + (header_of b).code_size) b

@@ -41,6 +41,6 @@ header_meant h =
       stack_size = h.stack_size;
     }
 
--- The parts stand where the answer says: the code from 32 to its end, the data behind it.
+-- The parts stand where the answer says: the code from 32 to its end, the data after it.
 abbrev pub opened_meant : List ℕ → Opened → MeantOpened
 opened_meant b o = record { header = header_meant o.header; code_end = o.code_end; code = take (o.code_end - 32) (drop 32 b); initialized = drop o.code_end b }

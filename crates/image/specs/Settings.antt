@@ -75,6 +75,6 @@ configured_with s [] = refused 6
 configured_with s (key ∷ []) = refused 6
 configured_with s (key ∷ v ∷ ts) = configured_by s key v
 
--- The settings behind a `.config` line: "6 `.config` line not of three tokens".
+-- The settings after a `.config` line: "6 `.config` line not of three tokens".
 unfoldable pub configured : Settings → Line → Result Settings
 configured s l = elim (eqb l.count 3) [ true ↦ configured_with s (drop 1 l.first) | false ↦ refused 6 ]

@@ -99,7 +99,5 @@ pub fn parse_config(source: &[u8], line: &Line, config: Config) -> Result<Config
     };
     let value = line.tokens[2];
     let whole = text::parser::extract_number(value.kind)?;
-    let start = key.start;
-    let end = start + key.length;
-    set_field(config, &source[start..end], whole.residue(0xFF) as u8)
+    set_field(config, key.spelling(source), whole.residue(0xFF) as u8)
 }

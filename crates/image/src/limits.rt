@@ -10,7 +10,7 @@ pub const MOST_WORDS: usize = 32768;
 // The bytes of a word.
 pub const WORD_SIZE: usize = 4;
 
-// The bytes that so many words take.
+// The bytes that so many words take, as `code_size` has it: a constant calls no function.
 pub const MOST_CODE: u32 = (WORD_SIZE * MOST_WORDS) as u32;
 
 // The bytes of a header, where an image's code begins.

@@ -56,7 +56,7 @@ pub fn address_after(words: usize) -> u64
     requires { words ≤ most_words }
     ensures { result ≡ address_after words }
 {
-    u64::from(ENTRY) + (WORD_SIZE * words) as u64
+    u64::from(ENTRY) + code_size(words) as u64
 }
 
 // Puts the header of a program with settings and a size of code. Entry and stack size are fixed byte strings, as document 01 names that
@@ -115,7 +115,7 @@ fn read_header(image: &[u8]) -> ProgramHeader
 }
 
 impl ProgramHeader {
-    // What a header alone can be refused for.
+    // Magic, version and settings, as the Rust's function of that name has it (25, 26, 10 to 13).
     #[tactic(auto, unfolding(crate::specs::Opening::header_fault, crate::specs::Program::magic, crate::specs::Program::version))]
     fn validate(self) -> Result<(), Refusal>
         ensures { fault_of result ≡ header_fault (header_meant self) }

@@ -17,7 +17,6 @@ use Rattle.text_lexical.specs.Bytes.{same, find, is_some}
 use Rattle.text_lexical.specs.Names.{Name}
 use Rattle.refusal.specs.Refusals.{fault_of}
 use Rattle.text_lexical.proofs.Tests.{by-test}
-use Rattle.text.specs.NameSets.{Naming}
 use Rattle.image.specs.Assembling.{is_known, address_of, reads, Fault, fault_in, most_bytes}
 use Rattle.image.specs.Assembling.{Label as Meant}
 use Rattle.image.specs.Lent.{over}
@@ -158,9 +157,9 @@ module _ {old : Labels} (x : Starts old) where
 
 -- ---- how it reads on
 
-module _ {names : List Name} {old now : Labels} {c : Cursor} (ok : Naming names) (w : Walking names old now c) where
+module _ {names : List Name} {old now : Labels} {c : Cursor} (w : Walking names old now c) where
   progress : {p : Pass} → ReadsOn names old.source.now c p → LabelsSince old now (λ ls. Progress names old.source.now (length old.table.now) ls p)
-  progress r = standing (λ ls h. reads-stand ok r w.sound (length old.table.now) ls h) w.entered
+  progress r = standing (λ ls h. reads-stand r w.sound (length old.table.now) ls h) w.entered
 
   -- To a label,
   pub walking-label : {p : LabelLine} → ReadsOn names old.source.now c (AtLabel p) → Stopping names old now p

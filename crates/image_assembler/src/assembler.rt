@@ -1,4 +1,4 @@
-// Assembling: the first walk enters the labels, the second checks those that instructions name, if any does, and then writes the image.
+// Assembling: the first walk enters the labels; the second writes the image, and runs once before that, as a check, if an instruction names one.
 ghost use Rattle.std.specs.Prelude.{◌≡◌};
 ghost use Rattle.text_lexical.specs.Names.{present};
 ghost use Rattle.image_labels.specs.Tree.{Bare};
@@ -82,8 +82,7 @@ fn walk(labels: &mut Labels) -> Verdict
 }
 
 // Reads a source: all its lines, and then the labels that they name. It answers all refusals but 1, which `assemble` asks first, and
-// 23, and wants no image buffer. The labels
-// stay linked.
+// 23, and wants no image buffer. The labels stay linked.
 fn resolve(labels: &mut Labels) -> Verdict
     requires { Starts labels.old }
     ensures { Resolves present labels.old labels.new result }

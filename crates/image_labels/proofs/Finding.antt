@@ -28,7 +28,7 @@ use Rattle.image_labels.specs.declared.tree.Stage.TheVariants.{At, Known, Missin
 use Rattle.image_labels.specs.declared.tree.Search.{Search}
 use Rattle.image_labels.specs.declared.label.Gap.{Gap}
 use Rattle.image_labels.specs.Promised.{InText, spelled, no_label, any_named, index_of, address_at, room_for, Enters}
-use Rattle.image_labels.specs.Tree.{plain, unlinked, place_before, child_number, link_number, link, child_bits, linked, hash_of, first_path, advanced, branch_of, key_of, hits, slot_of, root_of, with_root, span, first_stage, begun, sought, visited, gap_of, found_of, Finds, here, there, Tree, TreeAfter, Enterable, addressed, with_parent, joined, rooted_in, Gaps, Finding, Visitable}
+use Rattle.image_labels.specs.Tree.{plain, unlinked, place_before, child_number, link_number, link, child_bits, linked, hash_of, first_path, advanced, branch_of, key_of, hits, slot_of, root_of, with_root, span, first_stage, begun, sought, visited, gap_of, found_of, Finds, here, there, Tree, TreeAfter, Enterable, keyed, with_parent, joined, rooted_in, Gaps, Finding, Visitable}
 use Rattle.image_labels.proofs.Hashing.{slot-inside, parity, child-number-odd, child-bits-odd, child-number-even, child-bits-even, link-low, linked-low, link-high, linked-high, visited-hit, visited_on}
 use Rattle.image_labels.proofs.Roots.{with-root-empty, with-root-same, with-root-long, with-root-new, with-root-kept, with-root-rooted}
 use Rattle.image_labels.proofs.Named.{spelled-long, index_at, index-none, index-names, any-index, address-in, address-index, enters-known, enters-new, enters-full, has-room, no-room}
@@ -265,7 +265,7 @@ module _ (s : List ℕ) (t : List Label) (n : ℕ) where
 
 -- The entry of a label of a spelling.
 unfoldable entry_for : List ℕ → Label → Label
-entry_for u l = record { start = l.start; length = key_of u; address = l.address }
+entry_for u l = keyed l (key_of u)
 
 module _ (s : List ℕ) (t : List Label) (roots : List ℕ) (n : ℕ) (l : Label) (tree : Tree s t roots n) (ok : Enterable s n l) where
   abbrev u : List ℕ
@@ -559,14 +559,15 @@ module _ (s : List ℕ) (t : List Label) (roots : List ℕ) (n : ℕ) (l : Label
           at i = split i (suc n) (upto i) (λ h. unlinked-past (suc n) t' i h ∙ m.later i (omega arith) ∙ sym (get_or-set_other (unlinked n t) n i l no_label (λ x. omega arith) ∙ unlinked-past n t i (omega arith)))
 
     -- What the search comes to then.
-    gap_is : (q : Search) → q.bucket ≡ slot_of (hash_of u) (length roots) → addressed (gap_of q p) l.address ≡ entry_for u l → Gaps s t roots n l (gap_of q p)
+    gap_is : (q : Search) → q.bucket ≡ slot_of (hash_of u) (length roots) → q.key ≡ key_of u → Gaps s t roots n l (gap_of q p)
+    unfolding entry_for
     gap_is q b e =
         record {
           bucket_is = b;
           parent_inside = parent-there lost;
           roots_are = ap (λ (k : ℕ). rooted_in roots n k p) b ∙ rooted-there lost;
-          tree = λ room. subst (λ (v : Label). Tree s (joined t n v p) roots' (suc n)) (sym e) (is-tree room (joins room lost));
-          holds = λ room. subst (λ (v : Label). unlinked (suc n) (joined t n v p) ≡ set (unlinked n t) n l) (sym e) (holds room (joins room lost));
+          tree = λ room. subst (λ (k : ℕ). Tree s (joined t n (keyed l k) p) roots' (suc n)) (sym e) (is-tree room (joins room lost));
+          holds = λ room. subst (λ (k : ℕ). unlinked (suc n) (joined t n (keyed l k) p) ≡ set (unlinked n t) n l) (sym e) (holds room (joins room lost));
         }
 
 -- What a search that has ended comes to. A search for a part of the source is one for a label there, at whatever address.
@@ -575,10 +576,7 @@ module _ (s : List ℕ) (t : List Label) (roots : List ℕ) (n start long : ℕ)
   labelled a = record { start = start; length = long; address = a }
 
   placed : {p : Maybe Parent} → Lost s t roots n (spelled s (span start long)) p → (a : ℕ) → a < 2097152 → Gaps s t roots n (labelled a) (gap_of q p)
-  unfolding entry_for
-  placed lost a h =
-      gap_is s t roots n (labelled a) tree (record { in_text = ok.in_text; short = ok.short; few = ok.few; near = h }) lost q k.bucket_is
-      (ap₂ (λ (b m : ℕ). record { start = b; length = m; address = a }) k.start-is k.key-is)
+  placed lost a h = gap_is s t roots n (labelled a) tree (record { in_text = ok.in_text; short = ok.short; few = ok.few; near = h }) lost q k.bucket_is k.key-is
 
   pub seek-end : ((i : ℕ) → q.stage ≡ At i → ⊥) → Finding s t roots n start long (found_of q)
   unfolding found_of
@@ -631,10 +629,7 @@ module _ {s : List ℕ} {t : List Label} {roots : List ℕ} {n : ℕ} {l : Label
     pub bucket-inside : 0 < length roots → g.bucket < length roots
     bucket-inside h = rw gaps.bucket_is (slot-inside (hash_of (spelled s l)) (length roots) h)
 
-    module _ {e : Label} (made : e ≡ addressed g l.address) {t' : List Label} (stored : t' ≡ set t n e) where
-      stored_is : t' ≡ set t n (addressed g l.address)
-      stored_is = stored ∙ ap (set t n) made
-
+    module _ {t' : List Label} (stored : t' ≡ set t n (keyed l g.key)) where
       -- There is no room,
       pub enter-full : {r : Refusal} → room_for n t ≡ Err r → Enters s (unlinked n t) n l (unlinked n t') (Err r)
       enter-full {r} f =
@@ -642,12 +637,12 @@ module _ {s : List ℕ} {t : List Label} {roots : List ℕ} {n : ℕ} {l : Label
           let full : length t ≤ n = ltb-false n (length t) no.0 in
           subst (λ (x : Refusal). Enters s (unlinked n t) n l (unlinked n t') (Err x)) no.1
           (enters-full s (unlinked n t) n l unnamed (unlinked n t')
-          (ap (unlinked n) (stored_is ∙ set_out t n (addressed g l.address) full) ∙ sym (set_out (unlinked n t) n l (rw (unlinked-long n t) full))) (rw (unlinked-long n t) no.0))
+          (ap (unlinked n) (stored ∙ set_out t n (keyed l g.key) full) ∙ sym (set_out (unlinked n t) n l (rw (unlinked-long n t) full))) (rw (unlinked-long n t) no.0))
 
       -- or the label is entered, with its parent or as a root.
       module _ {u : ⊤} (room : room_for n t ≡ Ok u) {p : Maybe Parent} (is : g.parent ≡ p) where
-        joined_is : with_parent t' p ≡ joined t n (addressed g l.address) g.parent
-        joined_is = ap₂ with_parent stored_is (sym is)
+        joined_is : with_parent t' p ≡ joined t n (keyed l g.key) g.parent
+        joined_is = ap₂ with_parent stored (sym is)
 
         pub enter-new : Enters s (unlinked n t) n l (unlinked (n + 1) (with_parent t' p)) (Ok tt)
         enter-new =

@@ -1,5 +1,5 @@
 -- The branches of an entry, a spelling's hash and its path, and what a search behind an entry is.
-use Prim.Native.Nat.{ℕ, zero, suc, ◌+◌, ◌-◌, ◌*◌, ◌/◌, ◌%◌, ◌≤◌, ◌<◌}
+use Prim.Native.Nat.{ℕ, zero, suc, ◌+◌, ◌*◌, ◌/◌, ◌%◌, ◌≤◌, ◌<◌}
 use mathlib.Core.Path.{◌≡◌, refl, sym, ap, ◌∙◌}
 use native.Mathlib.Omega.{arith}
 use native.Mathlib.Nat.{mul-le-mul}
@@ -16,9 +16,7 @@ use Rattle.image_labels.specs.declared.label.Label.{Label}
 use Rattle.image_labels.specs.declared.tree.Digest.{Digest}
 use Rattle.image_labels.specs.declared.tree.Stage.TheVariants.{Known}
 use Rattle.image_labels.specs.declared.tree.Search.{Search}
-use Rattle.image_labels.specs.Promised.{spelled}
 use Rattle.image_labels.specs.Tree.{child_number, link_number, link, child_bits, linked, mixed, packed_bytes, hash_from, no_hash, hash_of, slot_of, branch_of, hits, sought, ended_at, passed, visited}
-use Rattle.image_labels.proofs.Named.{part-is}
 
 -- ---- the branches
 
@@ -103,15 +101,11 @@ hash-threes-done h [] i f = rw drop-nil refl
 hash-threes-done h (w ∷ ws) zero f = absurd (omega arith)
 hash-threes-done h (w ∷ ws) (suc i) f = hash-threes-done h ws i (omega arith)
 
-module _ (s : List ℕ) (l : Label) where
-  abbrev cut : List ℕ
-  cut = take (l.start + l.length - l.start) (drop l.start s)
-
-  -- All of them.
-  pub hash-all : {threes : List (List ℕ)} {rest : List ℕ} → threes ≡ first_chunks 3 (length cut / 3) cut → rest ≡ drop (length cut / 3 * 3) cut
-      → mixed (hash_from (hash_threes no_hash threes) rest) 0 ≡ hash_of (spelled s l)
-  unfolding hash_of
-  hash-all e f = rw (e, f, hash-chunks (length cut / 3) no_hash cut (omega arith), part-is s l.start l.length)
+-- All of them.
+pub hash-all : (u : List ℕ) {threes : List (List ℕ)} {rest : List ℕ} → threes ≡ first_chunks 3 (length u / 3) u → rest ≡ drop (length u / 3 * 3) u
+    → mixed (hash_from (hash_threes no_hash threes) rest) 0 ≡ hash_of u
+unfolding hash_of
+hash-all u e f = rw (e, f, hash-chunks (length u / 3) no_hash u (omega arith))
 
 module _ (h : Digest) where
   -- The last bytes by themselves.

@@ -1,5 +1,5 @@
 -- Whether some labels have a spelling, the address of the one that has it, and entering a label behind them.
-use Prim.Native.Nat.{ℕ, zero, suc, ◌+◌, ◌-◌, ◌<◌}
+use Prim.Native.Nat.{ℕ, zero, suc, ◌<◌}
 use Rattle.std.specs.Prelude.{⊤, Result, Ok, Err}
 use mathlib.Core.Path.{◌≡◌, refl, sym, ap, subst, ◌∙◌}
 use mathlib.Core.Option.{Option, none, some}
@@ -17,10 +17,6 @@ use Rattle.image_labels.specs.declared.label.Label.{Label}
 use Rattle.image.specs.Assembling.{address_of}
 use Rattle.image.specs.Assembling.{Label as Meant}
 use Rattle.image_labels.specs.Promised.{entry_of, InText, spelled, no_label, any_named, index_of, address_at, entry_fault, room_for, Enters, Spelled}
-
--- A part with a computed end.
-pub part-is : (s : List ℕ) (a n : ℕ) → take (a + n - a) (drop a s) ≡ take n (drop a s)
-part-is s a n = let e : a + n - a ≡ n = omega arith in ap (λ (m : ℕ). take m (drop a s)) e
 
 -- A spelling is as long as its label says.
 pub spelled-long : (s : List ℕ) (l : Label) → InText s l → length (spelled s l) ≡ l.length

@@ -185,7 +185,7 @@ visited s q at e =
 
 -- What a search that has ended comes to.
 abbrev pub gap_of : Search → Maybe Parent → Gap
-gap_of q parent = record { bucket = q.bucket; entry = record { start = q.start; length = q.key; address = 0 }; parent = parent }
+gap_of q parent = record { bucket = q.bucket; key = q.key; parent = parent }
 
 unfoldable pub found_of : Search → Result ℕ Gap
 found_of q = elim q.stage [ Known i ↦ Ok i | At i ↦ Err (gap_of q None) | Missing parent ↦ Err (gap_of q parent) ]
@@ -222,9 +222,9 @@ pub record Enterable (s : List ℕ) (n : ℕ) (l : Label) : Type 0 where
   pub few : n ≤ 1048576
   pub near : l.address < 2097152
 
--- The entry of a gap's label, with an address.
-abbrev pub addressed : Gap → ℕ → Label
-addressed g a = record { start = g.entry.start; length = g.entry.length; address = a }
+-- A label's entry, which holds a key for its length.
+abbrev pub keyed : Label → ℕ → Label
+keyed l key = record { start = l.start; length = key; address = l.address }
 
 -- A table whose parent entry, if there is one, has got its child.
 abbrev pub with_parent : List Label → Maybe Parent → List Label
@@ -245,8 +245,8 @@ pub record Gaps (s : List ℕ) (t : List Label) (roots : List ℕ) (n : ℕ) (l 
   pub bucket_is : g.bucket ≡ slot_of (hash_of (spelled s l)) (length roots)
   pub parent_inside : (p : Parent) → g.parent ≡ Some p → p.place < n
   pub roots_are : rooted_in roots n g.bucket g.parent ≡ with_root roots n (spelled s l)
-  pub tree : n < length t → Tree s (joined t n (addressed g l.address) g.parent) (with_root roots n (spelled s l)) (suc n)
-  pub holds : n < length t → unlinked (suc n) (joined t n (addressed g l.address) g.parent) ≡ set (unlinked n t) n l
+  pub tree : n < length t → Tree s (joined t n (keyed l g.key) g.parent) (with_root roots n (spelled s l)) (suc n)
+  pub holds : n < length t → unlinked (suc n) (joined t n (keyed l g.key) g.parent) ≡ set (unlinked n t) n l
 
 abbrev pub index_meant : Result ℕ Gap → Option ℕ
 index_meant (Ok i) = some i

@@ -4,7 +4,7 @@
 ghost use Rattle.std.specs.Prelude.{◌≡◌, ◌+◌, ◌/◌, ◌%◌, ◌≤◌, ◌<◌, length, set};
 ghost use Rattle.text_lexical.specs.Bytes.{same};
 ghost use Rattle.image_labels.specs.Promised.{InText, spelled};
-ghost use Rattle.image_labels.specs.Tree.{plain as plain_of, child_number, place_before as before, link as link_of, child_bits, linked as linkedOf, mixed, packed_bytes, hash_of, advanced, hits as hitsOf, Rootable, slot_of, first_stage as first_stage_of, begun, found_of, span, addressed as addressed_at, visited, Enterable, Visitable};
+ghost use Rattle.image_labels.specs.Tree.{plain as plain_of, child_number, place_before as before, link as link_of, child_bits, linked as linkedOf, mixed, packed_bytes, hash_of, advanced, hits as hitsOf, Rootable, slot_of, first_stage as first_stage_of, begun, found_of, span, visited, Enterable, Visitable};
 
 use crate::label::{Gap, Label};
 
@@ -173,7 +173,7 @@ fn mix(hash: Digest, bytes: u64) -> Digest
     }
 }
 
-// Three bytes as one number, the first byte lowest.
+// Three bytes as one number, the first byte lowest: the library has this for two bytes and for four.
 #[tactic(auto, unfolding(crate::specs::Tree::packed_bytes))]
 fn pack_bytes(bytes: [u8; 3]) -> u64
     ensures value { result ≡ packed_bytes bytes }
@@ -182,13 +182,20 @@ fn pack_bytes(bytes: [u8; 3]) -> u64
     u64::from(bytes[0]) + 256 * u64::from(bytes[1]) + 65536 * u64::from(bytes[2])
 }
 
+// The part of the source at `start`, of `length` bytes.
+fn part(source: &[u8], start: usize, length: usize) -> &[u8]
+    requires { InText source.now (span start «length») }
+    ensures { result.now ≡ spelled source.now (span start «length») }
+{
+    &source[start..start + length]
+}
+
 // The hash of a part of the source.
 fn hash(source: &[u8], start: usize, length: usize) -> Digest
     requires { InText source.now (span start «length») }
     ensures { result ≡ hash_of (spelled source.now (span start «length»)) }
 {
-    let end = start + length;
-    let (chunks, rest) = source[start..end].as_chunks::<3>();
+    let (chunks, rest) = part(source, start, length).as_chunks::<3>();
     let mut hash = Digest {
         first: 11400714819323198485,
         second: 13787848793156543929,
@@ -250,10 +257,8 @@ fn hits(source: &[u8], entry: Label, key: usize, start: usize, length: usize) ->
         return false;
     }
     // The entry's spelling has `length` bytes too, since the key holds them.
-    let own_start = plain(entry).start;
-    let own_end = own_start + length;
-    let end = start + length;
-    text_lexical::bytes::same(&source[own_start..own_end], &source[start..end])
+    let own = part(source, plain(entry).start, length);
+    text_lexical::bytes::same(own, part(source, start, length))
 }
 
 // The place of a hash among so many: 32 bits of it, in proportion.
@@ -277,7 +282,8 @@ fn first_stage(root: Option<usize>) -> Stage
     }
 }
 
-// A search for a part of the source as a label after `count` others.
+// A search for a part of the source as a label after `count` others, compiled in line as `label::Labels::find` is.
+#[inline(always)]
 pub(crate) fn begin(
     source: &[u8],
     roots: &[u32],
@@ -352,8 +358,7 @@ pub(crate) fn visit(source: &[u8], search: Search, at: usize, entry: Label) -> S
     }
 }
 
-// What a search that has ended comes to. The entry of a gap has the address 0 until `addressed` gives it one, since who finds a gap does not
-// know the address: an `Option` in its place, or a type of an entry without one, would be for this step alone.
+// What a search that has ended comes to.
 #[tactic(auto, unfolding(crate::specs::Tree::found_of))]
 pub(crate) fn found(search: Search) -> Result<usize, Gap>
     ensures { result ≡ found_of search }
@@ -364,24 +369,9 @@ pub(crate) fn found(search: Search) -> Result<usize, Gap>
         Stage::At(_) => None,
         Stage::Missing(parent) => parent,
     };
-    let entry = Label {
-        start: search.start,
-        length: search.key,
-        address: 0,
-    };
     Err(Gap {
         bucket: search.bucket,
-        entry,
+        key: search.key,
         parent,
     })
-}
-
-// The entry of a gap's label, with an address.
-pub(crate) fn addressed(gap: Gap, address: u64) -> Label
-    ensures { result ≡ addressed_at gap address }
-{
-    Label {
-        address,
-        ..gap.entry
-    }
 }

@@ -12,13 +12,13 @@ use lib.Dec.{eqb}
 use borrow.Author.Tests.{eqb-true}
 use Rattle.std.specs.Prelude.{Ok}
 use Rattle.text_lexical.specs.Bytes.{Result, value, refused, lower}
-use Rattle.text.specs.Tokens.{Token, identifier, register, number, hex, binary, directive, comma, colon, opening, closing}
+use Rattle.text.specs.Tokens.{Token, identifier, comma}
 use Rattle.text.specs.Values.{read_number}
 use Rattle.text.specs.Lines.{kept}
 use Rattle.text.specs.Lines.{Line as Record}
 use Rattle.text.specs.Promised.{meant, filler, firsts}
 use Rattle.text.specs.declared.parser.Line.{Line}
-use Rattle.instruction.specs.Table.{Place, reg, num, mark, Form, R, I, Shift, Load, Store, Branch, Jump, System, places, Row, row_named}
+use Rattle.instruction.specs.Table.{Place, reg, num, mark, Form, Branch, Jump, places, Row, row_named}
 use Rattle.instruction.specs.Operands.{exactly, to, takes_label, read_identifier, read_register, mark_byte, read_exactly, read_amount, DraftOperands, no_operands, with_register, with_amount, separator_byte, separator_refusal, read_place, read_operands, made, read_row, read_mnemonic, read_instruction, behind}
 use Rattle.instruction.specs.Operands.{Amount as MeantAmount, Draft as MeantDraft}
 use Rattle.instruction.specs.Promised.{row_of, spelled_in, amount_meant, amount_for, amount_back, draft_meant, label_start}
@@ -45,15 +45,7 @@ label-read : (label : Bool) (t : Token) (u : List ℕ) → read_amount label t �
 unfolding read_amount read_identifier
 label-read false t u e = not-exact t u e
 label-read true (identifier v) u e = (refl, cc)
-label-read true (register r) u e = not-exact (register r) u e
-label-read true (number z) u e = not-exact (number z) u e
-label-read true (hex n) u e = not-exact (hex n) u e
-label-read true (binary n) u e = not-exact (binary n) u e
-label-read true (directive v) u e = not-exact (directive v) u e
-label-read true comma u e = not-exact comma u e
-label-read true colon u e = not-exact colon u e
-label-read true opening u e = not-exact opening u e
-label-read true closing u e = not-exact closing u e
+label-read true t u e = not-exact t u e
 
 -- ---- it is the last operand
 
@@ -69,12 +61,7 @@ number-ends : (f : Form) → takes_label f ≡ true → NumberEnds (places f)
 unfolding places NumberEnds
 number-ends Branch h = refl
 number-ends Jump h = refl
-number-ends R h = cc
-number-ends I h = cc
-number-ends Shift h = cc
-number-ends Load h = cc
-number-ends Store h = cc
-number-ends System h = cc
+number-ends f h = cc
 
 abbrev LastIs : List Token → List ℕ → Type 0
 LastIs ts u = (0 < length ts) × (get_or ts (length ts - 1) comma ≡ identifier u)

@@ -21,7 +21,7 @@ use Rattle.text_lexical.specs.declared.name.RegisterName.TheVariants.{Is, NoSuch
 use Rattle.text_lexical.proofs.Keys.{Below, lowered-below}
 use Rattle.text_lexical.proofs.Tests.{split, no_both}
 use Rattle.text_lexical.proofs.Strings.{same-eq, found}
-use Rattle.text.specs.Tokens.{Token, identifier, register, number, hex, binary, directive, comma, colon, opening, closing, infront, tokens}
+use Rattle.text.specs.Tokens.{Token, identifier, colon, infront, tokens}
 use Rattle.text.specs.Lines.{Line, kept, line_of, record_of, read_line}
 use Rattle.text.specs.NameSets.{Naming}
 use Rattle.text.specs.Places.{rest_at, left_at, end_at, Uncut, StartsAt}
@@ -29,7 +29,7 @@ use Rattle.text.specs.declared.lexer.Kind.TheVariants.{Identifier}
 use Rattle.text.proofs.Left.{start-solid, uncut_on}
 use Rattle.text.proofs.Fronts.{run_in, word_at}
 use Rattle.text.proofs.Stepping.{solid-step}
-use Rattle.instruction.specs.Table.{reg, Form, R, I, Shift, Load, Store, Branch, Jump, System, places, row, table, row_named}
+use Rattle.instruction.specs.Table.{reg, Form, System, places, row, table, row_named}
 use Rattle.instruction.specs.declared.opcode.Mnemonic.{Mnemonic}
 use Rattle.instruction.specs.Operands.{takes_label, DraftOperands, read_identifier, read_register, mark_byte, read_place, read_operands, made, read_row, read_mnemonic, read_instruction, behind}
 use Rattle.instruction.specs.Operands.{Draft as MeantDraft}
@@ -166,16 +166,8 @@ label-in names s start at (Some n) l is = is.mark.in_text
 -- The first operand of a form is a register.
 register-first : (label : Bool) (bit : ℕ) (t : Token) (rest : Result DraftOperands) (o : DraftOperands) → read_place label (reg bit) t rest ≡ value o → eqb (mark_byte t) 58 ≡ false
 unfolding read_place read_register mark_byte
-register-first label bit (register r) rest o h = refl
-register-first label bit (identifier u) rest o h = refl
-register-first label bit (number z) rest o h = refl
-register-first label bit (hex n) rest o h = refl
-register-first label bit (binary n) rest o h = refl
-register-first label bit (directive u) rest o h = refl
-register-first label bit comma rest o h = refl
-register-first label bit opening rest o h = refl
-register-first label bit closing rest o h = refl
-register-first label bit colon rest o h = let z : ◌≡◌ {A = ℕ} 0 1 = cc in absurd (omega arith)
+register-first label bit colon rest o h = cc
+register-first label bit t rest o h = refl
 
 no_label : (u : List ℕ) (t : Token) (ts : List Token) → eqb (mark_byte t) 58 ≡ false → kind_of (identifier u ∷ t ∷ ts) ≡ plain
 unfolding kind_of identifier_kind
@@ -185,14 +177,8 @@ is_plain : (f : Form) (u : List ℕ) (ts : List Token) (o : DraftOperands) → l
     → kind_of (identifier u ∷ ts) ≡ plain
 unfolding kind_of identifier_kind places read_operands
 is_plain f u [] o l h = refl
-is_plain R u (t ∷ ts) o l h = no_label u t ts (register-first _ _ t _ o h)
-is_plain I u (t ∷ ts) o l h = no_label u t ts (register-first _ _ t _ o h)
-is_plain Shift u (t ∷ ts) o l h = no_label u t ts (register-first _ _ t _ o h)
-is_plain Load u (t ∷ ts) o l h = no_label u t ts (register-first _ _ t _ o h)
-is_plain Store u (t ∷ ts) o l h = no_label u t ts (register-first _ _ t _ o h)
-is_plain Branch u (t ∷ ts) o l h = no_label u t ts (register-first _ _ t _ o h)
-is_plain Jump u (t ∷ ts) o l h = no_label u t ts (register-first _ _ t _ o h)
 is_plain System u (t ∷ ts) o l h = absurd (omega arith)
+is_plain f u (t ∷ ts) o l h = no_label u t ts (register-first _ _ t _ o h)
 
 -- The tokens of a draft's mnemonic and operands, as they are spelled in a text.
 record Written (s : List ℕ) (d : Draft) (u : List ℕ) (ts : List Token) : Type 0 where

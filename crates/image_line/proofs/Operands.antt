@@ -37,7 +37,7 @@ label-at names s t (Label p) (u, pre, took, stands) nothing_left =
     let r = rw took.same_text at stands.reads in
     record {
       in_text = omega (arith, stands.after, r.in_text);
-      behind = omega (arith, took.passed.on, stands.behind);
+      no_earlier = omega (arith, took.passed.on, stands.no_earlier);
       uncut = uncut_on s.text.now s.at u.at p.start took.passed.uncut (rw took.same_text at stands.uncut);
       last = r.means ∙ ap (infront _) nothing_left;
       ends = rw took.same_text at stands.ends ∙ took.passed.ends;

@@ -18,16 +18,14 @@ use Rattle.text_lexical.specs.declared.name.RegisterWord.{RegisterWord}
 use Rattle.text_lexical.proofs.Tests.{both, or_left}
 use Rattle.text_lexical.proofs.Strings.{every-mono, every-run, take-run, run-yes, run-le}
 use Rattle.text_lexical.proofs.Numbers.{whole-meant}
-use Rattle.text.specs.Tokens.{Token, identifier, register, number, hex, binary, directive, is_identifier, is_register, comma, colon, opening, closing, mark_token, infront, tokens}
+use Rattle.text.specs.Tokens.{Token, identifier, register, number, hex, binary, is_identifier, is_register, comma, colon, opening, closing, mark_token, infront, tokens}
 use Rattle.text.specs.Values.{read_number}
 use Rattle.text.specs.NameSets.{Naming}
 use Rattle.text.specs.Places.{left_at, end_at, Uncut}
-use Rattle.text.specs.Promised.{meant, spelling, mark_kind, token_at, number_at, after_kind, after_identifier, identifier_end, ending_at, scan_at}
+use Rattle.text.specs.Promised.{meant, spelling, mark_kind, number_at, identifier_length, ending_at, scan_at}
 use Rattle.text.specs.declared.lexer.Token.{Token as KeptToken}
-use Rattle.text.specs.declared.lexer.Kind.{Kind}
-use Rattle.text.specs.declared.lexer.Kind.TheVariants.{Identifier, Register as RegisterKind, NoRegister, Number as NumberKind, Negative, Hex, Binary, Directive, Comma, Colon, LParen, RParen}
-use Rattle.text.specs.declared.lexer.Scan.{Scan}
-use Rattle.text.specs.declared.lexer.Scan.TheVariants.{Found, Bad, End}
+use Rattle.text.specs.declared.lexer.Kind.TheVariants.{Register as RegisterKind, Comma, Colon, LParen, RParen}
+use Rattle.text.specs.declared.lexer.Scan.TheVariants.{Found}
 use Rattle.text.specs.declared.parser.NumberAt.{NumberAt}
 use Rattle.text.proofs.Scanning.{register-identifier}
 use Rattle.text.proofs.Left.{blank-inside, blanks_at, none_read, end_on, run-uncut, uncut_on}
@@ -35,6 +33,7 @@ use Rattle.text.proofs.Endings.{ending-is}
 use Rattle.text.proofs.Fronts.{part-cons, word_at}
 use Rattle.text.proofs.Meanings.{extracted-for}
 use Rattle.text.proofs.Numbers.{number-found}
+use Rattle.text.proofs.Identifiers.{identifier-found}
 use Rattle.instruction.proofs.Results.{not_refused, extracted-is}
 use Rattle.text.proofs.Stepping.{past-blanks, mark-step, token_step, blank_step, stepped, uncut}
 use Rattle.instruction.specs.Table.{Separator, a-comma, an-opening, a-closing}
@@ -116,16 +115,10 @@ exactly-read t z e = rw (read_exactly, e)
 amount-read : (label : Bool) (t : Token) (z : ℤ) → read_number t ≡ value z → read_amount label t ≡ value (exactly z)
 unfolding read_amount read_identifier read_number
 amount-read false t z e = exactly-read t z e
-amount-read true (identifier u) z e = not_refused e
-amount-read true (register r) z e = not_refused e
 amount-read true (number n) z e = exactly-read (number n) z e
 amount-read true (hex n) z e = exactly-read (hex n) z e
 amount-read true (binary n) z e = exactly-read (binary n) z e
-amount-read true (directive u) z e = not_refused e
-amount-read true comma z e = not_refused e
-amount-read true colon z e = not_refused e
-amount-read true opening z e = not_refused e
-amount-read true closing z e = not_refused e
+amount-read true t z e = not_refused e
 
 pub number-reads : (names : List Name) (ok : Naming names) (s : List ℕ) (from at : ℕ) → at ≡ from + run blank (drop from s) → (n : NumberAt) → Some n ≡ number_at names s at
     → (spells : Target → List ℕ) (label : Bool) → (k : Token) × AmountIn spells label (Number n.number) k × Reads names s from k n.end
@@ -138,55 +131,30 @@ number-reads names ok s from at q n e spells label =
       stepped-reads names ok s from t n.end (token_step names s from at t n.end q f),
     )
 
--- The token that an Identifier's end is found by.
-identifier-found : (names : List Name) (s : List ℕ) (at end : ℕ) → Some end ≡ identifier_end names s at
-    → (t : KeptToken) × (Found t end ≡ token_at names s at) × (t.kind ≡ Identifier)
-unfolding identifier_end
-identifier-found names s at end e = by-scan (token_at names s at) refl e
-  where
-    by-kind : (k : Kind) (next : ℕ) → Some end ≡ after_kind k next → (end ≡ next) × (k ≡ Identifier)
-    by-kind Identifier next h = (cc, refl)
-    by-kind (RegisterKind r) next h = cc
-    by-kind NoRegister next h = cc
-    by-kind (NumberKind n) next h = cc
-    by-kind (Negative n) next h = cc
-    by-kind (Hex n) next h = cc
-    by-kind (Binary n) next h = cc
-    by-kind Directive next h = cc
-    by-kind Comma next h = cc
-    by-kind Colon next h = cc
-    by-kind LParen next h = cc
-    by-kind RParen next h = cc
-
-    by-scan : (r : Scan) → r ≡ token_at names s at → Some end ≡ after_identifier r → (t : KeptToken) × (Found t end ≡ token_at names s at) × (t.kind ≡ Identifier)
-    by-scan (Found t next) f h = let (q, k) = by-kind t.kind next h in (t, rw q f, k)
-    by-scan Bad f h = cc
-    by-scan (End x) f h = cc
-
 -- A label past blanks, from before them and from its own place.
-module _ (names : List Name) (ok : Naming names) (s : List ℕ) (from at : ℕ) (q : at ≡ from + run blank (drop from s)) (end : ℕ) (e : Some end ≡ identifier_end names s at) where
+module _ (names : List Name) (ok : Naming names) (s : List ℕ) (from at : ℕ) (q : at ≡ from + run blank (drop from s)) (n : ℕ) (e : Some n ≡ identifier_length names s at) where
   abbrev pub target : Target
-  target = record { start = at; length = end - at }
+  target = record { start = at; length = n }
 
-  label-reads-from : (place : ℕ) → at ≡ place + run blank (drop place s) → Reads names s place (identifier (spelled_in s target)) end
+  label-reads-from : (place : ℕ) → at ≡ place + run blank (drop place s) → Reads names s place (identifier (spelled_in s target)) (at + n)
   label-reads-from place b =
-      let (t, f, k) = identifier-found names s at end e in
-      let found = token_step names s place at t end b f in
-      let (st, sz, n, g, l, x) = (stepped names ok s place (Found t end) found).leads in
+      let (t, next, f, k, long) = identifier-found names s at n e in
+      let found = token_step names s place at t next b f in
+      let (st, sz, l, g, m, x) = (stepped names ok s place (Found t next) found).leads in
       let starts : t.start ≡ at = omega (arith, st) in
-      let long : t.length ≡ end - at = omega (arith, sz) in
-      let same : meant s t ≡ identifier (take (end - at) (drop at s)) = rw (k, starts, long) in
-      rw (← same) (stepped-reads names ok s place t end found)
+      let ends : next ≡ at + n = omega (arith, sz, g) in
+      let same : meant s t ≡ identifier (take n (drop at s)) = rw (k, starts, ← long) in
+      rw (← same, ← ends) (stepped-reads names ok s place t next found)
 
   -- It has a byte at least, and its end is within the text.
-  pub label-bounds : (at < end) × (end ≤ length s)
-  label-bounds = let r = label-reads-from at (omega (arith, past-blanks s from at q)) in (r.on, r.in_text)
+  pub label-bounds : (0 < n) × (at + n ≤ length s)
+  label-bounds = let r = label-reads-from at (omega (arith, past-blanks s from at q)) in (omega (arith, r.on), r.in_text)
 
   pub label-amount : (label : Bool) → label ≡ true → AmountIn (spelled_in s) label (Label target) (identifier (spelled_in s target))
   unfolding read_amount read_identifier
-  label-amount label h = let (l, n) = label-bounds in record { means = rw h refl; settled = omega (arith, length-take (end - at) (drop at s), length-drop at s) }
+  label-amount label h = let (l, m) = label-bounds in record { means = rw h refl; settled = omega (arith, length-take n (drop at s), length-drop at s) }
 
-  pub label-reads : Reads names s from (identifier (spelled_in s target)) end × Reads names s at (identifier (spelled_in s target)) end
+  pub label-reads : Reads names s from (identifier (spelled_in s target)) (at + n) × Reads names s at (identifier (spelled_in s target)) (at + n)
   label-reads = (label-reads-from from q, label-reads-from at (omega (arith, past-blanks s from at q)))
 
 -- ---- marks

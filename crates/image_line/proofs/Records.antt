@@ -5,16 +5,15 @@ use native.Mathlib.Omega.{arith}
 use mathlib.Core.Bool.{Bool, true, false}
 use mathlib.Core.Option.{none, some}
 use mathlib.Core.List.{List, [], ◌∷◌}
-use lib.ListN.{length, take, drop, get_or, length-take, length-map, drop_of_length-le, get_or-map}
-use lib.Seq.{drop-cons, get_or-take}
+use lib.ListN.{length, take, drop, get_or, length-drop, length-take, length-map, drop_of_length-le, get_or-map}
+use lib.Seq.{drop-cons, get_or-take, take_all}
 use lib.Dec.{eqb}
 use Rattle.std.specs.Prelude.{Some, None, Ok, Err}
 use Rattle.std.specs.Prelude.{Option as Maybe, Result as Answer}
 use Rattle.refusal.specs.declared.refusal.Refusal.{Refusal}
 use Rattle.text_lexical.specs.Bytes.{Result, bytes, same}
 use Rattle.text_lexical.specs.Names.{Name}
-use Rattle.text_lexical.proofs.Tests.{split}
-use Rattle.text.specs.Tokens.{identifier, register, number, hex, binary, directive, comma, colon, opening, closing, tokens}
+use Rattle.text.specs.Tokens.{identifier, directive, tokens}
 use Rattle.text.specs.Tokens.{Token as Meant}
 use Rattle.text.specs.Lines.{kept, read_line}
 use Rattle.text.specs.Lines.{Line as Record}
@@ -22,10 +21,9 @@ use Rattle.text.specs.NameSets.{Naming}
 use Rattle.text.specs.Places.{rest_at, left_at, end_at, StartsAt}
 use Rattle.text.specs.Promised.{kind_meant, filler, firsts, meant, spelling, record_at}
 use Rattle.text.specs.declared.lexer.Kind.{Kind as TokenKind}
-use Rattle.text.specs.declared.lexer.Kind.TheVariants.{Identifier, Register, NoRegister, Number, Negative, Hex, Binary, Directive, Comma, Colon, LParen, RParen}
+use Rattle.text.specs.declared.lexer.Kind.TheVariants.{Identifier, Directive, Colon}
 use Rattle.text.specs.declared.lexer.Token.{Token}
 use Rattle.text.specs.declared.parser.Line.{Line}
-use Rattle.text.proofs.Fronts.{part-cons}
 use Rattle.text.proofs.Recording.{LineRead, line_read_lem, StandsLast, last_token}
 use Rattle.instruction.specs.Operands.{mark_byte, read_instruction, behind}
 use Rattle.instruction.specs.Operands.{Draft as MeantDraft}
@@ -79,33 +77,14 @@ module _ (s : List ℕ) (ts : List Token) (count : ℕ) where
 other-mark : (k : TokenKind) (u : List ℕ) → (k ≡ Colon → ⊥) → eqb (mark_byte (kind_meant k u)) 58 ≡ false
 unfolding mark_byte
 other-mark Colon u h = absurd (h refl)
-other-mark Identifier u h = refl
-other-mark (Register r) u h = refl
-other-mark NoRegister u h = refl
-other-mark (Number n) u h = refl
-other-mark (Negative n) u h = refl
-other-mark (Hex n) u h = refl
-other-mark (Binary n) u h = refl
-other-mark Directive u h = refl
-other-mark Comma u h = refl
-other-mark LParen u h = refl
-other-mark RParen u h = refl
+other-mark k u h = refl
 
 -- and one that is neither an Identifier nor a directive.
 other-plain : (k : TokenKind) (u : List ℕ) (ts : List Meant) → (k ≡ Identifier → ⊥) → (k ≡ Directive → ⊥) → kind_of (kind_meant k u ∷ ts) ≡ plain
 unfolding kind_of
 other-plain Identifier u ts h g = absurd (h refl)
 other-plain Directive u ts h g = absurd (g refl)
-other-plain (Register r) u ts h g = refl
-other-plain NoRegister u ts h g = refl
-other-plain (Number n) u ts h g = refl
-other-plain (Negative n) u ts h g = refl
-other-plain (Hex n) u ts h g = refl
-other-plain (Binary n) u ts h g = refl
-other-plain Comma u ts h g = refl
-other-plain Colon u ts h g = refl
-other-plain LParen u ts h g = refl
-other-plain RParen u ts h g = refl
+other-plain k u ts h g = refl
 
 -- A line without tokens.
 pub kind_none : (s : List ℕ) (l : Line) → l.count ≡ 0 → empty ≡ kind_of (firsts s l.tokens l.count)
@@ -144,18 +123,15 @@ module _ {s : List ℕ} {l : Line} (r : Recorded s l) where
 
   -- A directive, by what follows its point,
   pub kind_directive : {b : Bool} → 0 < l.count → let t = get_or l.tokens 0 past in t.kind ≡ Directive
-      → b ≡ same (take (t.start + t.length - (t.start + 1)) (drop (t.start + 1) s)) (bytes "config")
+      → (let u = spelling s t in b ≡ same (take (length u - 1) (drop 1 u)) (bytes "config"))
       → elim b [ true ↦ config | false ↦ ignored ] ≡ kind_of (firsts s l.tokens l.count)
   unfolding kind_of
   kind_directive {b} h k g =
       let t = get_or l.tokens 0 past in
+      let u = spelling s t in
       let e : t ≡ get_or l.tokens 0 filler = first-token l.tokens 0 r.kept.places (omega arith) in
-      let long : 0 < t.length = rw e (r.solid 0 (omega arith) h) in
-      let inside : t.start + t.length ≤ length s = rw e (r.kept.inside_text 0) in
-      let n : t.start + t.length - t.start ≡ t.length = omega arith in
-      let u : drop 1 (spelling s t) ≡ take (t.start + t.length - (t.start + 1)) (drop (t.start + 1) s) =
-      ap (λ (m : ℕ). drop 1 (take m (drop t.start s))) (sym n) ∙ ap (drop 1) (part-cons s t.start (t.start + t.length) (omega arith) (omega arith)) in
-      sym (ap kind_of (token-is 0 (omega arith) h) ∙ rw (k, ← e, u, kind_of, ← g))
+      let q : b ≡ same (drop 1 u) (bytes "config") = g ∙ ap (λ v. same v (bytes "config")) (take_all _ (drop 1 u) (omega (arith, length-drop 1 u))) in
+      sym (ap kind_of (token-is 0 (omega arith) h) ∙ rw (k, ← e, kind_of, ← q))
 
   -- and any other token.
   pub kind_plain : 0 < l.count → ((get_or l.tokens 0 past).kind ≡ Identifier → ⊥) → ((get_or l.tokens 0 past).kind ≡ Directive → ⊥) → plain ≡ kind_of (firsts s l.tokens l.count)
@@ -185,40 +161,21 @@ module _ (s : List ℕ) (l : Line) where
   unfolding behind
   after_some t m = sym (after-tokens (behind 2 (record_meant s l)) _ _ (token-at s l.tokens l.count 2 m (omega (arith, t.kept.places))))
 
--- 1 for a label, 0 for other kinds.
-abbrev labels : Kind → ℕ
-labels (labelled u) = 1
-labels empty = 0
-labels config = 0
-labels ignored = 0
-labels plain = 0
-
--- Fewer than two tokens are no label.
-no_label : (ts : List Meant) → length ts < 2 → labels (kind_of ts) ≡ 0
+-- A line that begins with a label has two tokens at least.
+label-tokens : (u : List ℕ) (ts : List Meant) → labelled u ≡ kind_of ts → 2 ≤ length ts
 unfolding kind_of identifier_kind
-no_label [] h = refl
-no_label (identifier u ∷ []) h = refl
-no_label (identifier u ∷ t ∷ ts) h = absurd (omega arith)
-no_label (directive d ∷ ts) h = go (same d (bytes "config"))
+label-tokens u [] e = cc
+label-tokens u (identifier v ∷ []) e = cc
+label-tokens u (identifier v ∷ t ∷ ts) e = omega arith
+label-tokens u (directive d ∷ ts) e = go (same d (bytes "config")) e
   where
-    go : (b : Bool) → labels (elim b [ true ↦ config | false ↦ ignored ]) ≡ 0
-    go true = refl
-    go false = refl
-no_label (register r ∷ ts) h = refl
-no_label (number z ∷ ts) h = refl
-no_label (hex n ∷ ts) h = refl
-no_label (binary n ∷ ts) h = refl
-no_label (comma ∷ ts) h = refl
-no_label (colon ∷ ts) h = refl
-no_label (opening ∷ ts) h = refl
-no_label (closing ∷ ts) h = refl
+    go : (b : Bool) → labelled u ≡ elim b [ true ↦ config | false ↦ ignored ] → 2 ≤ suc (length ts)
+    go true e = cc
+    go false e = cc
+label-tokens u (t ∷ ts) e = cc
 
--- So a line that begins with one has two at least.
 pub two_tokens : (s : List ℕ) {u : List ℕ} (l : Line) → labelled u ≡ kind_of (firsts s l.tokens l.count) → 2 ≤ l.count
-two_tokens s {u} l e =
-    split l.count 2
-    (λ h. let z : 1 ≡ 0 = ap labels e ∙ no_label (firsts s l.tokens l.count) (omega (arith, firsts-length s l.tokens l.count)) in absurd (omega arith))
-    (λ h. h)
+two_tokens s {u} l e = omega (arith, label-tokens u (firsts s l.tokens l.count) e, firsts-length s l.tokens l.count)
 
 -- ---- the line at a place
 
@@ -252,7 +209,7 @@ module _ {names : List Name} (ok : Naming names) {s : List ℕ} {start : ℕ} (s
         let n : p.length ≡ (get_or l.tokens (l.count - 1) filler).length = ap (λ (x : Target). x.length) k.last in
         record {
           in_text = omega (arith, b, n, h.places.inside_text (l.count - 1));
-          behind = omega (arith, b, t.behind);
+          no_earlier = omega (arith, b, t.no_earlier);
           uncut = rw b t.uncut;
           last = ap (λ (x : ℕ). tokens names (left_at s x)) b ∙ t.means ∙ ap (λ (x : Meant). some (x ∷ [])) k.reads;
           ends = ap (end_at s) b ∙ t.ends;

@@ -45,7 +45,7 @@ module _ (names : List Name) (s : List ℕ) {from at : ℕ} where
   pub label-before : (a : Amount) → from ≤ at → Uncut s from at → end_at s at ≡ end_at s from → LabelIf names s at a → LabelIf names s from a
   label-before (Number w) l u e h = tt
   label-before (Label p) l u e h =
-      record { in_text = h.in_text; behind = omega (arith, h.behind); uncut = uncut_on s from at p.start u h.uncut; last = h.last; ends = h.ends ∙ e }
+      record { in_text = h.in_text; no_earlier = omega (arith, h.no_earlier); uncut = uncut_on s from at p.start u h.uncut; last = h.last; ends = h.ends ∙ e }
 
   target-before : (e : Answer Effect Refusal) → from ≤ at → Uncut s from at → end_at s at ≡ end_at s from
       → OfDraft (λ d. LabelIf names s at d.amount) e → OfDraft (λ d. LabelIf names s from d.amount) e

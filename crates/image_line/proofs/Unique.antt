@@ -23,7 +23,7 @@ use Rattle.text.proofs.Tokens.{tokens-blank}
 use Rattle.text.specs.Places.{rest_at, left_at, end_at, Uncut}
 use Rattle.text.specs.Promised.{kind_meant, meant, spelling, found_at, token_at, stands_at, past, scan_at}
 use Rattle.text.specs.declared.lexer.Kind.{Kind}
-use Rattle.text.specs.declared.lexer.Kind.TheVariants.{Identifier, Register, NoRegister, Number, Negative, Hex, Binary, Directive, Comma, Colon, LParen, RParen}
+use Rattle.text.specs.declared.lexer.Kind.TheVariants.{Identifier}
 use Rattle.text.specs.declared.lexer.Token.{Token as KeptToken}
 use Rattle.text.specs.declared.lexer.Scan.{Scan}
 use Rattle.text.specs.declared.lexer.Scan.TheVariants.{Found, Bad, End}
@@ -106,17 +106,7 @@ module _ (s : List ℕ) where
 
 kind-identifier : (k : Kind) (v u : List ℕ) → kind_meant k v ≡ identifier u → v ≡ u
 kind-identifier Identifier v u e = cc
-kind-identifier (Register r) v u e = cc
-kind-identifier NoRegister v u e = cc
-kind-identifier (Number n) v u e = cc
-kind-identifier (Negative n) v u e = cc
-kind-identifier (Hex n) v u e = cc
-kind-identifier (Binary n) v u e = cc
-kind-identifier Directive v u e = cc
-kind-identifier Comma v u e = cc
-kind-identifier Colon v u e = cc
-kind-identifier LParen v u e = cc
-kind-identifier RParen v u e = cc
+kind-identifier k v u e = cc
 
 infront-one : (t u : Token) (o : Option (List Token)) → infront t o ≡ some (u ∷ []) → (t ≡ u) × (o ≡ some [])
 unfolding infront
@@ -234,7 +224,7 @@ module _ (names : List Name) where
         = λ i g h. let x : p.start + (i - p.start) ≡ i = omega arith in
         ap inside (ap (λ (y : ℕ). get_or s y 0) (sym x) ∙ sym (get_or-drop p.start s (i - p.start) 0))
         ∙ run-held inside (drop p.start s) (i - p.start) (omega (arith, end-run s p.start, end-run s q.start)) in
-        let c = all-left s d p.start (omega (arith, b.in_text)) on-line (λ i g h. b.uncut i (omega (arith, a.behind)) (omega arith)) (rw there (omega arith)) in
+        let c = all-left s d p.start (omega (arith, b.in_text)) on-line (λ i g h. b.uncut i (omega (arith, a.no_earlier)) (omega arith)) (rw there (omega arith)) in
         let apart : length (left_at s p.start) ≡ d + length (left_at s q.start) = rw there at c in
         let long : p.length ≡ q.length
         = omega (arith, ap (λ (x : List ℕ). length x) e, length-take p.length (drop p.start s), length-drop p.start s, length-take q.length (drop q.start s), length-drop q.start s, a.in_text, b.in_text) in

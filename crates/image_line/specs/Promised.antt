@@ -76,7 +76,7 @@ bytes_spell s p = spelled_in s.text.now p
 pub record BytesStand (names : List Name) (s : Bytes) (p : Target) (t : Bytes) : Type 0 where
   pub same_text : t.text.now ≡ s.text.now
   pub reads : Reads names s.text.now p.start (identifier (spelled_in s.text.now p)) t.at
-  pub behind : s.at ≤ p.start
+  pub no_earlier : s.at ≤ p.start
   pub after : t.at ≡ p.start + p.length
   pub uncut : Uncut s.text.now s.at p.start
   pub ends : end_at s.text.now p.start ≡ end_at s.text.now s.at
@@ -86,7 +86,7 @@ pub record BytesStand (names : List Name) (s : Bytes) (p : Target) (t : Bytes) :
 -- A label stands last on the line of a place, and in no comment: by how it is spelled, its place is not free.
 pub record LabelAt (names : List Name) (s : List ℕ) (from : ℕ) (p : Target) : Type 0 where
   pub in_text : p.start + p.length ≤ length s
-  pub behind : from ≤ p.start
+  pub no_earlier : from ≤ p.start
   pub uncut : Uncut s from p.start
   pub last : tokens names (left_at s p.start) ≡ some (identifier (spelled_in s p) ∷ [])
   pub ends : end_at s p.start ≡ end_at s from

@@ -62,12 +62,9 @@ impl OperandSource for Bytes<'_> {
         if !label {
             return Err(Other);
         }
-        let end = text::parser::identifier_end(self.text, start).ok_or(Other)?;
-        self.at = end;
-        Ok(Amount::Label(Target {
-            start,
-            length: end - start,
-        }))
+        let length = text::parser::identifier_length(self.text, start).ok_or(Other)?;
+        self.at = start + length;
+        Ok(Amount::Label(Target { start, length }))
     }
 
     fn mark(&mut self, mark: Mark) -> Result<(), Other> {

@@ -28,7 +28,7 @@ pub struct Read {
 }
 
 // The line that begins at `at`, where the settings are these. Both ways of reading it begin after its margin. Source, place and settings come
-// from the walks, which change two of them at each line.
+// from the walks, which change the place at each line and the settings at some.
 pub fn read_line(source: &[u8], at: usize, config: Config) -> Read
     requires { at ≤ length source.now }
     ensures { LineIs present source.now at (context_for config) result }

@@ -47,10 +47,8 @@ fn line_kind(source: &[u8], line: &Line) -> LineKind
             }
         }
         Kind::Directive => {
-            // after the point
-            let start = first.start + 1;
-            let end = first.start + first.length;
-            if text_lexical::bytes::same(&source[start..end], b"config") {
+            let name = &first.spelling(source)[1..]; // after the point, as a directive's name has it
+            if text_lexical::bytes::same(name, b"config") {
                 return LineKind::Config;
             }
             LineKind::Ignored

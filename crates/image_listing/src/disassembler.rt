@@ -1,5 +1,5 @@
 // Listing: the text of an image.
-ghost use Rattle.std.specs.Prelude.{◌≡◌, ◌++◌};
+ghost use Rattle.std.specs.Prelude.{◌≡◌, ◌++◌, [], ◌∷◌};
 ghost use mathlib.Core.List.{flat_map};
 ghost use Rattle.text_lexical.specs.Numbers.{decimal};
 ghost use Rattle.image.specs.Listing.{words_of, line_text, settings_text, word_text, is_usual};
@@ -36,6 +36,13 @@ fn is_usual(header: ProgramHeader) -> bool
         && header.code_size <= MOST_CODE
 }
 
+fn put_line_end<S: Sink>(sink: &mut S)
+    requires { S.Fits sink.old (10 ∷ []) }
+    ensures { S.Took sink.old (10 ∷ []) sink.new }
+{
+    sink.put(b'\n');
+}
+
 // A line of a setting: `front` is all before its value.
 fn put_setting<S: Sink>(sink: &mut S, front: &[u8], value: u8)
     requires { S.Fits sink.old (line_text (front.now ++ decimal value)) }
@@ -43,7 +50,7 @@ fn put_setting<S: Sink>(sink: &mut S, front: &[u8], value: u8)
 {
     sink.put_bytes(front);
     sink.put_decimal(u64::from(value));
-    sink.put(b'\n');
+    put_line_end(sink);
 }
 
 fn put_settings<S: Sink>(sink: &mut S, config: Config)
@@ -67,7 +74,7 @@ fn put_words<S: Sink>(sink: &mut S, code: &[u8]) -> Result<(), ListError>
             Err(refusal) => return Err(ListError::Faulty { refusal, index }),
             Ok(instruction) => {
                 instruction_display::display::put_instruction(sink, instruction);
-                sink.put(b'\n');
+                put_line_end(sink);
             }
         }
     }

@@ -18,7 +18,6 @@ use Rattle.text_lexical.specs.Names.{Name}
 use Rattle.text_lexical.proofs.Tests.{split}
 use Rattle.text.specs.Lines.{lines, indent, read_line}
 use Rattle.text.specs.Places.{rest_at, end_at}
-use Rattle.text.specs.NameSets.{Naming}
 use Rattle.text.proofs.Lines.{line_at, last_line}
 use Rattle.image.specs.Settings.{Settings}
 use Rattle.image.specs.Program.{entry}
@@ -204,7 +203,7 @@ module _ {names : List Name} {s : List ℕ} {room line at : ℕ} {ls : List Mean
 
 -- ---- reading on
 
-module _ {names : List Name} (s : List ℕ) (ok : Naming names) (room : ℕ) (ls : List Meant) where
+module _ (names : List Name) (s : List ℕ) (room : ℕ) (ls : List Meant) where
   -- Where reading on from a line comes to is where document 01's walk stands.
   abbrev Stands : ℕ → Found → ℕ → List (List ℕ) → Type 0
   Stands line f at ls' = Progress names s room ls (scanned names line f at ls')
@@ -230,7 +229,7 @@ module _ {names : List Name} (s : List ℕ) (ok : Naming names) (room : ℕ) (ls
               in_text = inside;
               found = f;
               reached = q;
-              reads = e ∙ ap (λ (v : List ℕ). some v) (label-part ok s at (settings_meant f.config) u e);
+              reads = e ∙ ap (λ (v : List ℕ). some v) (label-part names s at (settings_meant f.config) u e);
               starts = refl;
               address_is = refl;
               rest-is = refl;
@@ -268,9 +267,9 @@ module _ {names : List Name} (s : List ℕ) (ok : Naming names) (room : ℕ) (ls
       lines-stand line f at inside q (λ f' b r. stands_from left (suc line) f' (suc (end_at s at)) (omega (arith, few)) (omega (arith, b)) r)
 
 -- Where the walk comes to as it reads on.
-pub reads-stand : {names : List Name} {s : List ℕ} {c : Cursor} {p : Pass} → Naming names → ReadsOn names s c p → Scannable s c → (room : ℕ) (ls : List Meant) → ReachedFrom names s room ls c
+pub reads-stand : {names : List Name} {s : List ℕ} {c : Cursor} {p : Pass} → ReadsOn names s c p → Scannable s c → (room : ℕ) (ls : List Meant) → ReachedFrom names s room ls c
     → Progress names s room ls p
-reads-stand {names} {s} {c} {p} ok r safe room ls h = rw r.answer (stands_from s ok room ls (length s) c.line c.found c.at (omega arith) safe.in_text h)
+reads-stand {names} {s} {c} {p} r safe room ls h = rw r.answer (stands_from names s room ls (length s) c.line c.found c.at (omega arith) safe.in_text h)
 
 -- ---- after a label
 
@@ -453,12 +452,12 @@ module _ {names : List Name} {s : List ℕ} {from c : Cursor} (w : Scanning name
     stands = z ∙ came
 
     -- A label.
-    pub scans_label : Naming names → {n : ℕ} {q : Pass} → r.label ≡ Some n → q ≡ label_pass r.start n c.found.words c.line x → ReadsOn names s from q
+    pub scans_label : {n : ℕ} {q : Pass} → r.label ≡ Some n → q ≡ label_pass r.start n c.found.words c.line x → ReadsOn names s from q
     unfolding address_after entry
-    scans_label ok {n} b e =
+    scans_label {n} b e =
         let inside_text : r.start + n ≤ length s = rw b at h.in_text in
         let long : length (take n (drop r.start s)) ≡ n = length-take n (drop r.start s) ∙ omega (arith, length-drop r.start s, inside_text) in
-        let some-bytes : 0 < n = omega (arith, long, label-solid ok s c.at (settings_meant c.found.config) (take n (drop r.start s)) (label_is b)) in
+        let some-bytes : 0 < n = omega (arith, long, label-solid names s c.at (settings_meant c.found.config) (take n (drop r.start s)) (label_is b)) in
         rw e (record {
           answer =
               ap₂ (λ (m : ℕ) (y : Rest). label_pass m n c.found.words c.line y) h.starts stands

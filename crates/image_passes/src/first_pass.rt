@@ -63,7 +63,7 @@ pub struct Done {
     pub end: usize,
 }
 
-// How the first walk has ended: it has read the source to its end, or the source is refused.
+// How the first walk has ended, and then the reading of a source, once its labels are looked up: all lines are read, or it is refused.
 pub type Verdict = Result<Found, Stopped>;
 
 // Why a source is refused, the Rust's line and the true line.
@@ -240,8 +240,5 @@ pub fn go_on(source: &[u8], at: LabelLine, entered: Result<(), Refusal>) -> Next
     requires { Sound source.now at }
     ensures { result ≡ followed source.now at entered }
 {
-    match entered {
-        Err(refusal) => Next::Ended(Err(line_refused(refusal, at.line))),
-        Ok(()) => after_line(source.len(), at.line, at.rest),
-    }
+    after_line(source.len(), at.line, entered.and(at.rest))
 }

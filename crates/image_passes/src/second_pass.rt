@@ -13,14 +13,13 @@ use crate::first_pass::{Found, Stopped};
 use image::config::Config;
 use image_labels::label::Labels;
 use image_line::line::Effect;
-use instruction::field::IMMEDIATE;
 use instruction::form::Form;
 use instruction::instruction::{Amount, Draft, Instruction, Operands};
 use refusal::refusal::Refusal;
 use text_lexical::number::Whole;
 use text_writer::sink::{Length, Sink, Writer};
 
-// The length that an image buffer must have, where it is shorter.
+// The length that an image buffer must have, where it is shorter: the error of a `Result`, which says what its number is.
 #[derive(Clone, Copy)]
 pub struct TooShort {
     pub needed: usize,
@@ -38,11 +37,11 @@ fn distance(words: usize, address: u64) -> Whole
     Whole::Negative(own - address)
 }
 
-// Whether a form has room for a distance: the number of a branch has seventeen bits, and that of `jal` is never too far.
+// Whether a form has room for a distance. A branch's field may be too small for it; that of `jal` never is.
 fn in_reach(form: Form, distance: Whole) -> bool
     ensures { result ≡ in_reach (form_meant form) (whole_meant distance) }
 {
-    form != Form::Branch || IMMEDIATE.holds(distance)
+    form != Form::Branch || form.layout().highest.holds(distance)
 }
 
 // The number of a draft after so many words, where labels have been entered; or why it has none (33, 34).
@@ -76,7 +75,8 @@ fn word_of(draft: Draft, number: Whole) -> u32
     instruction_encoder::encoder::encode(Instruction::from_parts(draft.mnemonic, operands))
 }
 
-// The words of all lines are put, up to the first line whose label is refused.
+// The words of all lines are put, up to the first line whose label is refused. It begins where the first walk does, with variables of its
+// own in place of a `Cursor`: what that walk has found besides the settings and the count of words is not asked again.
 fn second_pass<S: Sink>(labels: &Labels, sink: &mut S) -> Result<(), Stopped>
     requires entered { Entered present labels.now }
     requires room { S.Fits sink.old (bytes_until present labels.now.source.now) }

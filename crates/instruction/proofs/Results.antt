@@ -11,7 +11,10 @@ use Rattle.text_lexical.specs.Bytes.{Result, value, refused, is_some, each}
 use Rattle.text_lexical.specs.Promised.{whole_for}
 use Rattle.text_lexical.specs.declared.number.Whole.{Whole}
 use Rattle.text_lexical.proofs.Tests.{both, and_both}
-use Rattle.text.specs.Promised.{extract_for}
+use Rattle.text.specs.Promised.{kind_meant, extract_for}
+use Rattle.text.specs.declared.lexer.Kind.{Kind}
+use Rattle.text.specs.declared.lexer.Kind.TheVariants.{Identifier}
+use Rattle.instruction.specs.Operands.{read_identifier}
 use Rattle.std.specs.Prelude.{Ok}
 
 -- ---- what a value tells of the tests before it
@@ -42,6 +45,12 @@ result_value (refused k) f b e = not_refused e
 pub extracted-is : {w : Whole} (x : Result ℤ) → Ok w ≡ extract_for x → (z : ℤ) × ((x ≡ value z) × (w ≡ whole_for z))
 extracted-is (value z) e = (z, (refl, cc))
 extracted-is (refused n) e = absurd (let z : ◌≡◌ {A = ℕ} 0 1 = cc in omega arith)
+
+-- No kind but Identifier is read as one.
+pub no-identifier : (k : Kind) (u : List ℕ) → (k ≡ Identifier → ⊥) → read_identifier (kind_meant k u) ≡ none
+unfolding read_identifier
+no-identifier Identifier u f = absurd (f refl)
+no-identifier k u f = refl
 
 -- What is not there is missing.
 pub nothing : {A : Type 0} (o : Option A) → is_some o ≡ false → o ≡ none

@@ -14,11 +14,6 @@ pub record Instruction : Type 0 where
   pub registers : List ℕ
   pub number : Option ℤ
 
--- Its operands by themselves.
-pub record Operands : Type 0 where
-  pub registers : List ℕ
-  pub number : Option ℤ
-
 -- The operand that is an instruction's number: exactly this one, or the distance to a label. Document 02, a: "The last operand of jal and
 -- the six branches may now be an Identifier, meaning a label anywhere in the source".
 pub data Amount : Type 0 where

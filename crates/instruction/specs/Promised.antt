@@ -9,7 +9,7 @@ use Rattle.text_lexical.specs.declared.register.Register.TheVariants.{R0}
 use Rattle.text_lexical.specs.declared.number.Whole.{Whole}
 use Rattle.text_lexical.specs.declared.number.Whole.TheVariants.{NotNegative}
 use Rattle.instruction.specs.Table.{Place, reg, num, mark, Form, R, I, Shift, Load, Store, Branch, Jump, System, places, Row, row_named}
-use Rattle.instruction.specs.Operands.{Instruction as Meant, Operands as MeantOperands, Amount as MeantAmount, exactly, to, Draft as MeantDraft, DraftOperands}
+use Rattle.instruction.specs.Operands.{Instruction as Meant, Amount as MeantAmount, exactly, to, Draft as MeantDraft, DraftOperands}
 use Rattle.instruction.specs.declared.instruction.Instruction.{Instruction}
 use Rattle.instruction.specs.declared.instruction.Instruction.TheVariants.{Add, Sub, Mul, Mulh, Divu, Remu, Div, Rem, Addi, And, Or, Xor, Andi, Ori, Xori, Sll, Srl, Sra, Slli, Srli, Srai, Sltu, Sgeu, Slt, Sge, Seq, Sne, Cmov, Cmovz, Cmovnz, Lb, Lbu, Lh, Lhu, Lw, Ld, Sb, Sh, Sw, Sd, Beq, Bne, Blt, Bge, Bltu, Bgeu, Jal, Jalr, Ecall, Ebreak}
 use Rattle.instruction.specs.declared.instruction.Operands.{Operands}
@@ -216,6 +216,11 @@ number_for (mark m ∷ ps) z = number_for ps z
 
 abbrev pub registers_of : Operands → List ℕ
 registers_of o = index_of o.first ∷ index_of o.second ∷ index_of o.third ∷ []
+
+-- The operands of an instruction by themselves.
+pub record MeantOperands : Type 0 where
+  pub registers : List ℕ
+  pub number : Option ℤ
 
 -- The operands that a form takes of the code's.
 abbrev pub operands_meant : List Place → Operands → MeantOperands

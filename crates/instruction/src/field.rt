@@ -26,10 +26,10 @@ impl Field {
 
     // Whether a signed field has room for a number: half of its numbers are below zero.
     pub fn holds(self, number: Whole) -> bool
-        requires { (0 < self.width) × (self.width ≤ 32) }
+        requires { (0 < self.width) × (self.width < 32) }
         ensures { result ≡ is_signed self.width (whole_meant number) }
     {
-        let half = 1 << (self.width - 1);
+        let half = u64::from(self.size()) / 2;
         if number.is_negative() {
             return number.magnitude() <= half;
         }

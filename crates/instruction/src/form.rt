@@ -1,5 +1,5 @@
-// A form, described once: which operands it has, which mark follows each, and in which fields of a word they stand. Whoever reads operands goes
-// through the operands from left to right.
+// A form: which operands it has, which mark follows each, and in which fields of a word they stand. Whoever reads operands goes through them
+// from left to right; of whoever writes an instruction's text each form has a function, in which order and marks stand as they are written.
 ghost use Rattle.std.specs.Prelude.{◌≡◌};
 ghost use Rattle.instruction.specs.Operands.{takes_label};
 ghost use Rattle.instruction.specs.Promised.{form_meant};

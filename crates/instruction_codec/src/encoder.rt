@@ -8,7 +8,7 @@ ghost use Rattle.instruction.specs.Words.{field_at};
 ghost use Rattle.instruction.specs.Promised.{row_of};
 ghost use Rattle.instruction_codec.specs.Promised.{DecodesTo, form_word, IsField, highest_number};
 
-use instruction::field::{Field, OPCODES, REGISTER_WIDTH};
+use instruction::field::{Field, OPCODES, THIRD};
 use instruction::form::{Form, Layout};
 use instruction::instruction::{Instruction, Operands};
 use instruction::opcode::{Mnemonic, find_opcode};
@@ -85,7 +85,7 @@ pub fn encode_s_type(mnemonic: Mnemonic, rs1: Register, rs2: Register, imm: Whol
     front_bits(mnemonic, layout, rs2, rs1) + number_bits(imm, layout.highest)
 }
 
-// The word of `rd, n`.
+// The word of `rd, n`, which has not the two registers that all other words with operands begin with.
 #[tactic(auto, using(crate::proofs::Forms::word_jump))]
 pub fn encode_j_type(mnemonic: Mnemonic, rd: Register, offset: Whole) -> u32
     ensures { result ≡ form_word Jump mnemonic (index_of rd ∷ []) (some (whole_meant offset)) }
@@ -110,10 +110,10 @@ fn register_in(word: u32, bit: u32) -> Register
     requires { bit ≤ 15 }
     ensures { index_of result ≡ field_at word bit 4 }
 {
-    Register::from_index(((word >> bit) % (1 << REGISTER_WIDTH)) as u8)
+    Register::from_index(((word >> bit) % THIRD.size()) as u8)
 }
 
-// The number that a field's bits mean.
+// The number that a field's bits mean. Whether the highest is set is asked here of the bits, and by `Field::holds` whether a number fits.
 #[tactic(auto, using(crate::proofs::Forms::number_below, crate::proofs::Forms::number_unsigned, crate::proofs::Forms::number_above))]
 fn number_of(bits: u32, field: Field) -> Whole
     requires field { IsField field }

@@ -22,8 +22,7 @@ use Rattle.refusal.specs.declared.refusal.Refusal.TheVariants.{MnemonicExpected,
 use Rattle.text.specs.Tokens.{Token}
 use Rattle.text.specs.Lines.{Line as MeantLine}
 use Rattle.text.specs.Promised.{kind_meant, filler, firsts, meant, spelling, Kept}
-use Rattle.text.specs.declared.lexer.Kind.{Kind}
-use Rattle.text.specs.declared.lexer.Kind.TheVariants.{Identifier, Register, NoRegister, Number as NumberKind, Negative, Hex, Binary, Directive, Comma, Colon, LParen, RParen}
+use Rattle.text.specs.declared.lexer.Kind.TheVariants.{Identifier}
 use Rattle.text.specs.declared.lexer.Token.{Token as KeptToken}
 use Rattle.text.specs.declared.parser.Line.{Line}
 use Rattle.instruction.specs.Table.{Place, Form, R, I, Shift, Load, Store, Branch, Jump, System, Row, places, table, row_named}
@@ -37,6 +36,7 @@ use Rattle.instruction.specs.declared.instruction.Amount.{Amount}
 use Rattle.instruction.specs.declared.instruction.Amount.TheVariants.{Number, Label}
 use Rattle.instruction.specs.declared.instruction.Draft.{Draft}
 use Rattle.instruction.specs.declared.opcode.Mnemonic.{Mnemonic}
+use Rattle.instruction.proofs.Results.{no-identifier}
 use Rattle.instruction.proofs.Forms.{Counting, counting-none, counting-mark, counting-most, counting-end}
 use Rattle.instruction.proofs.Lookup.{row-by-name}
 use Rattle.instruction_operands.specs.Sources.{LastStands, OperandsTaken}
@@ -215,31 +215,14 @@ module _ (s : List ℕ) (l : Line) (at : ℕ) (k : Kept s l) (few : at ≤ 2) wh
     -- It is no Identifier.
     pub no-word : ((get_or l.tokens at past).kind ≡ Identifier → ⊥) → ParsedIs s l at (Err MnemonicExpected)
     unfolding read_mnemonic read_identifier
-    no-word f = record { means = no-identifier (get_or l.tokens at past).kind f ∙ a-token; settled = tt }
-      where
-        no-identifier : (x : Kind) → (x ≡ Identifier → ⊥) → refused 14 ≡ read_mnemonic (kind_meant x word) (l.count - at - 1) (drop (at + 1) (firsts s l.tokens l.count))
-        no-identifier Identifier f = absurd (f refl)
-        no-identifier (Register r) f = refl
-        no-identifier NoRegister f = refl
-        no-identifier (NumberKind n) f = refl
-        no-identifier (Negative n) f = refl
-        no-identifier (Hex n) f = refl
-        no-identifier (Binary n) f = refl
-        no-identifier Directive f = refl
-        no-identifier Comma f = refl
-        no-identifier Colon f = refl
-        no-identifier LParen f = refl
-        no-identifier RParen f = refl
+    no-word f = record { means = rw (read_mnemonic, no-identifier (get_or l.tokens at past).kind word f) at a-token; settled = tt }
 
     -- It is the one of the row that is found by the key of its spelling in lower case, if it has one.
     module _ (i : (get_or l.tokens at past).kind ≡ Identifier) (below : Below s) (key : StdOption ℕ)
-        (e : let t = get_or l.tokens at past in key ≡ name_key (take (t.start + t.length - t.start) (drop t.start s)))
+        (e : key ≡ name_key word)
         (o : StdOption Mnemonic) (n : MatchOption key (o ≡ None) (λ k. found_meant o ≡ find (λ q. eqb (packed q.mnemonic) k) table)) where
       named : found_meant o ≡ row_named (map lower word)
-      named =
-          let t = get_or l.tokens at past in
-          let q : t.start + t.length - t.start ≡ t.length = omega arith in
-          row-by-name word (below-part t.start t.length s below) key (e ∙ ap (λ j. name_key (take j (drop t.start s))) q) o n
+      named = let t = get_or l.tokens at past in row-by-name word (below-part t.start t.length s below) key e o n
 
       pub no-mnemonic : o ≡ None → ParsedIs s l at (Err UnknownMnemonic)
       unfolding read_mnemonic read_identifier

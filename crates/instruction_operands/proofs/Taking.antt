@@ -2,8 +2,7 @@
 use Prim.Native.Nat.{ℕ, ◌+◌, ◌≤◌, ◌<◌}
 use mathlib.Core.Path.{◌≡◌, refl, sym, ap, ◌∙◌}
 use native.Mathlib.Omega.{arith}
-use mathlib.Core.Bool.{Bool, true, false, true≢false}
-use mathlib.Core.Option.{none}
+use mathlib.Core.Bool.{Bool, true, false}
 use mathlib.Core.List.{List, [], ◌∷◌, map}
 use lib.ListN.{length, drop, length-take, length-drop}
 use lib.Dec.{eqb}
@@ -22,16 +21,15 @@ use Rattle.text.specs.Tokens.{Token}
 use Rattle.text.specs.Values.{read_number}
 use Rattle.text.specs.Promised.{kind_meant, mark_of_byte, meant, spelling, extracted, extract_meant}
 use Rattle.text.specs.declared.lexer.Kind.{Kind}
-use Rattle.text.specs.declared.lexer.Kind.TheVariants.{Identifier, Register, NoRegister, Number, Negative, Hex, Binary, Directive, Comma, Colon, LParen, RParen}
+use Rattle.text.specs.declared.lexer.Kind.TheVariants.{Identifier, Comma, Colon, LParen, RParen}
 use Rattle.text.specs.declared.lexer.Token.{Token as KeptToken}
-use Rattle.text.specs.contracts.lexer.KindPartialEq.TheImpl.{eq-value}
 use Rattle.text.proofs.Meanings.{extracted-for, extracted-number}
 use Rattle.instruction.specs.Table.{a-comma, an-opening, a-closing, Place}
 use Rattle.instruction.specs.Operands.{exactly, read_identifier, read_register, read_exactly, read_amount, mark_byte, read_operands}
 use Rattle.instruction.specs.declared.form.Mark.{Mark}
 use Rattle.instruction.specs.declared.instruction.Amount.TheVariants.{Number as NumberAmount, Label}
 use Rattle.instruction.proofs.Forms.{register-refuses, amount-refuses, mark-refuses}
-use Rattle.instruction.proofs.Results.{extracted-is}
+use Rattle.instruction.proofs.Results.{extracted-is, no-identifier}
 use Rattle.instruction_operands.specs.Sources.{Separates, PlaceRefused, RegisterTaken, AmountTaken, MarkTaken}
 use Rattle.instruction_operands.specs.Promised.{left_meant, TokensTook, TokensRefuse, tokens_spell, TokensStand}
 use Rattle.instruction_operands.specs.declared.tokens.Tokens.{Tokens}
@@ -45,14 +43,7 @@ mark-of Comma u b h = refl
 mark-of Colon u b h = refl
 mark-of LParen u b h = refl
 mark-of RParen u b h = refl
-mark-of Identifier u b h = sym (ne_eqb b 0 (λ e. omega arith))
-mark-of (Register r) u b h = sym (ne_eqb b 0 (λ e. omega arith))
-mark-of NoRegister u b h = sym (ne_eqb b 0 (λ e. omega arith))
-mark-of (Number n) u b h = sym (ne_eqb b 0 (λ e. omega arith))
-mark-of (Negative n) u b h = sym (ne_eqb b 0 (λ e. omega arith))
-mark-of (Hex n) u b h = sym (ne_eqb b 0 (λ e. omega arith))
-mark-of (Binary n) u b h = sym (ne_eqb b 0 (λ e. omega arith))
-mark-of Directive u b h = sym (ne_eqb b 0 (λ e. omega arith))
+mark-of k u b h = sym (ne_eqb b 0 (λ e. omega arith))
 
 mark-solid : (m : Mark) → Separates m → 0 < m.byte
 mark-solid m (a-comma, e) = rw e (omega arith)
@@ -64,44 +55,11 @@ pub none-left : (s : Tokens) (For : Place → Type 0) → s.left.now ≡ [] → 
 unfolding read_operands
 none-left s For e label = λ p ps f. rw e refl
 
--- A kind is an Identifier's if the code finds it equal to that.
-pub identifier-is : (k : Kind) → eq-value.it k Identifier ≡ true → k ≡ Identifier
-identifier-is Identifier h = refl
-identifier-is (Register r) h = absurd (true≢false (sym h))
-identifier-is NoRegister h = absurd (true≢false (sym h))
-identifier-is (Number n) h = absurd (true≢false (sym h))
-identifier-is (Negative n) h = absurd (true≢false (sym h))
-identifier-is (Hex n) h = absurd (true≢false (sym h))
-identifier-is (Binary n) h = absurd (true≢false (sym h))
-identifier-is Directive h = absurd (true≢false (sym h))
-identifier-is Comma h = absurd (true≢false (sym h))
-identifier-is Colon h = absurd (true≢false (sym h))
-identifier-is LParen h = absurd (true≢false (sym h))
-identifier-is RParen h = absurd (true≢false (sym h))
-
-pub identifier-not : (k : Kind) → eq-value.it k Identifier ≡ false → k ≡ Identifier → ⊥
-identifier-not k h e = true≢false (sym (ap (λ x. eq-value.it x Identifier) e) ∙ h)
-
 -- Only an Identifier is a label, where one may stand for the number.
-no-name : (k : Kind) (u : List ℕ) → (k ≡ Identifier → ⊥) → read_identifier (kind_meant k u) ≡ none
-unfolding read_identifier
-no-name Identifier u f = absurd (f refl)
-no-name (Register r) u f = refl
-no-name NoRegister u f = refl
-no-name (Number n) u f = refl
-no-name (Negative n) u f = refl
-no-name (Hex n) u f = refl
-no-name (Binary n) u f = refl
-no-name Directive u f = refl
-no-name Comma u f = refl
-no-name Colon u f = refl
-no-name LParen u f = refl
-no-name RParen u f = refl
-
 no-label : (label : Bool) (k : Kind) (u : List ℕ) → (label ≡ true → k ≡ Identifier → ⊥) → read_amount label (kind_meant k u) ≡ read_exactly (kind_meant k u)
 unfolding read_amount
 no-label false k u f = refl
-no-label true k u f = rw (read_amount, no-name k u (f refl))
+no-label true k u f = rw (read_amount, no-identifier k u (f refl))
 
 -- It is read as an operand, or is its mark.
 module _ (s t : Tokens) (k : KeptToken) (text : t.source.now ≡ s.source.now) (left : s.left.now ≡ k ∷ t.left.now) where

@@ -42,8 +42,8 @@ fn parse_row(source: &[u8], mnemonic: Mnemonic, line: &Line, at: usize) -> Resul
     crate::source::read_operands(&mut tokens, mnemonic)
 }
 
-// The instruction whose mnemonic is the token at `at`. A label's two tokens stand before it, at most. It is public and total, so it asks itself
-// whether the token is there and an Identifier, though `image_line: record`, its one caller besides tests, knows the first of each line, and
+// The instruction whose mnemonic is the token at `at`. A label's two tokens stand before it, at most. It is public, so it asks itself whether
+// the token is there and an Identifier, though `image_line: record`, its one caller besides tests, knows the first of each line, and
 // the second of some.
 pub fn parse_instruction(source: &[u8], line: &Line, at: usize) -> Result<Draft, Refusal>
     requires kept_line { Kept source.now line.now }
@@ -57,8 +57,7 @@ pub fn parse_instruction(source: &[u8], line: &Line, at: usize) -> Result<Draft,
     let Kind::Identifier = token.kind else {
         return Err(Refusal::MnemonicExpected);
     };
-    let end = token.start + token.length;
-    let key = text_lexical::name::lower_key(&source[token.start..end]);
+    let key = text_lexical::name::lower_key(token.spelling(source));
     let Some(mnemonic) = key.and_then(instruction::opcode::find_mnemonic) else {
         return Err(Refusal::UnknownMnemonic);
     };

@@ -6,7 +6,7 @@ use native.Mathlib.Numerals.{add-one}
 use mathlib.Core.Bool.{Bool, true, false, ◌||◌}
 use mathlib.Core.List.{List, [], ◌∷◌}
 use mathlib.Core.Option.{Option, none, some}
-use lib.ListN.{length, take, drop, get_or, length-drop, drop_of_length-le}
+use lib.ListN.{length, take, drop, get_or, get_or-eq_default, length-drop, drop_of_length-le}
 use lib.Seq.{drop-cons}
 use lib.Dec.{leb, ltb, eqb}
 use lib.IntN.{pos}
@@ -28,7 +28,7 @@ use Rattle.text_lexical.proofs.Registers.{register-index}
 use Rattle.text.specs.Tokens.{is_register, Class, Number, Hex, Binary, Directive, Mark, longest, Token, identifier, register, number, hex, binary, directive, within, number_token, pattern_token, register_token, mark_token, token_of, sized, matched, front}
 use Rattle.text.specs.NameSets.{Naming}
 use Rattle.text_lexical.proofs.Numbers.{abs_minus}
-use Rattle.text.specs.Promised.{kind_meant, pattern_kind, kind_for, token_at, number_start, number_scan, IsDecimal, PrefixIs, Prefixed, NoWord}
+use Rattle.text.specs.Promised.{kind_meant, pattern_kind, kind_for, token_at, name_end, number_start, scan_if, IsDecimal, PrefixIs, Prefixed, NoWord}
 use Rattle.text.specs.declared.lexer.Kind.{Kind}
 use Rattle.text.specs.declared.lexer.Kind.TheVariants.{Identifier as IdentifierKind, Register as RegisterKind, NoRegister, Number as NumberKind, Negative}
 use Rattle.text.specs.declared.lexer.Scan.{Scan}
@@ -48,6 +48,39 @@ pub part-cons : (s : List ℕ) (at e : ℕ) → at < e → at < length s → tak
 part-cons s at e h l =
     let q : e - at ≡ suc (e - (at + 1)) = omega arith in
     rw (q, drop-cons s at 0 l, add-one at)
+
+-- ---- what begins at a place
+
+-- Where a token begins with such a byte it is answered, and none where none does.
+module _ (p : ℕ → Bool) (names : List Name) (s : List ℕ) (at : ℕ) where
+  pub begins-with : (r : Scan) → Some r ≡ scan_if p names s at → (p (get_or s at 0) ≡ true) × (r ≡ token_at names s at)
+  unfolding scan_if
+  begins-with r e =
+      by-test (p (get_or s at 0))
+      (λ t. let q : Some r ≡ Some (token_at names s at) = rw (scan_if, t) at e in (t, cc))
+      (λ n. let q : Some r ≡ None = rw (scan_if, n) at e in let z : ◌≡◌ {A = ℕ} 0 1 = cc in absurd (omega arith))
+
+  pub begins-otherwise : None ≡ scan_if p names s at → p (get_or s at 0) ≡ false
+  unfolding scan_if
+  begins-otherwise e =
+      not-true (p (get_or s at 0)) (λ t. let q : None ≡ Some (token_at names s at) = rw (scan_if, t) at e in let z : ◌≡◌ {A = ℕ} 0 1 = cc in omega arith)
+
+-- Where a name begins is within the text, and it ends after its parts.
+module _ (s : List ℕ) (at : ℕ) where
+  pub no-name-past : length s ≤ at → name_start (get_or s at 0) ≡ false
+  unfolding name_start letter between
+  no-name-past h = rw (get_or-eq_default s 0 {n = at} h) refl
+
+  pub name-begins : (e : ℕ) → Some e ≡ name_end s at → (at < length s) × (name_start (get_or s at 0) ≡ true) × (e ≡ at + 1 + run name_part (drop (at + 1) s))
+  unfolding name_end
+  name-begins e q =
+      by-test (name_start (get_or s at 0))
+      (λ t. let r : Some e ≡ Some (at + 1 + run name_part (drop (at + 1) s)) = rw (name_end, t) at q in (split at (length s) (λ l. l) (λ m. let n = no-name-past m in cc), t, cc))
+      (λ n. let r : Some e ≡ None = rw (name_end, n) at q in cc)
+
+  pub no-name : None ≡ name_end s at → name_start (get_or s at 0) ≡ false
+  unfolding name_end
+  no-name q = not-true (name_start (get_or s at 0)) (λ t. let r : None ≡ Some (at + 1 + run name_part (drop (at + 1) s)) = rw (name_end, t) at q in cc)
 
 -- ---- words
 
@@ -85,20 +118,6 @@ no-number-start b h = (not-true (digit b) (λ t. no_both (or_left (digit b) (eqb
 pub number-digit : (b : ℕ) → number_start b ≡ true → (b ≡ 45 → ⊥) → digit b ≡ true
 unfolding number_start
 number-digit b h f = or_elim (digit b) (eqb b 45) h (λ d. d) (λ e. absurd (f (eqb-true b 45 e)))
-
--- Where a number begins the token there is answered, and none where none does.
-pub number-begins : (names : List Name) (s : List ℕ) (at : ℕ) (r : Scan) → Some r ≡ number_scan names s at
-    → (number_start (get_or s at 0) ≡ true) × (r ≡ token_at names s at)
-unfolding number_scan
-number-begins names s at r e =
-    by-test (number_start (get_or s at 0))
-    (λ t. let q : Some r ≡ Some (token_at names s at) = rw (number_scan, t) at e in (t, cc))
-    (λ n. let q : Some r ≡ None = rw (number_scan, n) at e in let z : ◌≡◌ {A = ℕ} 0 1 = cc in absurd (omega arith))
-
-pub no-number-begins : (names : List Name) (s : List ℕ) (at : ℕ) → None ≡ number_scan names s at → number_start (get_or s at 0) ≡ false
-unfolding number_scan
-no-number-begins names s at e =
-    not-true (number_start (get_or s at 0)) (λ t. let q : None ≡ Some (token_at names s at) = rw (number_scan, t) at e in let z : ◌≡◌ {A = ℕ} 0 1 = cc in omega arith)
 
 digit-no-minus : (b : ℕ) → digit b ≡ true → eqb b 45 ≡ false
 digit-no-minus b h = let l = digit-from b h in ne_eqb b 45 (λ e. omega arith)

@@ -128,11 +128,11 @@ longest-suc names s k = go (class_of names (take (suc k) s))
     go none = refl
 
 -- a match takes no more bytes than there are
-Within : ℕ → Option Match → Type 0
+unfoldable pub Within : ℕ → Option Match → Type 0
 Within n none = Unit {0}
 Within n (some m) = (0 < m.size) × (m.size ≤ n)
 
-longest-within : (names : List Name) (s : List ℕ) (k : ℕ) → Within k (longest names s k)
+pub longest-within : (names : List Name) (s : List ℕ) (k : ℕ) → Within k (longest names s k)
 unfolding Within picked longest
 longest-within names s zero = tt
 longest-within names s (suc k) = rw (longest-suc names s k) (go (class_of names (take (suc k) s)) (longest names s k) (longest-within names s k))
@@ -359,7 +359,7 @@ left-blanks names [] = refl
 left-blanks names (b ∷ t) =
     by-test (blank b) (λ e. left-blank names b t e ∙ left-blanks names t ∙ rw (before, e)) (λ e. rw (before, e))
 
-edge-blank : (b : ℕ) → edge b ≡ false → blank b ≡ false
+pub edge-blank : (b : ℕ) → edge b ≡ false → blank b ≡ false
 unfolding edge blank between
 edge-blank b h = not-true (blank b) (λ e. no_both (or_elim (eqb b 9) _ e (λ k. rw (eqb-true b 9 k)) (λ k. rw (eqb-true b 32 k))) h)
 

@@ -3,10 +3,12 @@ pub mod Tokens
 pub mod Lines
 pub mod Marks
 pub mod Left
+pub mod Parts
 pub mod Endings
 pub mod Meanings
 pub mod Fronts
 pub mod Numbers
+pub mod Identifiers
 pub mod Stepping
 pub mod Recording
 pub mod NameSets

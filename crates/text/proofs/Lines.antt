@@ -28,6 +28,24 @@ unfolding lines every inside extended
 lines_cons [] s h = refl
 lines_cons (b ∷ t) s h = rw (lines, not-true (eqb b 10) (every-head inside b t h), lines_cons t s (every-tail inside b t h))
 
+-- A text has a line, if only an empty one,
+lines-some : (s : List ℕ) → (l : List ℕ) × (ls : List (List ℕ)) × (lines s ≡ l ∷ ls)
+unfolding lines extended
+lines-some [] = ([], [], refl)
+lines-some (b ∷ s) =
+    let (l, ls, e) = lines-some s in
+    by-test (eqb b 10) (λ h. ([], lines s, rw (lines, h))) (λ h. (b ∷ l, ls, rw (lines, h, e)))
+
+-- and a byte 10 at its end adds an empty one.
+pub lines-ended : (s : List ℕ) → lines (s ++ (10 ∷ [])) ≡ lines s ++ ([] ∷ [])
+unfolding lines extended
+lines-ended [] = refl
+lines-ended (b ∷ s) =
+    let (l, ls, e) = lines-some s in
+    by-test (eqb b 10)
+    (λ h. rw (lines, h) (ap (λ (ms : List (List ℕ)). [] ∷ ms) (lines-ended s)))
+    (λ h. rw (lines, h) (ap (extended b) (lines-ended s) ∙ rw e))
+
 -- ---- the line at a place
 
 first-line : (t : List ℕ) → run inside t < length t → lines t ≡ before inside t ∷ lines (drop (suc (run inside t)) t)

@@ -15,7 +15,7 @@ use Rattle.text_lexical.proofs.Tests.{by-test}
 use Rattle.text.specs.Tokens.{Token, mark_token, comma, colon, opening, closing}
 use Rattle.text.specs.Promised.{kind_meant, kind_for, mark_kind, mark_of_byte}
 use Rattle.text.specs.declared.lexer.Kind.{Kind}
-use Rattle.text.specs.declared.lexer.Kind.TheVariants.{Identifier, Register, NoRegister, Number, Negative, Hex, Binary, Directive, Comma, Colon, LParen, RParen}
+use Rattle.text.specs.declared.lexer.Kind.TheVariants.{Comma, Colon, LParen, RParen}
 use Rattle.text.specs.contracts.lexer.KindPartialEq.TheImpl.{eq-value}
 
 pub mark-no : (b : ℕ) → (b ≡ 44 → ⊥) → (b ≡ 58 → ⊥) → (b ≡ 40 → ⊥) → (b ≡ 41 → ⊥) → mark b ≡ false
@@ -42,18 +42,11 @@ abbrev Same : Kind → ℕ → Maybe Kind → Type 0
 Same k b x = option_eq eq-value.it x (Some k) ≡ mark_of_byte k b
 
 pub same-mark : (k : Kind) (b : ℕ) → Same k b (mark_kind b)
-same-mark Identifier b = by-mark b (Same Identifier) refl refl refl refl (λ c d o e. refl)
-same-mark (Register r) b = by-mark b (Same (Register r)) refl refl refl refl (λ c d o e. refl)
-same-mark NoRegister b = by-mark b (Same NoRegister) refl refl refl refl (λ c d o e. refl)
-same-mark (Number n) b = by-mark b (Same (Number n)) refl refl refl refl (λ c d o e. refl)
-same-mark (Negative n) b = by-mark b (Same (Negative n)) refl refl refl refl (λ c d o e. refl)
-same-mark (Hex n) b = by-mark b (Same (Hex n)) refl refl refl refl (λ c d o e. refl)
-same-mark (Binary n) b = by-mark b (Same (Binary n)) refl refl refl refl (λ c d o e. refl)
-same-mark Directive b = by-mark b (Same Directive) refl refl refl refl (λ c d o e. refl)
 same-mark Comma b = by-mark b (Same Comma) refl refl refl refl (λ c d o e. sym (ne_eqb b 44 c))
 same-mark Colon b = by-mark b (Same Colon) refl refl refl refl (λ c d o e. sym (ne_eqb b 58 d))
 same-mark LParen b = by-mark b (Same LParen) refl refl refl refl (λ c d o e. sym (ne_eqb b 40 o))
 same-mark RParen b = by-mark b (Same RParen) refl refl refl refl (λ c d o e. sym (ne_eqb b 41 e))
+same-mark k b = by-mark b (Same k) refl refl refl refl (λ c d o e. refl)
 
 -- The token of a mark, by its kind.
 pub record Marked (b : ℕ) (k : Kind) : Type 0 where

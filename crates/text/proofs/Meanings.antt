@@ -7,7 +7,7 @@ use mathlib.Core.Option.{Option, none, some}
 use mathlib.Core.List.{List, [], ◌∷◌}
 use lib.ListN.{take, drop, get_or}
 use lib.Dec.{leb, ltb, eqb}
-use lib.IntN.{pos}
+use lib.IntN.{pos, nat_abs}
 use borrow.Author.Tests.{ltb-true, eqb-true, eq-eqb}
 use Rattle.text_lexical.specs.Bytes.{value, same}
 use Rattle.text_lexical.specs.Numbers.{value_of, minus}
@@ -16,13 +16,13 @@ use Rattle.text_lexical.proofs.Tests.{by-test, no_both}
 use Rattle.text_lexical.proofs.Strings.{found}
 use Rattle.text_lexical.proofs.Registers.{index-register}
 use Rattle.text_lexical.proofs.Numbers.{whole-meant, abs_minus}
-use Rattle.text.specs.Tokens.{Class, Register, Identifier, Number, Hex, Binary, Directive, Mark, Match, Token, identifier, register, number, hex, binary, directive, comma, colon, opening, closing, within, number_token, pattern_token, register_token, mark_token, token_of, Sized, sized, matched, front, longest}
+use Rattle.text.specs.Tokens.{Class, Register, Identifier, Number, Hex, Binary, Directive, Mark, Match, Token, register, number, hex, binary, comma, colon, opening, closing, within, number_token, pattern_token, register_token, mark_token, token_of, Sized, sized, matched, front, longest}
 use Rattle.text.specs.Values.{read_number}
 use Rattle.text.specs.NameSets.{is_numbered, Naming}
 use Rattle.refusal.specs.Refusals.{refusals}
-use Rattle.text.specs.Promised.{extract_for, extracted, extract_meant, kind_meant, register_kind, kind_for}
+use Rattle.text.specs.Promised.{extract_for, extracted, extract_meant, kind_meant, kind_for}
 use Rattle.text.specs.declared.lexer.Kind.{Kind}
-use Rattle.text.specs.declared.lexer.Kind.TheVariants.{Identifier as IdentifierKind, Register as RegisterKind, NoRegister, Number as NumberKind, Negative, Hex as HexKind, Binary as BinaryKind, Directive as DirectiveKind, Comma, Colon, LParen, RParen}
+use Rattle.text.specs.declared.lexer.Kind.TheVariants.{Identifier as IdentifierKind, Number as NumberKind, Negative}
 
 -- Where there is no token there is none.
 no-token : {t : Token} → ◌≡◌ {A = Option Token} none (some t) → ⊥
@@ -107,46 +107,15 @@ module _ (names : List Name) (ok : Naming names) where
 
 -- ---- the sign
 
--- 1: a number with a sign, 2: one without, 0: no such number.
-signed : Kind → ℕ
-signed (Negative n) = 1
-signed (NumberKind n) = 2
-signed IdentifierKind = 0
-signed (RegisterKind r) = 0
-signed NoRegister = 0
-signed (HexKind n) = 0
-signed (BinaryKind n) = 0
-signed DirectiveKind = 0
-signed Comma = 0
-signed Colon = 0
-signed LParen = 0
-signed RParen = 0
-
-register-signed : (r : Option ℕ) → signed (register_kind r) ≡ 0
-unfolding signed
-register-signed none = refl
-register-signed (some n) = refl
-
 -- The spelling of a kind with a sign begins with `-`, and that of a decimal number without one does not.
-kind-signed : (m : Token) (u : List ℕ) → (signed (kind_for m u) ≡ 1 → get_or u 0 0 ≡ 45) × (signed (kind_for m u) ≡ 2 → get_or u 0 0 ≡ 45 → ⊥)
-unfolding signed
-kind-signed (number z) u =
-    by-test (eqb (get_or u 0 0) 45)
-    (λ e. ((λ h. eqb-true (get_or u 0 0) 45 e), (λ h. let k : ◌≡◌ {A = ℕ} 1 2 = rw e at h in absurd (omega arith))))
-    (λ e. ((λ h. let k : ◌≡◌ {A = ℕ} 2 1 = rw e at h in absurd (omega arith)), (λ h q. no_both (eq-eqb (get_or u 0 0) 45 q) e)))
-kind-signed (register r) u = ((λ h. absurd (omega (arith, register-signed r))), (λ h. absurd (omega (arith, register-signed r))))
-kind-signed (identifier v) u = ((λ h. absurd (omega arith)), (λ h. absurd (omega arith)))
-kind-signed (hex n) u = ((λ h. absurd (omega arith)), (λ h. absurd (omega arith)))
-kind-signed (binary n) u = ((λ h. absurd (omega arith)), (λ h. absurd (omega arith)))
-kind-signed (directive v) u = ((λ h. absurd (omega arith)), (λ h. absurd (omega arith)))
-kind-signed comma u = ((λ h. absurd (omega arith)), (λ h. absurd (omega arith)))
-kind-signed colon u = ((λ h. absurd (omega arith)), (λ h. absurd (omega arith)))
-kind-signed opening u = ((λ h. absurd (omega arith)), (λ h. absurd (omega arith)))
-kind-signed closing u = ((λ h. absurd (omega arith)), (λ h. absurd (omega arith)))
-
 pub kind-sign : (m : Token) (u : List ℕ) (n : ℕ) → (kind_for m u ≡ Negative n → get_or u 0 0 ≡ 45) × (kind_for m u ≡ NumberKind n → get_or u 0 0 ≡ 45 → ⊥)
-unfolding signed
-kind-sign m u n = ((λ e. (kind-signed m u).0 (ap signed e)), (λ e. (kind-signed m u).1 (ap signed e)))
+kind-sign (number z) u n =
+    by-test (eqb (get_or u 0 0) 45)
+    (λ e. ((λ h. eqb-true (get_or u 0 0) 45 e), (λ h. let k : Negative (nat_abs z) ≡ NumberKind n = rw e at h in cc)))
+    (λ e. ((λ h. let k : NumberKind (nat_abs z) ≡ Negative n = rw e at h in cc), (λ h q. no_both (eq-eqb (get_or u 0 0) 45 q) e)))
+kind-sign (register none) u n = ((λ h. cc), (λ h. cc))
+kind-sign (register (some r)) u n = ((λ h. cc), (λ h. cc))
+kind-sign m u n = ((λ h. cc), (λ h. cc))
 
 -- ---- the number
 
@@ -154,29 +123,9 @@ kind-sign m u n = ((λ e. (kind-signed m u).0 (ap signed e)), (λ e. (kind-signe
 pub extracted-for : (k : Kind) (u : List ℕ) → extracted k ≡ extract_for (read_number (kind_meant k u))
 unfolding read_number
 extracted-for IdentifierKind u = refl
-extracted-for (RegisterKind r) u = refl
-extracted-for NoRegister u = refl
-extracted-for (NumberKind n) u = refl
-extracted-for (Negative n) u = refl
-extracted-for (HexKind n) u = refl
-extracted-for (BinaryKind n) u = refl
-extracted-for DirectiveKind u = refl
-extracted-for Comma u = refl
-extracted-for Colon u = refl
-extracted-for LParen u = refl
-extracted-for RParen u = refl
+extracted-for k u = refl
 
 pub extracted-number : (k : Kind) (u : List ℕ) → extract_meant (extracted k) ≡ read_number (kind_meant k u)
 unfolding read_number refusals
-extracted-number IdentifierKind u = refl
-extracted-number (RegisterKind r) u = refl
-extracted-number NoRegister u = refl
-extracted-number (NumberKind n) u = refl
 extracted-number (Negative n) u = ap value (whole-meant (minus n))
-extracted-number (HexKind n) u = refl
-extracted-number (BinaryKind n) u = refl
-extracted-number DirectiveKind u = refl
-extracted-number Comma u = refl
-extracted-number Colon u = refl
-extracted-number LParen u = refl
-extracted-number RParen u = refl
+extracted-number k u = refl

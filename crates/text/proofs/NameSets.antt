@@ -4,18 +4,18 @@ use Prim.Native.Nat.{ℕ, zero, suc, ◌<◌}
 use native.Mathlib.Omega.{arith}
 use mathlib.Core.Bool.{Bool, true, false, true≢false}
 use mathlib.Core.Option.{Option, none, some}
-use mathlib.Core.List.{◌∷◌}
+use mathlib.Core.List.{List, ◌∷◌}
 use lib.Dec.{eqb}
 use borrow.Author.Tests.{eqb-true}
 use Rattle.text_lexical.specs.Bytes.{bytes, between, letter, digit, name_start, name_part, every, same, find, each}
 use Rattle.text_lexical.specs.Numbers.{decimal_in, decimal}
 use Rattle.text_lexical.specs.Names.{Name, name, named, numbered, conventional, present}
 use Rattle.text_lexical.proofs.Tests.{both, split}
-use Rattle.text.specs.Tokens.{is_identifier, register, register_token, token_of}
+use Rattle.text.specs.Tokens.{is_identifier, Register, register, register_token, token_of}
 use Rattle.text.specs.NameSets.{is_numbered, Naming}
 
 -- A test that passes at each number below k.
-up_to : (ℕ → Bool) → ℕ → Bool
+unfoldable pub up_to : (ℕ → Bool) → ℕ → Bool
 up_to q zero = true
 up_to q (suc k) = elim (q k) [ true ↦ up_to q k | false ↦ false ]
 
@@ -27,11 +27,11 @@ below q (suc k) h n l =
     split n k (λ m. below q k hs n m) (λ m. let e : n ≡ k = omega arith in rw e hk)
 
 -- A name names the register with a number.
-names-it : ℕ → Option ℕ → Bool
+unfoldable pub names-it : ℕ → Option ℕ → Bool
 names-it n none = false
 names-it n (some m) = eqb m n
 
-is_name_of : ℕ → Option Name → Bool
+unfoldable pub is_name_of : ℕ → Option Name → Bool
 is_name_of n none = false
 is_name_of n (some m) = names-it n m.number
 
@@ -44,15 +44,21 @@ number_is n (some m) h = go m.number h
     go none k = absurd (true≢false (sym k))
     go (some x) k = rw (eqb-true x n k)
 
+-- So names have the numbered ones if each of sixteen is found.
+pub numbers : (names : List Name) → up_to (λ n. is_name_of n (named names (114 ∷ decimal n))) 16 ≡ true
+    → (n : ℕ) → n < 16 → token_of names Register (114 ∷ decimal n) ≡ some (register (some n))
+unfolding token_of
+numbers names h n l = number_is n (named names (114 ∷ decimal n)) (below (λ m. is_name_of m (named names (114 ∷ decimal m))) 16 h n l)
+
 present-numbered : up_to (λ n. is_name_of n (named present (114 ∷ decimal n))) 16 ≡ true
 unfolding up_to is_name_of names-it decimal decimal_in named find same present numbered conventional name bytes
 present-numbered = refl
 
 pub present-naming : Naming present
-unfolding each present numbered conventional name bytes is_identifier is_numbered every name_start name_part letter digit between token_of
+unfolding each present numbered conventional name bytes is_identifier is_numbered every name_start name_part letter digit between
 present-naming =
     record {
       identifiers = refl;
       sixteen = refl;
-      numbered = λ n l. number_is n (named present (114 ∷ decimal n)) (below (λ n. is_name_of n (named present (114 ∷ decimal n))) 16 present-numbered n l);
+      numbered = numbers present present-numbered;
     }

@@ -19,7 +19,7 @@ use Rattle.text_lexical.proofs.Tests.{split, by-test}
 use Rattle.text.specs.Tokens.{is_register, Directive, register, comma, colon, opening, closing, register_token, mark_token, token_of, sized, matched, front}
 use Rattle.text.specs.NameSets.{Naming}
 use Rattle.text.specs.Places.{left_at}
-use Rattle.text.specs.Promised.{extracted, found_at, token_at, number_with, number_of, number_at, number_start, number_scan}
+use Rattle.text.specs.Promised.{extracted, found_at, token_at, number_with, number_of, number_at, number_start, scan_if}
 use Rattle.text.specs.Values.{read_number}
 use Rattle.text.specs.declared.lexer.Scan.{Scan}
 use Rattle.text.specs.declared.lexer.Scan.TheVariants.{Found, Bad, End}
@@ -28,7 +28,7 @@ use Rattle.text.specs.declared.parser.NumberAt.{NumberAt}
 use Rattle.text.proofs.Scanning.{matching, word_class, dot_scan, scan}
 use Rattle.text.proofs.Tokens.{front-scan}
 use Rattle.text.proofs.Left.{front_at}
-use Rattle.text.proofs.Fronts.{no-number-start, number-begins, no-number-begins}
+use Rattle.text.proofs.Fronts.{begins-with, begins-otherwise, no-number-start}
 
 -- ---- what is found
 
@@ -132,10 +132,10 @@ module _ (names : List Name) (s : List ℕ) (at : ℕ) where
         (λ l. rw (drop_of_length-le s l)))
 
     -- Where a number begins, the number there is that of the token.
-    pub number-is : (r : Scan) → Some r ≡ number_scan names s at → number_of r ≡ number_at names s at
+    pub number-is : (r : Scan) → Some r ≡ scan_if number_start names s at → number_of r ≡ number_at names s at
     unfolding number_at
-    number-is r e = ap number_of (number-begins names s at r e).1
+    number-is r e = ap number_of (begins-with number_start names s at r e).1
 
     -- Where none begins there is none.
-    pub no-number-is : None ≡ number_scan names s at → None ≡ number_at names s at
-    no-number-is e = number_none (λ l. no-number-begins names s at e)
+    pub no-number-is : None ≡ scan_if number_start names s at → None ≡ number_at names s at
+    no-number-is e = number_none (λ l. begins-otherwise number_start names s at e)

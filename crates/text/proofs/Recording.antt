@@ -218,7 +218,7 @@ module _ (names : List Name) where
 
   -- A token stands at a place of a line: from there on the line reads as it and those after it.
   record Stands (s : List ℕ) (from : ℕ) (t : Token) (ts : List Token) : Type 0 where
-    behind : from ≤ t.start
+    no_earlier : from ≤ t.start
     means : tokens names (left_at s t.start) ≡ some (meant s t ∷ map (meant s) ts)
     uncut : Uncut s from t.start
     ends : end_at s t.start ≡ end_at s from
@@ -236,13 +236,13 @@ module _ (names : List Name) where
   unfolding AllStand
   stand-before s from at [] l u e h = tt
   stand-before s from at (t ∷ ts) l u e (p, h) = (
-    record { behind = omega (arith, p.behind); means = p.means; uncut = uncut_on s from at t.start u p.uncut; ends = p.ends ∙ e },
+    record { no_earlier = omega (arith, p.no_earlier); means = p.means; uncut = uncut_on s from at t.start u p.uncut; ends = p.ends ∙ e },
     stand-before s from at ts l u e h,
   )
 
   -- The last one alone is what the line reads as from its place on.
   pub record StandsLast (s : List ℕ) (from : ℕ) (t : Token) : Type 0 where
-    pub behind : from ≤ t.start
+    pub no_earlier : from ≤ t.start
     pub means : tokens names (left_at s t.start) ≡ some (meant s t ∷ [])
     pub uncut : Uncut s from t.start
     pub ends : end_at s t.start ≡ end_at s from
@@ -250,7 +250,7 @@ module _ (names : List Name) where
   last-stands : (s : List ℕ) (from : ℕ) (ts : List Token) → 0 < length ts → AllStand s from ts → StandsLast s from (get_or ts (length ts - 1) filler)
   unfolding AllStand
   last-stands s from [] l h = absurd (omega arith)
-  last-stands s from (t ∷ []) l (p, h) = record { behind = p.behind; means = p.means; uncut = p.uncut; ends = p.ends }
+  last-stands s from (t ∷ []) l (p, h) = record { no_earlier = p.no_earlier; means = p.means; uncut = p.uncut; ends = p.ends }
   last-stands s from (t ∷ u ∷ ts) l (p, h) =
       let e : suc (suc (length ts)) - 1 ≡ suc (suc (length ts) - 1) = omega arith in rw e (last-stands s from (u ∷ ts) (omega arith) h)
 
@@ -346,7 +346,7 @@ module _ (names : List Name) where
         infront-stands t next (some ts) q l e f =
             let (b, z, p, m, i, k) = l in (
               record {
-                behind = omega (arith, b);
+                no_earlier = omega (arith, b);
                 means = ap (λ (x : ℕ). tokens names (left_at s x)) b ∙ sym (blanks_at names s at) ∙ e;
                 uncut = λ c m n. uncut names ok s at t next q c m (omega (arith, b));
                 ends = ap (end_at s) b ∙ (run-within blank blank-inside s at (past s at) (omega arith) refl).2;

@@ -2,7 +2,7 @@
 use Rattle.std.specs.Prelude.{ℕ, zero, suc, ◌+◌, ◌-◌, ◌≤◌, ◌<◌, ◌≡◌, Bool, true, false, ◌||◌, List, [], ◌∷◌, ◌++◌, map, length, take, drop, get_or, replicate, eqb, ℤ, pos, nat_abs, Some, None, Ok, Err}
 use Rattle.std.specs.Prelude.{Option as Maybe, Result as Answer}
 use Rattle.std.proofs.Math.Option.{Option, none, some}
-use Rattle.text_lexical.specs.Bytes.{Result, value, refused, digit, name_start, blank, margin, mark, run}
+use Rattle.text_lexical.specs.Bytes.{Result, value, refused, digit, name_start, name_part, blank, margin, mark, run}
 use Rattle.text_lexical.specs.Numbers.{minus}
 use Rattle.text_lexical.specs.Names.{Name}
 use Rattle.text_lexical.specs.Promised.{index_of, register_at, whole_meant, whole_for}
@@ -158,37 +158,31 @@ number_of (End e) = None
 unfoldable pub number_at : List Name → List ℕ → ℕ → Maybe NumberAt
 number_at names s at = number_of (token_at names s at)
 
--- The place after a token that is found, if it is an Identifier.
-abbrev pub after_kind : Kind → ℕ → Maybe ℕ
-after_kind Identifier next = Some next
-after_kind (RegisterKind r) next = None
-after_kind NoRegister next = None
-after_kind (Number n) next = None
-after_kind (Negative n) next = None
-after_kind (Hex n) next = None
-after_kind (Binary n) next = None
-after_kind Directive next = None
-after_kind Comma next = None
-after_kind Colon next = None
-after_kind LParen next = None
-after_kind RParen next = None
+-- The length of a token that is found, if it is an Identifier.
+abbrev pub length_with : Kind → ℕ → Maybe ℕ
+length_with Identifier n = Some n
+length_with k n = None
 
-abbrev pub after_identifier : Scan → Maybe ℕ
-after_identifier (Found t next) = after_kind t.kind next
-after_identifier Bad = None
-after_identifier (End e) = None
+abbrev pub length_of : Scan → Maybe ℕ
+length_of (Found t next) = length_with t.kind t.length
+length_of Bad = None
+length_of (End e) = None
 
--- Where the Identifier that stands at a place ends, by a set of names.
-unfoldable pub identifier_end : List Name → List ℕ → ℕ → Maybe ℕ
-identifier_end names s at = after_identifier (token_at names s at)
+-- The length of the Identifier that stands at a place, by a set of names.
+unfoldable pub identifier_length : List Name → List ℕ → ℕ → Maybe ℕ
+identifier_length names s at = length_of (token_at names s at)
+
+-- Where the name at a place ends, if its first byte is a name's.
+unfoldable pub name_end : List ℕ → ℕ → Maybe ℕ
+name_end s at = elim (name_start (get_or s at 0)) [ true ↦ Some (at + 1 + run name_part (drop (at + 1) s)) | false ↦ None ]
 
 -- A number's first byte: a digit or `-`.
 unfoldable pub number_start : ℕ → Bool
 number_start b = digit b || eqb b 45
 
--- The token at a place, if a number begins there.
-unfoldable pub number_scan : List Name → List ℕ → ℕ → Maybe Scan
-number_scan names s at = elim (number_start (get_or s at 0)) [ true ↦ Some (token_at names s at) | false ↦ None ]
+-- The token at a place, if the byte there is a first byte of such a token.
+unfoldable pub scan_if : (ℕ → Bool) → List Name → List ℕ → ℕ → Maybe Scan
+scan_if p names s at = elim (p (get_or s at 0)) [ true ↦ Some (token_at names s at) | false ↦ None ]
 
 -- Decimal digits at a place, which no longer match begins.
 pub record IsDecimal (names : List Name) (s : List ℕ) (at : ℕ) : Type 0 where

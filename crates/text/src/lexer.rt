@@ -1,9 +1,9 @@
-// Tokens: the one that stands at a place of a line, and the next one past blanks. Each function takes the slice and a place in it, the form
+// Tokens: the one that stands at a place of a line, and the next one past blanks. What reads takes the slice and a place in it, the form
 // that document 01 names for what the reader rests on, and so asks that the place is within the slice.
 ghost use Rattle.std.specs.Prelude.{◌≡◌, true, false, ◌+◌, ◌-◌, ◌≤◌, ◌<◌, length, drop, get_or};
 ghost use Rattle.text_lexical.specs.Bytes.{name_start, digit, blank, run};
 ghost use Rattle.text_lexical.specs.Names.{present};
-ghost use Rattle.text.specs.Promised.{pattern_kind, mark_kind, mark_of_byte, ending_at, token_at, scan_at, number_scan, IsDecimal, Prefixed, NoWord};
+ghost use Rattle.text.specs.Promised.{spelling, name_end, pattern_kind, mark_kind, mark_of_byte, ending_at, token_at, scan_at, number_start, scan_if, IsDecimal, Prefixed, NoWord};
 
 use text_lexical::bytes::{Blank, Class, Inside, Margin, NamePart};
 use text_lexical::name::RegisterName;
@@ -37,6 +37,16 @@ pub struct Token {
     pub length: usize,
 }
 
+impl Token {
+    // Its spelling, in the text that it is a token of.
+    pub fn spelling(self, text: &[u8]) -> &[u8]
+        requires { self.start + self.length ≤ length text.now }
+        ensures { result.now ≡ spelling text.now self }
+    {
+        &text[self.start..self.start + self.length]
+    }
+}
+
 // What stands at a place: a token and the place after it, no token, or nothing that is left to read, with the place where the line ends. Of
 // these three only the second is an error, and it is no refusal before the line is known to be read by tokens: a `Result` would say less
 // plainly which is which. The place after a token is its start and its length together; it is answered because whoever reads on does so
@@ -62,18 +72,30 @@ fn found(kind: Kind, at: usize, end: usize) -> Scan
     }
 }
 
-// A word: a Register or an Identifier.
-pub(crate) fn word(text: &[u8], at: usize) -> Scan
-    requires in_text { at < length text.now }
-    requires name_starts { name_start (get_or text.now at 0) ≡ true }
-    ensures { result ≡ token_at present text.now at }
+// Where the name at `at` ends, if one begins there: a letter or `_`, and then letters, digits and `_`.
+fn name_end(text: &[u8], at: usize) -> Option<usize>
+    requires { at ≤ length text.now }
+    ensures { result ≡ name_end text.now at }
 {
-    let end = text_lexical::bytes::run_end::<NamePart>(text, at + 1);
-    match text_lexical::name::parse_register(&text[at..end]) {
-        RegisterName::Is(register) => found(Kind::Register(register), at, end),
-        RegisterName::NoSuch => found(Kind::NoRegister, at, end),
-        RegisterName::Other => found(Kind::Identifier, at, end),
+    if text.len() <= at || !text_lexical::bytes::is_name_start(text[at]) {
+        return None;
     }
+    Some(text_lexical::bytes::run_end::<NamePart>(text, at + 1))
+}
+
+// A word at `at`, a Register or an Identifier, if one begins there: with a letter or `_`. It is told to be compiled in line, as `number` is.
+#[inline(always)]
+pub(crate) fn word(text: &[u8], at: usize) -> Option<Scan>
+    requires { at ≤ length text.now }
+    ensures { result ≡ scan_if name_start present text.now at }
+{
+    let end = name_end(text, at)?;
+    let kind = match text_lexical::name::parse_register(&text[at..end]) {
+        RegisterName::Is(register) => Kind::Register(register),
+        RegisterName::NoSuch => Kind::NoRegister,
+        RegisterName::Other => Kind::Identifier,
+    };
+    Some(found(kind, at, end))
 }
 
 // A Number is within i64: below 2^63, and with `-` at most that.
@@ -155,11 +177,11 @@ fn digits(text: &[u8], at: usize) -> Scan
 
 // What stands at `at`, if a number begins there: with `-` or a digit. Where none begins, no other token is read to its end. It is told to be
 // compiled in line: as a call it hands its answer on through memory, and lines with numbers take some 10 in 100 longer.
-#[tactic(auto, unfolding(crate::specs::Promised::number_scan, crate::specs::Promised::number_start))]
+#[tactic(auto, unfolding(crate::specs::Promised::scan_if, crate::specs::Promised::number_start))]
 #[inline(always)]
 pub(crate) fn number(text: &[u8], at: usize) -> Option<Scan>
     requires { at < length text.now }
-    ensures { result ≡ number_scan present text.now at }
+    ensures { result ≡ scan_if number_start present text.now at }
 {
     match text[at] {
         b'-' => Some(minus(text, at)),
@@ -174,15 +196,10 @@ fn directive(text: &[u8], at: usize) -> Scan
     requires dot_here { get_or text.now at 0 ≡ 46 }
     ensures { result ≡ token_at present text.now at }
 {
-    let second = at + 1;
-    if text.len() <= second {
-        return Scan::Bad;
+    match name_end(text, at + 1) {
+        Some(end) => found(Kind::Directive, at, end),
+        None => Scan::Bad,
     }
-    if !text_lexical::bytes::is_name_start(text[second]) {
-        return Scan::Bad;
-    }
-    let end = text_lexical::bytes::run_end::<NamePart>(text, second + 1);
-    found(Kind::Directive, at, end)
 }
 
 // Where the line ends, if nothing but margin or a comment is left of it from `at` on. Each line is left by it, and a call of it, which the
@@ -254,11 +271,10 @@ fn front(text: &[u8], at: usize) -> Scan
     requires no_blank { blank (get_or text.now at 0) ≡ false }
     ensures { result ≡ scan_at present text.now at }
 {
-    let b = text[at];
-    if text_lexical::bytes::is_name_start(b) {
-        return word(text, at);
+    if let Some(scan) = word(text, at) {
+        return scan;
     }
-    if b == b'.' {
+    if text[at] == b'.' {
         return directive(text, at);
     }
     match number(text, at) {

@@ -2,7 +2,7 @@
 ghost use Rattle.std.specs.Prelude.{◌≡◌, ◌≤◌, length};
 ghost use Rattle.text_lexical.specs.Names.{present};
 ghost use Rattle.text.specs.Places.{StartsAt};
-ghost use Rattle.text.specs.Promised.{extracted, number_at, identifier_end, record_at};
+ghost use Rattle.text.specs.Promised.{extracted, number_at, identifier_length, record_at};
 
 use crate::lexer::{Kind, Scan, Token};
 use crate::reader::Reader;
@@ -50,19 +50,16 @@ pub fn number_at(text: &[u8], at: usize) -> Option<NumberAt>
     Some(NumberAt { number, end: next })
 }
 
-// Where the Identifier that stands at a place ends: none where none stands there.
-pub fn identifier_end(text: &[u8], at: usize) -> Option<usize>
+// The length of the Identifier that stands at a place: none where none stands there. The place after it is one addition away.
+pub fn identifier_length(text: &[u8], at: usize) -> Option<usize>
     requires { at ≤ length text.now }
-    ensures { result ≡ identifier_end present text.now at }
+    ensures { result ≡ identifier_length present text.now at }
 {
-    if text.len() <= at || !text_lexical::bytes::is_name_start(text[at]) {
-        return None;
-    }
-    let Scan::Found { token, next } = crate::lexer::word(text, at) else {
-        return None;
+    let Scan::Found { token, .. } = crate::lexer::word(text, at)? else {
+        return None; // a word is always found
     };
     if token.kind == Kind::Identifier {
-        return Some(next);
+        return Some(token.length);
     }
     None
 }

@@ -117,7 +117,7 @@ static NAME_BYTES: [u8; 256] = [
     0, 0, 0, 0, 0, 0, 0, 0, 0, 0, 0, 0, 0, 0, 0, 0,
 ];
 
-// The tests below go by the names that the definitions of tokens have.
+// The tests below go by the names that the definitions of tokens have, but for this one, which is `between` there: a byte from one to another.
 #[tactic(auto, unfolding(crate::specs::Bytes::between))]
 pub fn within(lo: u8, hi: u8, b: u8) -> bool
     ensures { result ≡ between lo hi b }

@@ -91,7 +91,7 @@ fn two_bytes(first: u8, second: u8) -> RegisterName
     }
 }
 
-// The register that three bytes name: r10 to r15.
+// The register that three bytes name: r10 to r15. A higher number makes an Identifier, where `a5` is a register's name that has none.
 fn three_bytes(first: u8, second: u8, third: u8) -> RegisterName
     ensures { name_meant result ≡ name_number (named present (first ∷ second ∷ third ∷ [])) }
 {
@@ -99,7 +99,7 @@ fn three_bytes(first: u8, second: u8, third: u8) -> RegisterName
         return RegisterName::Other;
     }
     match crate::number::decimal(third) {
-        Some(digit) if digit < 6 => numbered(10 + digit),
+        Some(digit) if digit < 6 => RegisterName::Is(Register::from_index(10 + digit)),
         _ => RegisterName::Other,
     }
 }

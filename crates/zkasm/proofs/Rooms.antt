@@ -13,7 +13,7 @@ use Rattle.text.specs.Lines.{extended, lines, read_line}
 use Rattle.instruction.specs.Words.{word_of}
 use Rattle.image.specs.Settings.{begin}
 use Rattle.image.specs.Program.{header_size, image_length}
-use Rattle.image.specs.Assembling.{Effect, nothing, sets, codes, faulty, Context, read_on, context_after, reads_from, reads, words_of, address_in, Assembled, accepted, rejected, reading, fitted, assembling}
+use Rattle.image.specs.Assembling.{Effect, nothing, sets, codes, faulty, Context, first_context, read_on, context_after, reads_from, reads, words_of, address_in, Assembled, accepted, rejected, reading, fitted, assembling}
 use Rattle.image.specs.Listing.{text_of, listing_fault, written, listing}
 use Rattle.image.specs.Meaning.{instructions_of, settings_of, image_of}
 use Rattle.zkasm.specs.Zkasm.{most_input, table_room, input_words, image_room, text_room}
@@ -58,7 +58,7 @@ lines-words names c (l ∷ ls) =
 pub words-few : (s : List ℕ) → length s ≤ most_input → length (instructions_of present s) ≤ input_words
 unfolding instructions_of reads
 words-few s h =
-    omega (arith, coded-length (address_in 0 (reads present s)) 0 (reads present s), lines-words present (record { setup = begin }) (lines s), lines-few s)
+    omega (arith, coded-length (address_in 0 (reads present s)) 0 (reads present s), lines-words present first_context (lines s), lines-few s)
 
 -- So the image buffer suffices.
 pub never-23 : (s : List ℕ) (size : ℕ) → length s ≤ most_input → image_room ≤ size → assembling present s table_room size ≡ reading present s table_room

@@ -33,6 +33,7 @@ pub fn answer_input<R: Read>(reader: &mut R, out: &mut [u8]) -> Result<usize, Un
     let mut input = stdin::blank();
     match stdin::read_input(reader, &mut input) {
         Input::Whole(n) => Ok(report(&input[..n], out)),
+        // the buffer is full, a byte longer than an input may be, which `report` tells of every input by its length
         Input::TooLong => Ok(report(&input, out)),
         Input::Incomplete => Err(Unread),
     }

@@ -12,7 +12,7 @@ use image_labels::label::Label;
 use refusal::refusal::Refusal;
 use text_writer::sink::{Sink, Writer};
 
-// Room for the image of every input: it has a line more at most than bytes.
+// Room for the image of every input: it has a line more at most than bytes. `image_length` says the same, but a constant calls no function.
 const IMAGE_ROOM: usize = HEADER_SIZE + WORD_SIZE * ROOM;
 
 // Room for its text: three settings and as many words, of at most 22 bytes a line. There is no heap, so the buffer is lent, and each function

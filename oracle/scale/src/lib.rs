@@ -4,6 +4,7 @@
 pub mod arguments;
 pub mod desk;
 pub mod differences;
+pub mod edits;
 pub mod hostile;
 pub mod interface;
 pub mod large;

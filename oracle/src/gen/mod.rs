@@ -1,11 +1,13 @@
 //! Sources to ask, each made from a kind and a seed. All are ASCII and within the added limits.
 
+mod edits;
 mod kinds;
 mod numbers;
 mod rng;
 mod spelling;
 mod targets;
 
+pub use edits::redrawn_line;
 pub use kinds::damaged_image;
 pub use numbers::{GOOD_NUMBERS, ODD_NUMBERS};
 pub use rng::Rng;

@@ -77,7 +77,7 @@ fn content(rng: &mut Rng, names: &[&'static str], odd: bool) -> Vec<Token> {
 }
 
 /// A jump or branch with this token as its last.
-fn jump(rng: &mut Rng, target: impl FnOnce(&mut Rng) -> Token) -> Vec<Token> {
+pub fn jump(rng: &mut Rng, target: impl FnOnce(&mut Rng) -> Token) -> Vec<Token> {
     let row = loop {
         // One in four is a jal, of which there is one row.
         let row: Row = rng.pick(&ROWS);
@@ -91,7 +91,7 @@ fn jump(rng: &mut Rng, target: impl FnOnce(&mut Rng) -> Token) -> Vec<Token> {
 }
 
 /// A name that no label of the source may have, a register's name, or another token.
-fn odd_target(rng: &mut Rng) -> Token {
+pub fn odd_target(rng: &mut Rng) -> Token {
     match rng.below(6) {
         0 => rng.pick(&REGISTERS).into(),
         1 => rng.pick(&NEAR_REGISTERS).into(),

@@ -2,8 +2,9 @@
 //!
 //!     compare SEEDS [FIRST]
 //!
-//! SEEDS is the number of sources of each kind of the generator, FIRST the first seed. It ends with
-//! an error if anything differs, or if there is a refusal that no source met.
+//! SEEDS is the number of sources of each kind of the generator, FIRST the first seed. About half of
+//! SEEDS pairs of sources differ in one line. It ends with an error if anything differs, if there is a
+//! refusal that no source met, or if no falsified pair was noticed, as with few seeds.
 
 use std::ops::Range;
 use std::process::ExitCode;
@@ -14,6 +15,7 @@ use oracle::{Answer, Asked, MOST_SOURCE_BYTES, MOST_WORDS};
 use scale::arguments::two_numbers;
 use scale::desk::{enough, Desk, Difference};
 use scale::differences::Differences;
+use scale::edits::Edits;
 use scale::interface::{Crate, Exported};
 use scale::large;
 use scale::lengths::{about, more};
@@ -35,6 +37,7 @@ struct Run {
     exported: Desk<Exported>,
     groups: Vec<Group>,
     differences: Differences,
+    edits: Edits<Crate>,
 }
 
 fn main() -> ExitCode {
@@ -48,6 +51,7 @@ fn main() -> ExitCode {
         exported: Desk::new(Exported::default()),
         groups: Vec::new(),
         differences: Differences::default(),
+        edits: Edits::new(Crate),
     };
     run.every_kind(first..first + seeds);
     run.every_short_line();
@@ -56,6 +60,9 @@ fn main() -> ExitCode {
     run.large_sources(first..first + seeds.div_ceil(1000));
     run.long_sources(first..first + seeds.div_ceil(20_000));
     run.limits();
+    run.edits.every_kind(first..first + seeds.div_ceil(6));
+    run.edits
+        .large_sources(first..first + seeds.div_ceil(20_000));
     let good = run.report();
     println!("{:.0} s", begin.elapsed().as_secs_f64());
     match good {
@@ -225,7 +232,9 @@ impl Run {
             "{sources} sources, {} differences",
             self.differences.count()
         );
-        self.differences.count() == 0 && restored && missed.is_empty()
+        println!("\n{}", self.edits);
+        let same = self.differences.count() == 0 && self.edits.is_good();
+        same && restored && missed.is_empty()
     }
 }
 

@@ -1,5 +1,5 @@
 -- `image::config::parse_config` meets its contract.
-use Rattle.std.proofs.Common.{ℕ, ◌≡◌, ◌+◌, ◌-◌, ◌∙◌, refl, sym, ap, ap₂, take, drop, get_or, arith, rules, Err}
+use Rattle.std.proofs.Common.{ℕ, List, ◌≡◌, ◌∙◌, refl, sym, ap, ap₂, rules, Err}
 use Rattle.text_lexical.specs.Promised.{whole_meant}
 use Rattle.text.specs.Promised.{extract_meant}
 use Rattle.text.specs.declared.lexer.Kind.TheVariants.{Identifier}
@@ -28,9 +28,7 @@ returns-in_err-whole c =
 
 pub returns : goal.returns
 returns c =
-    let t = get_or c.args.line.now.tokens 1 past in
-    let n : t.start + t.length - t.start ≡ t.length = omega arith in
     c.set_field.ensures
-    ∙ ap₂ (λ (n v : ℕ). checked (set_field (settings_meant c.args.config) (take n (drop t.start c.args.source.now)) v)) n (c.residue.ensures.at_width 8 refl)
+    ∙ ap₂ (λ (u : List ℕ) (v : ℕ). checked (set_field (settings_meant c.args.config) u v)) c.spelling.ensures (c.residue.ensures.at_width 8 refl)
     ∙ sym (config-sets (settings_meant c.args.config) c.args.source.now c.args.line.now past c.requires.places c.if-line-ne3.false c.in-Identifier.is
     (whole_meant c.in_ok-whole.whole) (sym (ap extract_meant c.in_ok-whole.ensures)))

@@ -1,6 +1,6 @@
 -- `image_labels::tree::hash` meets its contract.
 use Rattle.std.proofs.Common.{◌∙◌, sym, ap, arith}
-use Rattle.image_labels.specs.Tree.{hash_from, mixed, span}
+use Rattle.image_labels.specs.Tree.{hash_from, mixed, hash_of}
 use Rattle.image_labels.specs.declared.tree.Digest.{Digest}
 use Rattle.image_labels.proofs.Hashing.{hash-threes-done, hash-one, hash-done, hash-all}
 use Rattle.image_labels.proofs.tree.hash.Goals as goal
@@ -19,4 +19,4 @@ returns c =
     ∙ ap (λ (h : Digest). mixed h 0)
     (sym (hash-done bytes.hash rest bytes.byte-index (omega arith)) ∙ bytes.invariant
     ∙ ap (λ (h : Digest). hash_from h rest) (sym (hash-threes-done threes.hash c.as_chunks.result.0.now threes.chunk-index (omega arith)) ∙ threes.invariant))
-    ∙ hash-all c.args.source.now (span c.args.start c.args.«length») c.as_chunks.ensures.front c.as_chunks.ensures.back
+    ∙ hash-all c.part.result.now c.as_chunks.ensures.front c.as_chunks.ensures.back ∙ ap hash_of c.part.ensures

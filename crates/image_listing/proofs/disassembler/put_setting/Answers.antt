@@ -9,8 +9,8 @@ put_bytes-requires g c = (put_three g.met.S.Sink.laws (setting-line c.args.front
 pub put_decimal-requires : goal.put_decimal-requires
 put_decimal-requires g c = (put_three g.met.S.Sink.laws (setting-line c.args.front.now c.args.value _ c.from.ensures) c.requires).second c.put_bytes.ensures
 
-pub put-requires : goal.put-requires
-put-requires g c = (put_three g.met.S.Sink.laws (setting-line c.args.front.now c.args.value _ c.from.ensures) c.requires).third c.put_bytes.ensures c.put_decimal.ensures
+pub put_line_end-requires : goal.put_line_end-requires
+put_line_end-requires g c = (put_three g.met.S.Sink.laws (setting-line c.args.front.now c.args.value _ c.from.ensures) c.requires).third c.put_bytes.ensures c.put_decimal.ensures
 
 pub returns : goal.returns
-returns g c = (put_three g.met.S.Sink.laws (setting-line c.args.front.now c.args.value _ c.from.ensures) c.requires).taken c.put_bytes.ensures c.put_decimal.ensures c.put.ensures
+returns g c = (put_three g.met.S.Sink.laws (setting-line c.args.front.now c.args.value _ c.from.ensures) c.requires).taken c.put_bytes.ensures c.put_decimal.ensures c.put_line_end.ensures

@@ -18,8 +18,8 @@ put_instruction-requires g c =
     let line = line-left c.args.code.now c.as_chunks.ensures.front L c.loop-index.invariant c.loop-index-test.true c.from_le_bytes.ensures in
     left-fits L _ (line (instruction_meant c.in-Ok.instruction) c.in-Ok.ensures.means)
 
-pub put-requires : goal.put-requires
-put-requires g c =
+pub put_line_end-requires : goal.put_line_end-requires
+put_line_end-requires g c =
     let L = g.met.S.Sink.laws in
     let line = line-left c.args.code.now c.as_chunks.ensures.front L c.loop-index.invariant c.loop-index-test.true c.from_le_bytes.ensures in
     left-fits L _ (left-next L c.put_instruction.ensures (line (instruction_meant c.in-Ok.instruction) c.in-Ok.ensures.means))
@@ -28,7 +28,7 @@ pub loop-index-preserved : goal.loop-index-preserved
 loop-index-preserved g c =
     let L = g.met.S.Sink.laws in
     puts-next c.args.code.now c.as_chunks.ensures.front L c.loop-index.invariant
-    c.loop-index-test.true c.from_le_bytes.ensures (instruction_meant c.in-Ok.instruction) c.in-Ok.ensures.means c.put_instruction.ensures c.put.ensures
+    c.loop-index-test.true c.from_le_bytes.ensures (instruction_meant c.in-Ok.instruction) c.in-Ok.ensures.means c.put_instruction.ensures c.put_line_end.ensures
 
 pub returns : goal.returns
 returns g c =

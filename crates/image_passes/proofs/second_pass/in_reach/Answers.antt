@@ -12,4 +12,5 @@ returns-then-ne c = c.if-ne.true ∙ reach-any c.args.form (whole_meant c.args.d
 pub returns-else-ne : goal.returns-else-ne
 returns-else-ne c =
     let e : c.args.form ≡ Branch = search rules in
-    c.holds.ensures ∙ reach-branch c.args.form (whole_meant c.args.distance) e
+    let w : c.layout.result.highest.width ≡ 17 = rw (c.layout.ensures, e) refl in
+    rw w at c.holds.ensures ∙ reach-branch c.args.form (whole_meant c.args.distance) e

@@ -12,11 +12,11 @@ returns-in_default c = no-word c.args.source.now c.args.line.now c.args.at c.req
 pub returns-in_default-and_then : goal.returns-in_default-and_then
 returns-in_default-and_then c =
     no-mnemonic c.args.source.now c.args.line.now c.args.at c.requires.kept_line c.requires.place_in_range c.if-line-at.false
-    c.in-Identifier.is (λ i. omega (arith, c.type_inv.source i)) c.lower_key-key.result c.lower_key-key.ensures c.and_then.result c.and_then.ensures
+    c.in-Identifier.is (λ i. omega (arith, c.type_inv.source i)) c.lower_key-key.result (rw c.spelling.ensures at c.lower_key-key.ensures) c.and_then.result c.and_then.ensures
     c.in_default-and_then.is
 
 pub returns : goal.returns
 returns c =
     row-is c.args.source.now c.args.line.now c.args.at c.requires.kept_line c.requires.place_in_range c.if-line-at.false
-    c.in-Identifier.is (λ i. omega (arith, c.type_inv.source i)) c.lower_key-key.result c.lower_key-key.ensures c.and_then.result c.and_then.ensures
+    c.in-Identifier.is (λ i. omega (arith, c.type_inv.source i)) c.lower_key-key.result (rw c.spelling.ensures at c.lower_key-key.ensures) c.and_then.result c.and_then.ensures
     c.in-Some.mnemonic c.in-Some.is c.parse_row.result c.parse_row.ensures

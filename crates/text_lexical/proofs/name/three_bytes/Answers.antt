@@ -1,5 +1,8 @@
 -- `text_lexical::name::three_bytes` meets its contract.
-use Rattle.std.proofs.Common.{◌≡◌, ◌+◌, ◌-◌, ◌∙◌, sym, arith}
+use Rattle.std.proofs.Common.{◌≡◌, ◌-◌, ◌∙◌, ap, sym, arith}
+use mathlib.Core.Option.{some}
+use borrow.Author.Tests.{lt-ltb}
+use Rattle.text_lexical.specs.Promised.{index_of, register_number}
 use Rattle.text_lexical.proofs.Tests.{between-true}
 use Rattle.text_lexical.proofs.Values.{decimal-some, decimal-none}
 use Rattle.text_lexical.proofs.Naming.{no-three, three-named}
@@ -15,10 +18,12 @@ returns-then-first-ne114 c =
     ])
 
 pub returns-in-Some : goal.returns-in-Some
+unfolding register_number
 returns-in-Some c =
     let (l, h, e) = decimal-some c.args.third c.in-Some.digit (sym c.in-Some.is ∙ c.decimal.ensures) in
-    let n : 10 + c.in-Some.digit ≡ c.args.third - 38 = omega arith in
-    c.numbered.ensures ∙ rw (c.if-first-ne114.false, c.if-second-ne49.false, n) (three-named c.args.third l (omega arith))
+    let n : index_of c.from_index.result ≡ c.args.third - 38 = omega (arith, c.from_index.ensures) in
+    let q : register_number (c.args.third - 38) ≡ some (c.args.third - 38) = rw (register_number, lt-ltb (c.args.third - 38) 16 (omega arith)) in
+    rw (c.if-first-ne114.false, c.if-second-ne49.false, n) (ap some (sym q) ∙ three-named c.args.third l (omega arith))
 
 pub returns-in_default : goal.returns-in_default
 returns-in_default c =

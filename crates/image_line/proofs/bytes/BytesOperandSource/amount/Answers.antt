@@ -15,8 +15,8 @@ use Rattle.image_line.proofs.bytes.BytesOperandSource.amount.Goals as goal
 pub number_at-requires : goal.number_at-requires
 number_at-requires c = let s = c.args.self.now in omega (arith, c.past_blanks-start.ensures, run_in blank s.text.now s.at s.in_text)
 
-pub identifier_end-requires : goal.identifier_end-requires
-identifier_end-requires c = let s = c.args.self.now in omega (arith, c.past_blanks-start.ensures, run_in blank s.text.now s.at s.in_text)
+pub identifier_length-requires : goal.identifier_length-requires
+identifier_length-requires c = let s = c.args.self.now in omega (arith, c.past_blanks-start.ensures, run_in blank s.text.now s.at s.in_text)
 
 pub invariant_of-self : goal.invariant_of-self
 invariant_of-self c =
@@ -30,30 +30,29 @@ returns-in-Some c =
     let (k, n, r) = number-reads present present-naming s.text.now s.at c.past_blanks-start.result c.past_blanks-start.ensures c.in-Some.found c.in-Some.ensures (bytes_spell s) c.args.label in
     (token-taken refl k n r, tt)
 
--- The end that is found.
+-- The length that is found.
+pub overflow_add-self : goal.overflow_add-self
+overflow_add-self c =
+    let s = c.args.self.now in
+    let is_some : c.identifier_length.result ≡ Some c.in_ok-length.length = search (rules, c.in_ok-length.ensures.value) in
+    let (l, n) = label-bounds present present-naming s.text.now s.at c.past_blanks-start.result c.past_blanks-start.ensures c.in_ok-length.length (rw is_some at c.identifier_length.ensures) in
+    omega arith
+
 pub invariant_of-self-2 : goal.invariant_of-self-2
 invariant_of-self-2 c =
     let s = c.args.self.now in
-    let is_some : c.identifier_end.result ≡ Some c.in_ok-end.end = search (rules, c.in_ok-end.ensures.value) in
-    record { in_text = (label-bounds present present-naming s.text.now s.at c.past_blanks-start.result c.past_blanks-start.ensures c.in_ok-end.end (rw is_some at c.identifier_end.ensures)).1 }
-
-pub overflow_sub-result : goal.overflow_sub-result
-overflow_sub-result c =
-    let s = c.args.self.now in
-    let is_some : c.identifier_end.result ≡ Some c.in_ok-end.end = search (rules, c.in_ok-end.ensures.value) in
-    let (l, n) = label-bounds present present-naming s.text.now s.at c.past_blanks-start.result c.past_blanks-start.ensures c.in_ok-end.end (rw is_some at c.identifier_end.ensures) in
-    omega arith
+    let is_some : c.identifier_length.result ≡ Some c.in_ok-length.length = search (rules, c.in_ok-length.ensures.value) in
+    record { in_text = (label-bounds present present-naming s.text.now s.at c.past_blanks-start.result c.past_blanks-start.ensures c.in_ok-length.length (rw is_some at c.identifier_length.ensures)).1 }
 
 pub returns : goal.returns
 returns c =
     let s = c.args.self.now in
     let at = c.past_blanks-start.result in
     let q = c.past_blanks-start.ensures in
-    let end = c.in_ok-end.end in
-    let is_some : c.identifier_end.result ≡ Some end = search (rules, c.in_ok-end.ensures.value) in
-    let e = rw is_some at c.identifier_end.ensures in
-    let (l, n) = label-bounds present present-naming s.text.now s.at at q end e in
-    let (r, here) = label-reads present present-naming s.text.now s.at at q end e in (
-      token-taken refl _ (label-amount present present-naming s.text.now s.at at q end e c.args.label c.if-not-label.false) r,
-      record { same_text = refl; reads = here; behind = omega arith; after = omega arith; uncut = blanks-uncut s.text.now s.at at q; ends = sym here.ends ∙ r.ends },
+    let n = c.in_ok-length.length in
+    let is_some : c.identifier_length.result ≡ Some n = search (rules, c.in_ok-length.ensures.value) in
+    let e = rw is_some at c.identifier_length.ensures in
+    let (r, here) = label-reads present present-naming s.text.now s.at at q n e in (
+      token-taken refl _ (label-amount present present-naming s.text.now s.at at q n e c.args.label c.if-not-label.false) r,
+      record { same_text = refl; reads = here; no_earlier = omega arith; after = refl; uncut = blanks-uncut s.text.now s.at at q; ends = sym here.ends ∙ r.ends },
     )

@@ -4,7 +4,8 @@ use mathlib.Core.Bool.{true, true≢false}
 use Rattle.std.specs.Prelude.{Err}
 use Rattle.refusal.specs.declared.refusal.Refusal.TheVariants.{OperandCount}
 use Rattle.text.specs.declared.lexer.Kind.TheVariants.{Identifier}
-use Rattle.instruction_operands.proofs.Taking.{none-left, identifier-is, identifier-not, label-next, number-next, amount-refused}
+use Rattle.text.proofs.Identifiers.{identifier-is, identifier-not}
+use Rattle.instruction_operands.proofs.Taking.{none-left, label-next, number-next, amount-refused}
 use Rattle.instruction_operands.proofs.tokens.TokensOperandSource.amount.Goals as goal
 use Rattle.instruction_operands.proofs.tokens.TokensOperandSource.amount.Goals.{else-label-via-then-label+else-eq, else-label-via-else-label}
 
