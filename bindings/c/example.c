@@ -6,7 +6,7 @@
 #include "zkasm.h"
 
 int main(int argc, char **argv) {
-    const char *source = argc > 1 ? argv[1] : "start: addi a0, zero, -1\nsw a0, 8(sp)\njal ra, 2097150\necall\n";
+    const char *source = argc > 1 ? argv[1] : "start: addi a0, zero, -1\nsw a0, 8(sp)\njal ra, 0x1FFFFE\necall\n";
     zkasm_label table[16];
     uint8_t image[1024];
     zkasm_assembled answer;

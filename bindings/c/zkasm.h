@@ -75,7 +75,9 @@ enum zkasm_refusal {
     ZKASM_TEXT_TOO_SHORT = 32, /* the text buffer is too short: answer.needed */
     /* zkasm_assemble, after the last line and before 23: the first line whose target is one of these; line */
     ZKASM_NO_SUCH_LABEL = 33, /* the last operand of jal or of a branch names a label that the source does not have */
-    ZKASM_LABEL_TOO_FAR = 34  /* a branch's label is outside -65,536..65,535 bytes from its own address */
+    ZKASM_LABEL_TOO_FAR = 34, /* a branch's label is outside -65,536..65,535 bytes from its own address */
+    /* zkasm_assemble, the first faulty line, just after 8 at the same number; line */
+    ZKASM_NUMBER_OUT_OF_RANGE = 35 /* a number is outside its range: see zkasm_assemble */
 };
 
 /* An entry of the label table. */
@@ -97,7 +99,9 @@ typedef struct zkasm_assembled {
 } zkasm_assembled;
 
 /* Assembles a source. The last operand of jal and of the six branches is a number or a label anywhere in the source, which means the bytes
- * from the instruction's own address to the label's.
+ * from the instruction's own address to the label's. A decimal number is -65,536..65,535, that of jal -1,048,576..1,048,575, and that of a
+ * shift 0..255; one in hex or binary is a pattern of at most 17, 21 or 8 bits. A setting is 0..255 in every base, which is seen before its key
+ * is looked up.
  *   source, source_length   the text, any bytes; it need not end in a newline or in 0
  *   table, table_length     room for labels: one entry each, in the order of the source. Entries past answer->labels keep their values
  *   image, image_length     room for the image. Accepted: its first 32 + 4 * words bytes are written, the header and then a word each,

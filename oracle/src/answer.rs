@@ -5,6 +5,7 @@ use zkir_assembler::error::AssemblerError;
 use zkir_spec::{Config, ConfigError, Program};
 
 use crate::limits::{MOST_SOURCE_BYTES, MOST_WORDS};
+use crate::ranges::ask_in_range;
 use crate::targets::Targeted;
 
 #[derive(Clone, Debug, PartialEq, Eq)]
@@ -58,12 +59,12 @@ impl Answer {
     }
 }
 
-/// The reference's answer, with labels as jump targets. The reference knows none of document 01's
-/// added limits, so it is asked only where they do not matter.
+/// The reference's answer, with labels as jump targets and with numbers that must fit. The reference
+/// knows none of document 01's added limits, so it is asked only where they do not matter.
 pub fn answer(source: &[u8]) -> Answer {
     assert!(source.len() <= MOST_SOURCE_BYTES, "the source is too long");
     let targeted = Targeted::new(ascii(source).expect("the source is ASCII"));
-    let lines = ask(targeted.lines());
+    let lines = ask_in_range(targeted.lines());
     assert!(
         words_before(targeted.lines(), &lines) <= MOST_WORDS,
         "the source has too many instructions"
@@ -91,7 +92,7 @@ pub(crate) fn ascii(source: &[u8]) -> Option<&str> {
     std::str::from_utf8(source).ok().filter(|s| s.is_ascii())
 }
 
-/// The reference's own answer, whatever the added limits say.
+/// The reference's own answer, whatever the added limits say and whether numbers fit or not.
 pub(crate) fn ask(text: &str) -> Answer {
     match assemble(text) {
         Ok(program) => accepted(text, &program),

@@ -4,12 +4,10 @@
 
 use std::ops::Range;
 
-use zkir_assembler::lexer::Token;
-
 use crate::answer::{answer, Answer};
 use crate::gen::{redrawn_line, Rng};
-use crate::targets::{tokens, Target, Targeted};
-use crate::tokens::content;
+use crate::lines::{content, tokens, Placed};
+use crate::targets::{Target, Targeted};
 
 /// A source and the same with one line edited.
 #[derive(Clone, Debug)]
@@ -18,7 +16,7 @@ pub struct Edit {
     pub sources: [String; 2],
     /// How many instructions stand on the lines above the edited one.
     pub above: usize,
-    /// The edited line's word in each, unless the reference refuses it.
+    /// The edited line's word in each, unless it is refused.
     pub words: [Option<u32>; 2],
     /// How many instructions and labels each has, if it is accepted.
     pub instructions: usize,
@@ -68,7 +66,7 @@ impl Line<'_> {
     /// Another line for its place, with the same label and with a byte 10 at its end or none.
     fn redrawn(&self, rng: &mut Rng, labels: &[&str], ended: bool) -> String {
         let tokens = tokens(self.instruction).expect("an accepted text has no bad token");
-        let spelled = |(_, span): &(Token, Range<usize>)| &self.instruction[span.clone()];
+        let spelled = |(_, span): &Placed| &self.instruction[span.clone()];
         let instruction: Vec<&str> = tokens.iter().map(spelled).collect();
         let line = redrawn_line(rng, self.label, &instruction, labels);
         let mut line = String::from_utf8(line).expect("the line is ASCII");
@@ -110,8 +108,9 @@ fn label_and_instruction(line: &str) -> (Option<&str>, &str) {
     }
 }
 
-/// The word that the reference makes of a line alone, if it takes it. Where the line names a label of
-/// these lines, the reference gets the distance from an instruction with so many others above it.
+/// The word that the reference makes of a line alone, if it takes it and its number fits. Where the line
+/// names a label of these lines, it gets the distance from an instruction with so many others above it,
+/// which does not fit if the label is too far from a branch.
 fn word_of(text: &str, above: usize, lines: &[Line]) -> Option<u32> {
     let targeted = Targeted::new(text);
     let distance = |target: &Target| {

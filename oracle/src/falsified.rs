@@ -24,6 +24,8 @@ pub const WORDS: Falsified = Falsified {
         "w 5660eea6",
         "s to: jal r9 , to\nm 2",
         "s a: addi r1, r2, x\nm 2",
+        "s ADDI r1, r0, 65536\nm 0",
+        "s addi r1, x, 70000\nm 0",
     ],
     texts: &["u", "l"],
 };
@@ -33,12 +35,16 @@ pub const VECTORS: Falsified = Falsified {
     questions: &[
         "s ecall : ecall\\0a\ns ecall",
         "s a: ecall\nt 1\nb 35",
-        "i 5a4b4952040003001402020000100000080000000000000000000000000010003392e4ff432187ef\nn 2048",
+        "i 5a4b4952040003001402020000100000080000000000000000000000000010008885ffff3a590400\nn 194",
         "i 004b49520400030014020200001000000400000000000000000000000000100050000000\nn 0",
         "s jal ra, X\\0a\ns x: ecall",
         "s e: ecall\\0a\nx 16384 ecall\\0a\ns beq r1, r2, e",
         "s beq r1, r2, end\\0a\ns add r1, r2, r3\\0a\ns end:",
         "s a: ecall\\0a\ns jal r0, b\\0a\ns bne r1, r2, a",
+        "s   x :\\09addi r1, r0, 70000 # y:",
+        "s addi r1, x, 70000",
+        "s .config bogus 256",
+        "s .config bogus 255",
     ],
     texts: &["s"],
 };

@@ -1,4 +1,6 @@
-//! The fifty mnemonics and the register names of document 01.
+//! The fifty mnemonics and the register names of document 01, and what numbers may be.
+
+use std::ops::RangeInclusive;
 
 /// Where a word keeps its operands, and how they are written.
 #[derive(Clone, Copy, Debug, PartialEq, Eq)]
@@ -43,6 +45,49 @@ impl Form {
             Form::Jump => &[Register, COMMA, Number],
             Form::Bare => &[],
         }
+    }
+
+    /// The field of its number, if it has one.
+    pub fn field(self) -> Option<Field> {
+        let (width, signed) = match self {
+            Form::Registers | Form::Bare => return None,
+            Form::Immediate | Form::Load | Form::Store | Form::Branch => (17, true),
+            Form::Shift => (8, false),
+            Form::Jump => (21, true),
+        };
+        Some(Field { width, signed })
+    }
+}
+
+/// Where a number is kept, which says what it may be: "Decimal immediates must now lie in
+/// -65,536..65,535, for jal in -1,048,576..1,048,575, for shifts in 0..255. Hex and binary are bit
+/// patterns and must fit 17, 21 or 8 bits." (document 02, request c)
+#[derive(Clone, Copy, Debug, PartialEq, Eq)]
+pub struct Field {
+    pub width: u32,
+    /// Whether decimal numbers have a sign.
+    pub signed: bool,
+}
+
+/// "A setting must be 0..255".
+pub const SETTING: Field = Field {
+    width: 8,
+    signed: false,
+};
+
+impl Field {
+    /// The decimal numbers that fit.
+    pub fn decimals(self) -> RangeInclusive<i64> {
+        let below = match self.signed {
+            true => 1 << (self.width - 1),
+            false => 0,
+        };
+        -below..=(1 << self.width) - below - 1
+    }
+
+    /// The numbers that fit in Hex and Binary.
+    pub fn patterns(self) -> RangeInclusive<u64> {
+        0..=(1 << self.width) - 1
     }
 }
 

@@ -1,6 +1,7 @@
 //! Document 01's added limits, laid over the reference's answer.
 
-use crate::answer::{ascii, ask, line_ends, refusal, words_before, words_in, Answer, Label};
+use crate::answer::{ascii, line_ends, refusal, words_before, words_in, Answer, Label};
+use crate::ranges::ask_in_range;
 use crate::targets::Targeted;
 
 pub const MOST_SOURCE_BYTES: usize = 1_048_576;
@@ -25,7 +26,7 @@ impl<'s> Asked<'s> {
         let (answer, many) = match before_any_line(source) {
             Ok(text) => {
                 let targeted = Targeted::new(text);
-                let lines = ask(targeted.lines());
+                let lines = ask_in_range(targeted.lines());
                 let many = line_of_excess(targeted.lines(), &lines);
                 (targeted.settled(lines), many)
             }

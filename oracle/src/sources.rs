@@ -5,7 +5,7 @@ use std::collections::HashSet;
 
 use crate::answer::answer;
 use crate::gen::{self, GOOD_NUMBERS, KINDS, ODD_NUMBERS};
-use crate::isa::{Form, Place, Row, KEYS, REGISTERS, ROWS};
+use crate::isa::{Field, Form, Place, Row, KEYS, REGISTERS, ROWS, SETTING};
 use crate::list::{write_record, USUAL_TABLE};
 
 /// The seeds of the made sources, for each kind.
@@ -28,7 +28,9 @@ pub(crate) fn sources() -> Vec<Vec<u8>> {
     all.extend(every_mnemonic());
     all.extend(every_register_name());
     all.extend(every_number());
+    all.extend(every_range_end());
     all.extend(operand_faults());
+    all.extend(numbers_and_faults());
     all.extend(LINES.iter().map(|source| source.to_vec()));
     all.extend(every_setting());
     all.extend(every_byte());
@@ -36,6 +38,7 @@ pub(crate) fn sources() -> Vec<Vec<u8>> {
     all.extend(every_target());
     all.extend(far_targets());
     all.extend(TARGETS.iter().map(|source| source.to_vec()));
+    all.extend(RANGES.iter().map(|source| source.to_vec()));
     for kind in KINDS {
         all.extend(SEEDS.map(|seed| gen::source(kind, seed)));
     }
@@ -66,22 +69,22 @@ const WORKED_EXAMPLES: [&[u8]; 16] = [
 
 /// The program's input of document 01's examples.
 pub(crate) const PROGRAM: &[u8] = b"start: ADDI a0, zero, -1 # one\n.config limb_bits 24\n\
-    sw a0, 8(sp)\njal ra, 2097150\necall\n";
+    sw a0, 8(sp)\njal ra, 0x1FFFFE\necall\n";
 
 /// Each mnemonic with distinct registers in its places, in several spellings.
 fn every_mnemonic() -> Vec<Vec<u8>> {
     const CHOICES: [([&str; 3], &str); 4] = [
         (["r1", "r2", "r3"], "5"),
-        (["t0", "a4", "ra"], "-1"),
-        (["r15", "r0", "r8"], "0x1ffff"),
-        (["s1", "r10", "gp"], "65536"),
+        (["t0", "a4", "ra"], "0"),
+        (["r15", "r0", "r8"], "0xff"),
+        (["s1", "r10", "gp"], "0b11001000"),
     ];
     let mut sources = Vec::new();
     for row in ROWS {
         for (registers, number) in CHOICES {
             sources.push(plain(&row, registers, number).into_bytes());
         }
-        let line = plain(&row, ["r5", "r11", "r6"], "-7");
+        let line = plain(&row, ["r5", "r11", "r6"], "7");
         let split = row.mnemonic.len();
         sources.push((line[..split].to_uppercase() + &line[split..]).into_bytes());
         sources.push(format!("{}\n{}\n", row.mnemonic, line).into_bytes());
@@ -101,7 +104,8 @@ pub(crate) fn plain(row: &Row, registers: [&str; 3], number: &str) -> String {
         .to_string()
 }
 
-fn operands<'a>(form: Form, registers: [&'a str; 3], number: &'a str) -> Vec<&'a str> {
+/// The operand tokens of a form; registers by place, from the left.
+pub(crate) fn operands<'a>(form: Form, registers: [&'a str; 3], number: &'a str) -> Vec<&'a str> {
     let mut registers = registers.into_iter();
     let token = |place: &Place| match place {
         Place::Register => registers.next().expect("at most three registers"),
@@ -143,6 +147,39 @@ fn every_number() -> Vec<Vec<u8>> {
     sources.into_iter().map(String::into_bytes).collect()
 }
 
+/// For each mnemonic with a number, for each key, and for what is no key: both ends of what the number
+/// may be and one past them.
+fn every_range_end() -> Vec<Vec<u8>> {
+    let mut sources = Vec::new();
+    for row in ROWS {
+        let numbers = row.form.field().map(range_ends).unwrap_or_default();
+        let line = |number: String| plain(&row, ["r12", "r3", "r8"], &number);
+        sources.extend(numbers.into_iter().map(line));
+    }
+    for key in KEYS.into_iter().chain(["bogus", "LIMB_BITS", "r1", "7"]) {
+        let line = |number: String| format!(".config {key} {number}");
+        sources.extend(range_ends(SETTING).into_iter().map(line));
+    }
+    sources.into_iter().map(String::into_bytes).collect()
+}
+
+/// The ends of a field's range and one past them, in every base, with leading zeros and without; and -0.
+fn range_ends(field: Field) -> Vec<String> {
+    let mut ends = vec!["-0".to_string()];
+    let (least, most) = field.decimals().into_inner();
+    for number in [least - 1, least, most, most + 1] {
+        let sign = if number < 0 { "-" } else { "" };
+        let digits = number.unsigned_abs();
+        ends.extend(["", "0", "0000000000000000000"].map(|zeros| format!("{sign}{zeros}{digits}")));
+    }
+    let most = *field.patterns().end();
+    for pattern in [most, most + 1] {
+        ends.extend([format!("0x{pattern:x}"), format!("0x0{pattern:X}")]);
+        ends.extend(["", "00"].map(|zeros| format!("0b{zeros}{pattern:b}")));
+    }
+    ends
+}
+
 /// One instruction of each form with a token replaced, left out, or put in; with every two tokens
 /// wrong, as the left one decides; and with a wrong count of wrong tokens, as the count decides.
 fn operand_faults() -> Vec<Vec<u8>> {
@@ -180,6 +217,31 @@ fn operand_faults() -> Vec<Vec<u8>> {
         .into_iter()
         .map(|tokens| tokens.join(" ").into_bytes())
         .collect()
+}
+
+/// One instruction of each form with a number that is out of every range, and another fault: a token
+/// replaced or left out, to its left and to its right, or one more; and the same after a label.
+fn numbers_and_faults() -> Vec<Vec<u8>> {
+    const EXAMPLES: [&str; 7] = ["xori", "srai", "ld", "sb", "bgeu", "jal", "jalr"];
+    let mut lines: Vec<Vec<&str>> = Vec::new();
+    for row in ROWS
+        .into_iter()
+        .filter(|row| EXAMPLES.contains(&row.mnemonic))
+    {
+        let mut tokens = vec![row.mnemonic];
+        tokens.extend(operands(row.form, ["r1", "r2", "r3"], "3000000"));
+        for at in 0..tokens.len() {
+            let wrong = ["a5", "8", ",", "x", "$"];
+            lines.extend(wrong.map(|wrong| replaced(&tokens, &[at], wrong)));
+            lines.push([&tokens[..at], &tokens[at + 1..]].concat());
+        }
+        lines.push([&tokens[..], &["x"]].concat());
+        lines.push(tokens);
+    }
+    let after_label = |line: &Vec<&'static str>| [&["l", ":"], &line[..]].concat();
+    let labelled: Vec<_> = lines.iter().map(after_label).collect();
+    let lines = lines.into_iter().chain(labelled);
+    lines.map(|tokens| tokens.join(" ").into_bytes()).collect()
 }
 
 fn replaced<'a>(tokens: &[&'a str], places: &[usize], by: &'a str) -> Vec<&'a str> {
@@ -672,4 +734,86 @@ const TARGETS: &[&[u8]] = &[
     b"x: jal r1, x\nx: jal r1, x",
     b"x: jal r1, y\nx:",
     b"y: ecall\nx: jal r1, z",
+];
+
+/// Chosen sources with numbers that are out of their ranges, or at their ends.
+const RANGES: &[&[u8]] = &[
+    // What decides on a line.
+    b"addi r1, x, 70000",
+    b"addi x, r0, 70000",
+    b"addi a5, r0, 70000",
+    b"addi r1, a5, 70000",
+    b"addi r1 ( r0, 70000",
+    b"addi r1, r0 ( 70000",
+    b"addi r1, r0, 70000, x",
+    b"addi r1, 70000, r0",
+    b"addi 70000, r1, r0",
+    b"addi r1, r0, 70000 $",
+    b"addi r1, r0, 70000 # $",
+    b"addi r1, r0, 99999999999999999999",
+    b"bogus r1, r0, 70000",
+    b"ADDI r1, r0, 65536",
+    b"Slli r1, r0, 0x100",
+    b"jalr r1, r2, 1048575",
+    b"jal r1, 1048575",
+    b"jal r1, 0x1FFFFF",
+    b"jal r1, 0x200000",
+    b"add r1, r2, 70000",
+    b"ecall 70000",
+    b"lw r1, 70000, r2)",
+    b"lw r1, 70000",
+    b"lw r1, 70000(r2(",
+    b"lw r1, 70000(x)",
+    b"lw r1, 70000(a5)",
+    b"lw r1 ( 70000(r2)",
+    b"lw a5, 70000(r2)",
+    b"sw r1, 70000(a5)",
+    b"sw a5, 70000(r1)",
+    b"sw r1,-65537(r2)",
+    b"sw r1 -65537(r2)",
+    b"sw r1 r2-65537(r2)",
+    b"lbu x a0-65537(r14)",
+    b"addi r1, r0 r3-65537",
+    b"addi r1 x r3-65537 $",
+    b"beq r1, r2, -0xffff",
+    b".text 70000, 0x20000, -65537",
+    b".addi r1, r0, 70000",
+    // Settings.
+    b".config bogus 256",
+    b".config bogus 255",
+    b".config r1 256",
+    b".config 256 256",
+    b".config , 256",
+    b".config limb_bits, 256",
+    b".config limb_bits 256 1",
+    b".config limb_bits 256 $",
+    b".config limb_bits 256 # $",
+    b".Config limb_bits 256",
+    b"l: .config limb_bits 256",
+    b".config limb_bits 0b100000000",
+    b".config limb_bits 0b000010100",
+    b".config limb_bits 18\n.config data_limbs 258\n.config limb_bits 20",
+    b".config limb_bits 17\n.config data_limbs 258",
+    b".config data_limbs 258\n.config limb_bits 17",
+    // Labels and lines.
+    b"x: addi r1, r0, 70000",
+    b"  x :\taddi r1, r0, 70000 # y:",
+    b"x:\nx: addi r1, r0, 70000",
+    b"a:\nb: addi r1, r0, 65536\nc:",
+    b"a: ecall\n\n# c\nb: srli r1, r2, -1\nc:",
+    b"bogus\naddi r1, r0, 65536",
+    b"addi r1, r0, 65536\nbogus",
+    b"addi r1, r0, 65536\n$",
+    b"addi r1, r0, 65535\r\naddi r1, r0, 65536\r\n",
+    b"addi r1, x, 65536\naddi r1, r0, 65536",
+    b"addi r1, r0, 65536\naddi r1, x, 65536",
+    // Targets.
+    b"x: jal r1, x\ny: jal r1, 1048576",
+    b"jal r1, x\naddi r1, r2, 70000\nx:",
+    b"addi r1, r2, 65535\nx: jal r1, x\nbeq r1, r2, x",
+    b"jal r1, nope\naddi r1, r0, 65536",
+    b"addi r1, r0, 65536\njal r1, nope",
+    b"beq r1, x, 65536\nx:",
+    b"beq r1, r2, 65536\nx: beq r1, r2, x",
+    b"jal r1, x\nx: .config limb_bits 20\naddi r1, r0, 65536",
 ];

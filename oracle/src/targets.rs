@@ -5,16 +5,12 @@ use std::borrow::Cow;
 use std::collections::HashMap;
 use std::ops::Range;
 
-use logos::Logos;
 use zkir_assembler::assembler::labels_and_words;
 use zkir_assembler::lexer::Token;
 
 use crate::answer::{ask, refusal, Answer, Label};
-use crate::isa::{Form, ROWS};
-use crate::tokens::content;
-
-/// "34 distance outside the branch's signed 17 bits".
-const REACH: Range<i64> = -65_536..65_536;
+use crate::isa::Form;
+use crate::lines::{content, instruction, tokens};
 
 /// The last operand of jal or of a branch, where it is an Identifier.
 #[derive(Clone, Debug, PartialEq, Eq)]
@@ -23,7 +19,7 @@ pub struct Target {
     pub span: Range<usize>,
     /// The line on which it stands, from 1.
     pub line: usize,
-    is_branch: bool,
+    form: Form,
 }
 
 /// A text with its targets.
@@ -126,9 +122,11 @@ impl Target {
     /// "the label's address minus the instruction's own address, in bytes", or the refusal's number.
     fn distance(&self, address: Option<u64>, own: u64) -> Result<i64, u32> {
         let distance = address.ok_or(33u32)? as i64 - own as i64;
-        match self.is_branch && !REACH.contains(&distance) {
-            true => Err(34),
-            false => Ok(distance),
+        let field = self.form.field().expect("a target stands for a number");
+        // "34 distance outside the branch's signed 17 bits". A jal reaches every label.
+        match field.decimals().contains(&distance) {
+            true => Ok(distance),
+            false => Err(34),
         }
     }
 }
@@ -174,11 +172,11 @@ fn targets(text: &str) -> Vec<Target> {
     let mut found = Vec::new();
     let mut start = 0;
     for (line, of_line) in (1..).zip(text.split_inclusive('\n')) {
-        if let Some((span, is_branch)) = target_in(of_line) {
+        if let Some((form, span)) = target_in(of_line) {
             found.push(Target {
                 span: start + span.start..start + span.end,
                 line,
-                is_branch,
+                form,
             });
         }
         start += of_line.len();
@@ -186,44 +184,20 @@ fn targets(text: &str) -> Vec<Target> {
     found
 }
 
-/// Where a line's target stands in it, and whether it is a branch's.
-fn target_in(line: &str) -> Option<(Range<usize>, bool)> {
+/// The form of a line's instruction, and where its target stands in the line.
+fn target_in(line: &str) -> Option<(Form, Range<usize>)> {
     let content = content(line);
     // Most lines are seen to have none before they are read.
     if !content.contains(',') || content.ends_with([',', ')', ':']) {
         return None;
     }
-    let tokens = tokens(content)?;
-    let instruction = match &tokens[..] {
-        [(Token::Identifier(_), _), (Token::Colon, _), instruction @ ..] => instruction,
-        instruction => instruction,
-    };
-    let [(Token::Identifier(mnemonic), _), operands @ ..] = instruction else {
-        return None;
-    };
-    let row = ROWS
-        .iter()
-        .find(|row| row.mnemonic == mnemonic.to_lowercase())?;
-    let is_branch = row.form == Form::Branch;
-    if !is_branch && row.form != Form::Jump || operands.len() != row.form.places().len() {
-        return None;
-    }
+    let tokens = tokens(line)?;
+    let (row, operands) = instruction(&tokens)?;
     // Where no comma stands before it, that is the line's fault, or one further left is.
     let [.., (Token::Comma, _), (Token::Identifier(_), span)] = operands else {
         return None;
     };
-    let indent = line.len() - line.trim_start().len();
-    Some((indent + span.start..indent + span.end, is_branch))
-}
-
-/// The tokens of a line's content with their places in it, unless one is bad.
-pub(crate) fn tokens(content: &str) -> Option<Vec<(Token, Range<usize>)>> {
-    let mut lexer = Token::lexer(content);
-    let mut tokens = Vec::new();
-    while let Some(token) = lexer.next() {
-        tokens.push((token.ok()?, lexer.span()));
-    }
-    Some(tokens)
+    matches!(row.form, Form::Branch | Form::Jump).then(|| (row.form, span.clone()))
 }
 
 /// The text with 0 in each target's place, and blanks behind it, so that nothing moves.

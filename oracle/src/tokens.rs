@@ -2,13 +2,13 @@
 
 use std::collections::HashSet;
 
-use logos::Logos;
 use zkir_assembler::lexer::Token;
 use zkir_assembler::parser::parse_register;
 
 use crate::falsified;
 use crate::gen::{self, Kind, Rng, ALPHABET, GOOD_NUMBERS, ODD_NUMBERS};
 use crate::isa::REGISTERS;
+use crate::lines::{self, Placed};
 use crate::list::escape;
 
 /// The seeds of the made sources whose lines are taken.
@@ -51,23 +51,11 @@ fn answer(line: &str) -> String {
 
 /// The tokens of a line as they are written to the list, unless one is bad.
 fn tokens(line: &str) -> Option<Vec<String>> {
-    let content = content(line);
-    let indent = line.len() - line.trim_start().len();
-    let mut lexer = Token::lexer(content);
-    let mut tokens = Vec::new();
-    while let Some(token) = lexer.next() {
-        let span = lexer.span();
-        let (kind, value) = kind_and_value(&token.ok()?, &content[span.clone()]);
-        let start = indent + span.start;
-        tokens.push(format!("{kind} {start} {} {value}", span.len()));
-    }
-    Some(tokens)
-}
-
-/// What is read of a line. As `first_pass` does: it is trimmed, cut at `#` and trimmed again.
-pub(crate) fn content(line: &str) -> &str {
-    let trimmed = line.trim();
-    trimmed[..trimmed.find('#').unwrap_or(trimmed.len())].trim()
+    let written = |(token, span): Placed| {
+        let (kind, value) = kind_and_value(&token, &line[span.clone()]);
+        format!("{kind} {} {} {value}", span.start, span.len())
+    };
+    Some(lines::tokens(line)?.into_iter().map(written).collect())
 }
 
 /// A token's letter and number. A name that names no register has the number 16.

@@ -3,7 +3,6 @@
 
 use std::collections::HashSet;
 
-use logos::Logos;
 use zkir_assembler::lexer::Token;
 use zkir_assembler::parser::parse_register;
 
@@ -11,12 +10,12 @@ use crate::answer::{answer, Answer};
 use crate::falsified;
 use crate::gen::Rng;
 use crate::images::field_words;
-use crate::isa::{Form, Place, Row, REGISTERS, ROWS};
+use crate::isa::{Field, Form, Place, Row, REGISTERS, ROWS};
+use crate::lines::{content, tokens};
 use crate::list::escape;
 use crate::model::{line_of, unused_bits};
 use crate::sources::{plain, sources};
 use crate::targets::Targeted;
-use crate::tokens::content;
 
 /// The seed of the random words, and how many there are.
 const SEED: u64 = 5000;
@@ -30,7 +29,7 @@ const WITHOUT: [(&str, usize); 3] = [("", 0), (" \t# ecall", 0), ("l:", 2)];
 const PROGRAM: [&str; 4] = [
     "start: ADDI a0, zero, -1 # one",
     "sw a0, 8(sp)",
-    "jal ra, 2097150",
+    "jal ra, 0x1FFFFE",
     "ecall",
 ];
 
@@ -85,7 +84,7 @@ fn write_answer(out: &mut String, line: &str) {
             *out += &format!("u {}\n", as_read(targeted.lines(), place));
             write_word(out, u32::from_le_bytes(word));
         }
-        Answer::Refused { number, .. } if matches!(number, 8 | 14..=21) => {
+        Answer::Refused { number, .. } if matches!(number, 8 | 14..=21 | 35) => {
             write_line(out, line, place);
             *out += &format!("r {number}\n");
         }
@@ -105,13 +104,13 @@ fn write_word(out: &mut String, word: u32) {
 /// The text of a line's instruction with its number as it stands there, not yet reduced: the tokens
 /// behind the label, spelled as the listing spells them.
 fn as_read(line: &str, place: usize) -> String {
-    let tokens = Token::lexer(content(line)).skip(place);
+    let tokens = tokens(line).expect("an accepted line has no bad token");
     let mut text = String::new();
-    for (at, token) in tokens.enumerate() {
+    for (at, (token, _)) in tokens.into_iter().skip(place).enumerate() {
         if at == 1 {
             text.push(' ');
         }
-        text += &match token.expect("an accepted line has no bad token") {
+        text += &match token {
             Token::Identifier(mnemonic) => mnemonic.to_lowercase(),
             Token::Register(name) => {
                 let register = parse_register(&name).expect("an accepted line names registers");
@@ -151,7 +150,7 @@ fn lines() -> Vec<String> {
 fn every_spelling() -> Vec<String> {
     let mut lines = Vec::new();
     for row in ROWS {
-        let line = plain(&row, ["r12", "r7", "r13"], "-9");
+        let line = plain(&row, ["r12", "r7", "r13"], "9");
         let operands = &line[row.mnemonic.len()..];
         for (upper, label) in [(0, ""), (1, ""), (2, "l: "), (3, "l:")] {
             let letters = row.mnemonic.chars().enumerate();
@@ -194,16 +193,12 @@ fn every_register() -> Vec<String> {
     lines
 }
 
-/// For each mnemonic with a number: the ends of its field and what lies beyond, and the ends of
-/// what a token can mean.
+/// For each mnemonic with a number: about its field's ends, and the ends of what a token can mean.
 fn every_field_end() -> Vec<String> {
     let mut lines = Vec::new();
     for row in ROWS {
-        let width = match row.form {
-            Form::Registers | Form::Bare => continue,
-            Form::Shift => 8,
-            Form::Jump => 21,
-            _ => 17,
+        let Some(Field { width, .. }) = row.form.field() else {
+            continue;
         };
         let (half, whole) = (1i64 << (width - 1), 1i64 << width);
         for end in [0, half, whole, -half, -whole] {

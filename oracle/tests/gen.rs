@@ -30,3 +30,12 @@ fn every_kind_has_accepted_and_refused_sources() {
         );
     }
 }
+
+/// Many of the numbers that may not fit do not.
+#[test]
+fn numbers_fit_or_not() {
+    let answers = (0..2000).map(|seed| answer(&source(Kind::Number, seed)));
+    let refused = |answer: &Answer| matches!(answer, Answer::Refused { number: 35, .. });
+    let count = answers.filter(refused).count();
+    assert!((300..1000).contains(&count), "{count} of 2000");
+}

@@ -130,13 +130,13 @@ fn the_list_of_sources_covers_all_that_the_rust_refuses() {
     let sources: BTreeSet<_> = records.iter().map(|record| &record.source).collect();
     assert_eq!(sources.len(), records.len(), "a source stands twice");
     let found: Vec<u32> = counts(&records).into_keys().collect();
-    let wanted = [0, 3, 4].into_iter().chain(6..=21).chain(33..=34);
+    let wanted = [0, 3, 4].into_iter().chain(6..=21).chain(33..=35);
     let wanted: Vec<u32> = wanted.collect();
     assert_eq!(found, wanted);
 }
 
 #[test]
-fn the_list_by_hand_covers_the_added_limits_and_targets() {
+fn the_list_by_hand_covers_the_added_limits_targets_and_ranges() {
     let counts = counts(&read(BY_HAND));
     for (number, least) in [
         (1, 10),
@@ -146,6 +146,7 @@ fn the_list_by_hand_covers_the_added_limits_and_targets() {
         (23, 10),
         (33, 6),
         (34, 5),
+        (35, 20),
     ] {
         assert!(
             counts[&number] >= least,

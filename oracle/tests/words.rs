@@ -51,7 +51,7 @@ fn every_refusal_of_an_instruction_and_of_a_word_is_met() {
         .collect();
     assert!(numbers
         .into_iter()
-        .eq([8].into_iter().chain(14..=21).chain(30..=31)));
+        .eq([8].into_iter().chain(14..=21).chain([30, 31, 35])));
 }
 
 #[test]
@@ -116,29 +116,41 @@ fn every_register_stands_in_each_place_of_each_form() {
     }
 }
 
+/// What a number may be that is written with this mnemonic: the least and the most decimal one, and the
+/// highest pattern.
+fn ends(form: Form) -> Option<(i64, i64, u64)> {
+    match form {
+        Form::Registers | Form::Bare => None,
+        Form::Shift => Some((0, 255, 0xFF)),
+        Form::Jump => Some((-1_048_576, 1_048_575, 0x1F_FFFF)),
+        _ => Some((-65_536, 65_535, 0x1_FFFF)),
+    }
+}
+
 #[test]
-fn every_field_is_at_its_ends_and_beyond() {
+fn every_number_is_at_its_ends_and_beyond() {
+    let mut answers = BTreeSet::new();
     let records = records();
-    let texts: BTreeSet<_> = records
-        .iter()
-        .filter_map(|record| line(record, "u"))
-        .collect();
+    for record in &records {
+        let source = std::str::from_utf8(&record.source).unwrap();
+        answers.insert((source.split(' ').collect::<Vec<_>>(), line(record, "r")));
+    }
     for row in ROWS {
-        let ends = match row.form {
-            Form::Registers | Form::Bare => continue,
-            Form::Shift => [0, 255, 256, -1, 257],
-            Form::Jump => [-1_048_576, 1_048_575, 1_048_576, -1_048_577, 2_097_152],
-            _ => [-65_536, 65_535, 65_536, -65_537, 131_072],
+        let Some((least, most, pattern)) = ends(row.form) else {
+            continue;
         };
-        let ends = ends.map(i128::from).into_iter();
-        for n in ends.chain([i64::MIN.into(), i64::MAX.into(), u64::MAX.into()]) {
-            let operands = match row.form {
-                Form::Load | Form::Store => format!("r1, {n}(r2)"),
-                Form::Jump => format!("r1, {n}"),
-                _ => format!("r1, r2, {n}"),
-            };
-            let text = format!("{} {operands}", row.mnemonic);
-            assert!(texts.contains(text.as_str()), "{text}");
+        let past = pattern + 1;
+        let good = [least.to_string(), most.to_string()];
+        let good_patterns = [format!("0x{pattern:x}"), format!("0b{pattern:b}")];
+        let bad = [least - 1, most + 1, i64::MIN, i64::MAX].map(|number| number.to_string());
+        let bad_patterns = [past, u64::MAX].map(|number| format!("0x{number:x}"));
+        let bad = bad.iter().chain(&bad_patterns);
+        let numbers = good.iter().chain(&good_patterns).map(|it| (it, None));
+        for (number, refused) in numbers.chain(bad.map(|it| (it, Some("35")))) {
+            let found = answers.iter().any(|(tokens, answer)| {
+                tokens[0] == row.mnemonic && tokens.contains(&number.as_str()) && *answer == refused
+            });
+            assert!(found, "{} {number}: {refused:?}", row.mnemonic);
         }
     }
 }
@@ -187,22 +199,23 @@ fn every_opcode_and_every_bit_stands_in_a_word_alone() {
 /// word, but for numbers that only Hex and Binary can have.
 #[test]
 fn texts_assemble_to_their_words() {
-    let mut beyond = 0;
+    let mut patterns = 0;
     for record in records() {
         if let Some(text) = line(&record, "l") {
             assert_eq!(word_of(text), Ok(word(&record).unwrap()), "{text}");
         }
         match line(&record, "u").map(|text| (text, word_of(text))) {
-            Some((text, Err(3))) => {
-                assert!(text.len() > 19, "{text}");
-                beyond += 1;
+            Some((text, Err(35))) => {
+                let source = String::from_utf8_lossy(&record.source);
+                assert!(source.contains("0x") || source.contains("0b"), "{text}");
+                patterns += 1;
             }
             Some((text, answer)) => assert_eq!(answer, Ok(word(&record).unwrap()), "{text}"),
             None => {}
         }
     }
     assert!(
-        (10..200).contains(&beyond),
-        "{beyond} texts with such numbers"
+        (50..300).contains(&patterns),
+        "{patterns} texts with such numbers"
     );
 }

@@ -1,4 +1,4 @@
-//! Document 01's worked examples, through the reference.
+//! Document 01's worked examples, through the reference, as document 02 changes them.
 
 use oracle::{answer, Answer, Label, Settings};
 
@@ -50,20 +50,29 @@ fn the_empty_source() {
 #[test]
 fn words_of_single_lines() {
     assert_eq!(words("add r1, r2, r3"), [0x0001_9080]);
-    assert_eq!(words("slli r1, r2, 300"), [0x0016_109B]);
-    assert_eq!(words("beq r1, r2, 131072"), [0x0000_10C0]);
-    assert_eq!(words("addi r0, r0, -9223372036854775808"), [0x0000_0008]);
+    assert_eq!(words("addi r1, r0, 65535"), [0x7FFF_8088]);
+    assert_eq!(words("addi r1, r0, -65536"), [0x8000_0088]);
+    assert_eq!(words("addi r1, r0, 0x1FFFF"), [0xFFFF_8088]);
+}
+
+/// "01's examples with 276, `slli` 300 and `beq` 131072 now give 35".
+#[test]
+fn numbers_must_fit() {
+    assert_eq!(refusal("slli r1, r2, 300"), (35, 1, 1));
+    assert_eq!(refusal("beq r1, r2, 131072"), (35, 1, 1));
+    assert_eq!(refusal(".config limb_bits 276"), (35, 1, 1));
+    // It is a number, unlike 9223372036854775808.
+    assert_eq!(refusal("addi r0, r0, -9223372036854775808"), (35, 1, 1));
 }
 
 #[test]
-fn settings_are_taken_modulo_256() {
-    assert_eq!(settings(".config limb_bits 276"), [20, 2, 2]);
+fn settings_are_taken_in_order() {
     assert_eq!(
-        settings(".config limb_bits 30\n.config limb_bits 276"),
+        settings(".config limb_bits 30\n.config limb_bits 0x14"),
         [20, 2, 2]
     );
     assert_eq!(
-        settings(".config data_limbs -252\n.config addr_limbs 0x101"),
+        settings(".config data_limbs 0b100\n.config addr_limbs 01"),
         [20, 4, 1]
     );
     assert_eq!(refusal(".config limb_bits 15"), (10, 1, 1));
@@ -85,7 +94,7 @@ fn refusals() {
 #[test]
 fn the_program() {
     let source = b"start: ADDI a0, zero, -1 # one\n.config limb_bits 24\n\
-        sw a0, 8(sp)\njal ra, 2097150\necall\n";
+        sw a0, 8(sp)\njal ra, 0x1FFFFE\necall\n";
     let text = std::str::from_utf8(source).unwrap();
     assert_eq!(
         words(text),

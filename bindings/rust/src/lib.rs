@@ -66,6 +66,10 @@ pub struct AssembleRefusal {
 /// Assembles a source. The last operand of `jal` and of the six branches is a number or a label anywhere in the source, which means the
 /// bytes from the instruction's own address to the label's.
 ///
+/// A decimal number is -65,536..65,535, that of `jal` -1,048,576..1,048,575, and that of a shift 0..255; one in hex or binary is a pattern
+/// of at most 17, 21 or 8 bits. A setting is 0..255 in every base, which is seen before its key is looked up. Others are refused by
+/// [`Reason::NumberOutOfRange`].
+///
 /// The labels are entered into the table in the order of the source, after a refusal too; entries past their count keep their values.
 /// The image is written to the front of its buffer, and later bytes keep their values; a refusal leaves the whole buffer as it was.
 /// 131,104 bytes hold every image.

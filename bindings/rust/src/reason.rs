@@ -61,6 +61,7 @@ reasons! {
     32 TextTooShort "the text buffer is too short",
     33 NoSuchLabel "there is no such label",
     34 LabelTooFar "the label is too far away for a branch",
+    35 NumberOutOfRange "the number is out of its range",
 }
 
 impl Reason {

@@ -21,9 +21,9 @@ fn refusal(source: &[u8]) -> AssembleRefusal {
 }
 
 #[test]
-fn reasons_are_numbered_from_1_to_34() {
+fn reasons_are_numbered_from_1_to_35() {
     let numbers: Vec<u32> = Reason::ALL.iter().map(|reason| reason.number()).collect();
-    assert_eq!(numbers, (1..=34).collect::<Vec<u32>>());
+    assert_eq!(numbers, (1..=35).collect::<Vec<u32>>());
 }
 
 #[test]
@@ -52,6 +52,8 @@ fn sources_are_refused_by_their_number() {
         (20, 1, 1, 0, b"lw r1, 4, r2)"),
         (21, 1, 1, 0, b"lw r1, 4(r2("),
         (33, 2, 2, 1, b"a: ecall\njal ra, A"),
+        (35, 2, 2, 1, b"\na: addi r1, r0, 65536"),
+        (35, 1, 1, 0, b".config x 256"),
     ];
     for &(number, rust_line, line, labels, source) in cases {
         let expected = AssembleRefusal {

@@ -44,8 +44,33 @@ fn an_empty_source_has_a_header_alone() {
 #[test]
 fn instructions_have_their_words() {
     assert_eq!(words("add r1, r2, r3"), [0x00019080]);
-    assert_eq!(words("slli r1, r2, 300"), [0x0016109B]);
-    assert_eq!(words("beq r1, r2, 131072"), [0x000010C0]);
+    assert_eq!(words("addi r1, r0, 65535"), [0x7FFF8088]);
+    assert_eq!(words("addi r1, r0, -65536"), [0x80000088]);
+    assert_eq!(words("addi r1, r0, 0x1FFFF"), [0xFFFF8088]);
+}
+
+/// "01's examples with 276, `slli` 300 and `beq` 131072 now give 35" (document 02, request c).
+#[test]
+fn numbers_must_fit() {
+    for source in [
+        "slli r1, r2, 300",
+        "beq r1, r2, 131072",
+        ".config limb_bits 276",
+    ] {
+        let expected = AssembleRefusal {
+            reason: Reason::NumberOutOfRange,
+            rust_line: 1,
+            line: 1,
+            labels: 0,
+            needed: None,
+        };
+        assert_eq!(assembled(source), Err(expected));
+    }
+    assert_eq!(reason("addi r1, r0, 0x20000"), Reason::NumberOutOfRange);
+    assert_eq!(reason("jal r1, 2097150"), Reason::NumberOutOfRange);
+    assert_eq!(reason("addi r1, x, 70000"), Reason::RegisterExpected);
+    assert_eq!(reason(".config foo 256"), Reason::NumberOutOfRange);
+    assert_eq!(reason(".config foo 255"), Reason::UnknownKey);
 }
 
 #[test]
@@ -61,11 +86,11 @@ fn a_label_is_named_as_a_target() {
 }
 
 #[test]
-fn settings_are_taken_modulo_256() {
-    let settings = assembled(".config limb_bits 276").unwrap().1;
-    assert_eq!(settings.limb_bits, 20);
+fn settings_are_checked() {
     // 20 is also where the setting begins: from another value, the line is seen to set it.
-    let settings = assembled(".config limb_bits 24\n.config limb_bits 276").unwrap().1;
+    let settings = assembled(".config limb_bits 24\n.config limb_bits 0x14")
+        .unwrap()
+        .1;
     assert_eq!(settings.limb_bits, 20);
     assert_eq!(reason(".config limb_bits 15"), Reason::LimbBitsRange);
     assert_eq!(reason(".config limb_bits 17"), Reason::LimbBitsOdd);
@@ -79,7 +104,10 @@ fn names_and_numbers_are_told_apart() {
     assert_eq!(reason("foo: bar:"), Reason::UnknownMnemonic);
     assert_eq!(reason("add r16, r1, r1"), Reason::RegisterExpected);
     assert_eq!(reason("jal r1, 0xg"), Reason::OperandCount);
-    assert_eq!(words("jal r0, -9223372036854775808"), [0x00000048]);
+    assert_eq!(
+        reason("jal r0, -9223372036854775808"),
+        Reason::NumberOutOfRange
+    );
     assert_eq!(reason("jal r0, 9223372036854775808"), Reason::BadToken);
 }
 
@@ -88,7 +116,7 @@ fn the_program_is_listed() {
     let source = "start: ADDI a0, zero, -1 # one\n\
                   .config limb_bits 24\n\
                   sw a0, 8(sp)\n\
-                  jal ra, 2097150\n\
+                  jal ra, 0x1FFFFE\n\
                   ecall\n";
     let listing = ".config limb_bits 24\n\
                    .config data_limbs 2\n\

@@ -14,7 +14,7 @@ use Rattle.capi.specs.Promised.{AssembleCall, OpenCall, ListCall}
 pub record AssemblePromise (names : List Name) (source : List ℕ) (table : List Label) (image : List ℕ) (table' : List Label) (image' answer' : List ℕ) (r : ℕ) : Type 0 where
   -- 0 is returned exactly where nothing is refused,
   pub zero : (r ≡ 0) ↔ Accepted names source (length table) (length image)
-  -- and otherwise one of assembling's numbers, 1 to 23, 33 and 34.
+  -- and otherwise one of assembling's numbers, 1 to 23 and 33 to 35.
   pub number : OneOf (0 ∷ assembling_numbers) r
   -- Where it is not 0, the image buffer holds what it held before.
   pub image_kept : (r ≡ 0 → ⊥) → image' ≡ image

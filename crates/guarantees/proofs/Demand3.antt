@@ -16,7 +16,7 @@ use Rattle.text.proofs.Lines.{visible}
 use Rattle.instruction.specs.Operands.{Instruction}
 use Rattle.instruction.specs.Table.{places, Row, row, table}
 use Rattle.instruction.specs.Words.{modulo, word_of}
-use Rattle.instruction.specs.Fits.{InTable, places_of, number_field, has_number, width_of, number_width, Fits}
+use Rattle.instruction.specs.Fits.{InTable, places_of, number_range, has_number, width_of, number_width, Fits}
 use Rattle.instruction.proofs.Rows.{carried, same_row}
 use Rattle.instruction.proofs.Decoding.{word-tells, same_word}
 use Rattle.image.specs.Settings.{Settings, limb_bits_key, data_limbs_key, addr_limbs_key}
@@ -41,7 +41,7 @@ stated : Row → Bool
 stated r = not (has_number (places_of r)) || eqb (number_width (places_of r)) (bits_for r.mnemonic)
 
 table-stated : each stated table ≡ true
-unfolding stated bits_for each table row bytes places number_field has_number is_some width_of number_width same
+unfolding stated bits_for each table row bytes places number_range has_number is_some width_of number_width same
 table-stated = refl
 
 stated-modulo : (r : Row) → InTable r → (n : Option ℤ) → is_some n ≡ has_number (places_of r) → modulo (number_width (places_of r)) n ≡ modulo (bits_for r.mnemonic) n

@@ -66,7 +66,7 @@ reads-append names c (l ∷ above) below =
     ap (λ (rs : List Read). r ∷ rs) (reads-append names (context_after c r.effect) above below)
 
 -- An instruction leaves the context as it is, so the lines below it are read as if it were not there.
-reads-at : (names : List Name) (source : List ℕ) (above : List (List ℕ)) (line : List ℕ) (below : List (List ℕ)) (label : Option (List ℕ)) (d : Draft)
+pub reads-at : (names : List Name) (source : List ℕ) (above : List (List ℕ)) (line : List ℕ) (below : List (List ℕ)) (label : Option (List ℕ)) (d : Draft)
     → lines source ≡ above ++ (line ∷ below) → read_below names above line ≡ record { label = label; effect = codes d }
     → reads names source ≡ reads_from names first_context above ++ (record { label = label; effect = codes d } ∷ reads_from names (left_by names first_context above) below)
 unfolding reads reads_from context_after changed_by
@@ -77,7 +77,7 @@ reads-at names source above line below label d e h =
     ∙ ap (λ (r : Read). upper ++ (r ∷ reads_from names (context_after c r.effect) below)) h
 
 -- Its word is at its place.
-own-word : (names : List Name) (source : List ℕ) (above below : List Read) (label : Option (List ℕ)) (d : Draft)
+pub own-word : (names : List Name) (source : List ℕ) (above below : List Read) (label : Option (List ℕ)) (d : Draft)
     → reads names source ≡ above ++ (record { label = label; effect = codes d } ∷ below) → (words : ℕ) → words_in above ≡ words
     → IsWordOf names source (image_of names source) (32 + 4 * words) words d
 unfolding little

@@ -11,3 +11,5 @@ pub mod Targets
 pub mod Edits
 pub mod EditExamples
 pub mod EditsRefuted
+pub mod Ranges
+pub mod RangeExamples

@@ -7,8 +7,8 @@ use mathlib.Core.Option.{some}
 use mathlib.Core.List.{List, [], ◌∷◌, ◌++◌}
 use lib.ListN.{length, length-append}
 use lib.Dec.{leb}
+use Rattle.text_lexical.specs.Numbers.{is_signed}
 use Rattle.text_lexical.specs.Names.{Name}
-use Rattle.instruction.specs.Words.{is_signed}
 use Rattle.image.specs.Program.{image_length}
 use Rattle.image.specs.Assembling.{State, refusing, Effect, nothing, sets, codes, faulty, Read, reads, words_of, address_of, address_in, distance, Assembled as Reading, accepted, rejected, reading, fitted, assembling}
 use Rattle.image.specs.Meaning.{settled, coded_in, is_accepted}

@@ -26,10 +26,10 @@ use Rattle.guarantees.specs.Promises.{Agree, AreBytes}
 
 -- ---- the numbers of refusals
 
--- Reading a source: from "1 source over 1,048,576 bytes" to "22 a 32,769th instruction", and "33 no such label and 34 distance outside the
--- branch's signed 17 bits" (document 02, a).
+-- Reading a source: from "1 source over 1,048,576 bytes" to "22 a 32,769th instruction", "33 no such label and 34 distance outside the
+-- branch's signed 17 bits" (document 02, a), and "35 number out of its range" (document 02, c).
 abbrev pub reading_numbers : List ℕ
-reading_numbers = 1 ∷ 2 ∷ 3 ∷ 4 ∷ 5 ∷ 6 ∷ 7 ∷ 8 ∷ 9 ∷ 10 ∷ 11 ∷ 12 ∷ 13 ∷ 14 ∷ 15 ∷ 16 ∷ 17 ∷ 18 ∷ 19 ∷ 20 ∷ 21 ∷ 22 ∷ 33 ∷ 34 ∷ []
+reading_numbers = 1 ∷ 2 ∷ 3 ∷ 4 ∷ 5 ∷ 6 ∷ 7 ∷ 8 ∷ 9 ∷ 10 ∷ 11 ∷ 12 ∷ 13 ∷ 14 ∷ 15 ∷ 16 ∷ 17 ∷ 18 ∷ 19 ∷ 20 ∷ 21 ∷ 22 ∷ 33 ∷ 34 ∷ 35 ∷ []
 
 -- Assembling: these, and "At the end: 23 image buffer too short".
 abbrev pub assembling_numbers : List ℕ

@@ -42,13 +42,19 @@ pub record Edit (names : List Name) (source source' : List ℕ) : Type 0 where
   pub holds : read_below names above line ≡ record { label = label; effect = codes draft }
   pub holds' : read_below names above line' ≡ record { label = label; effect = codes draft' }
 
--- How many instructions stand above it,
-abbrev pub words_above : {names : List Name} {source source' : List ℕ} → Edit names source source' → ℕ
-words_above {names} e = length (drafted (reads_from names first_context e.above))
+-- How many instructions stand on the lines above one,
+abbrev pub words_on : List Name → List (List ℕ) → ℕ
+words_on names above = length (drafted (reads_from names first_context above))
 
 -- and where its word stands: after the header and their words (document 01: "32 + 4 times words bytes").
+abbrev pub place_below : List Name → List (List ℕ) → ℕ
+place_below names above = 32 + 4 * words_on names above
+
+abbrev pub words_above : {names : List Name} {source source' : List ℕ} → Edit names source source' → ℕ
+words_above {names} e = words_on names e.above
+
 abbrev pub place : {names : List Name} {source source' : List ℕ} → Edit names source source' → ℕ
-place e = 32 + 4 * words_above e
+place {names} e = place_below names e.above
 
 -- ---- what both have in common
 

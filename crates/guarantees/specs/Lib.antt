@@ -5,3 +5,5 @@ pub mod Calls
 pub mod Targets
 pub mod Edits
 pub mod EditExamples
+pub mod Ranges
+pub mod RangeExamples

@@ -2,10 +2,10 @@
 use Rattle.std.specs.Prelude.{ℕ, ◌≡◌, true, List, [], ◌∷◌, ◌++◌, length}
 use Rattle.std.specs.Prelude.{Result as Answered}
 use Rattle.std.proofs.Math.Option.{Option, some}
+use Rattle.text_lexical.specs.Numbers.{is_signed}
 use Rattle.text_lexical.specs.Names.{Name}
 use Rattle.instruction.specs.Table.{Branch}
 use Rattle.instruction.specs.Operands.{Instruction, to, Draft}
-use Rattle.instruction.specs.Words.{is_signed}
 use Rattle.image.specs.Assembling.{Label, Effect, nothing, sets, codes, faulty, Read, reads, address_of, distance, assembling}
 use Rattle.image.specs.Meaning.{instructions_of}
 use Rattle.image.specs.Lent.{entered}

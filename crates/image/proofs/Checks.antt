@@ -1,24 +1,54 @@
--- A field of settings set, and the `.config` line, as the code decides them.
-use mathlib.Core.Path.{◌≡◌, refl, ap, ◌∙◌}
-use Prim.Native.Nat.{ℕ, ◌≤◌}
+-- A setting's number, a field of settings set, and the `.config` line, as the code decides them.
+use mathlib.Core.Path.{◌≡◌, refl, sym, ap, ◌∙◌}
+use Prim.Native.Nat.{ℕ, ◌^◌, ◌≤◌, ◌<◌}
 use native.Mathlib.Omega.{arith}
 use mathlib.Core.Bool.{true, false}
 use mathlib.Core.List.{List, [], ◌∷◌, map}
 use lib.ListN.{length, take, drop, get_or}
-use lib.IntN.{ℤ}
-use borrow.Author.Tests.{eq-eqb, ne_eqb}
+use lib.Dec.{ltb}
+use lib.IntN.{ℤ, pos, negsuc, nat_abs}
+use borrow.Author.Tests.{ltb-true, eq-eqb, ne_eqb}
 use Rattle.text_lexical.specs.Bytes.{Result, value, refused, same}
-use Rattle.text_lexical.specs.Numbers.{residue}
+use Rattle.text_lexical.specs.Numbers.{is_unsigned, lies_in}
+use Rattle.text_lexical.specs.declared.number.NumberRange.{NumberRange}
+use Rattle.text.specs.Tokens.{Token as MeantToken, number, hex, binary}
+use Rattle.text.specs.Values.{read_decimal, read_pattern, read_number}
 use Rattle.text.specs.Lines.{Line as Record, kept}
-use Rattle.text.specs.Promised.{extracted, extract_meant, spelling, meant}
+use Rattle.text.specs.Promised.{extracted, extract_meant, kind_meant, spelling, meant}
+use Rattle.text.specs.declared.lexer.Kind.{Kind}
 use Rattle.text.specs.declared.lexer.Kind.TheVariants.{Identifier}
 use Rattle.text.specs.declared.lexer.Token.{Token}
 use Rattle.text.specs.declared.parser.Line.{Line}
 use Rattle.text.proofs.Meanings.{extracted-number}
 use Rattle.instruction.specs.Operands.{read_identifier}
-use Rattle.instruction.proofs.Results.{no-identifier}
-use Rattle.image.specs.Settings.{Settings, settings, limb_bits_key, data_limbs_key, addr_limbs_key, set_field, checked, configured_by, configured_with, configured}
+use Rattle.instruction.proofs.Results.{not_refused, test-value, no-identifier}
+use Rattle.image.specs.Settings.{Settings, settings, limb_bits_key, data_limbs_key, addr_limbs_key, set_field, checked, setting_range, configured_by, configured_with, configured}
 use Rattle.image.specs.Promised.{record_meant}
+
+-- ---- a setting's number
+
+-- The numbers of settings, as the code has them.
+abbrev setting_numbers : NumberRange
+setting_numbers = record { width = 8; signed = false }
+
+-- A number that is read as a setting's is one of a byte.
+within-byte : (n : ℕ) (z : ℤ) → ◌≡◌ {A = Result ℤ} (elim (ltb n (2 ^ 8)) [ true ↦ value (pos n) | false ↦ refused 35 ]) (value z) → nat_abs z < 256
+within-byte n z e =
+    let (l, q) = test-value (ltb n (2 ^ 8)) (value (pos n)) 35 z e in
+    let a : pos n ≡ z = cc in
+    rw (← a) (ltb-true n (2 ^ 8) l)
+
+setting-below : (t : MeantToken) (z : ℤ) → read_number setting_range t ≡ value z → nat_abs z < 256
+unfolding read_number read_decimal read_pattern setting_range lies_in is_unsigned
+setting-below (number (pos n)) z e = within-byte n z e
+setting-below (number (negsuc n)) z e = not_refused e
+setting-below (hex n) z e = within-byte n z e
+setting-below (binary n) z e = within-byte n z e
+setting-below t z e = not_refused e
+
+pub setting-byte : (k : Kind) (z : ℤ) → extract_meant (extracted setting_numbers k) ≡ value z → nat_abs z < 256
+unfolding setting_range
+setting-byte k z e = setting-below (kind_meant k []) z (sym (extracted-number setting_numbers k []) ∙ e)
 
 -- ---- a field set
 
@@ -71,15 +101,15 @@ module _ (setup : Settings) (s : List ℕ) (l : Line) (d : Token) (full : length
 
   module _ (named : (get_or l.tokens 1 d).kind ≡ Identifier) where
     -- and the third a number
-    by_number : (o : Result ℤ) → extract_meant (extracted (get_or l.tokens 2 d).kind) ≡ o
-        → configured setup (record_meant s l) ≡ elim o [ refused n ↦ refused n | value z ↦ checked (set_field setup (spelling s (get_or l.tokens 1 d)) (residue 8 z)) ]
-    unfolding configured_by read_identifier
-    by_number o e = config-by ∙ rw (configured_by, named, ← extracted-number (get_or l.tokens 2 d).kind (spelling s (get_or l.tokens 2 d)), e)
+    by_number : (o : Result ℤ) → extract_meant (extracted setting_numbers (get_or l.tokens 2 d).kind) ≡ o
+        → configured setup (record_meant s l) ≡ elim o [ refused n ↦ refused n | value z ↦ checked (set_field setup (spelling s (get_or l.tokens 1 d)) (nat_abs z)) ]
+    unfolding configured_by read_identifier setting_range
+    by_number o e = config-by ∙ rw (configured_by, named, ← extracted-number setting_numbers (get_or l.tokens 2 d).kind (spelling s (get_or l.tokens 2 d)), e)
 
-    pub config-number : (n : ℕ) → extract_meant (extracted (get_or l.tokens 2 d).kind) ≡ refused n → configured setup (record_meant s l) ≡ refused n
+    pub config-number : (n : ℕ) → extract_meant (extracted setting_numbers (get_or l.tokens 2 d).kind) ≡ refused n → configured setup (record_meant s l) ≡ refused n
     config-number n e = by_number (refused n) e
 
-    -- which the field is set to
-    pub config-sets : (z : ℤ) → extract_meant (extracted (get_or l.tokens 2 d).kind) ≡ value z
-        → configured setup (record_meant s l) ≡ checked (set_field setup (spelling s (get_or l.tokens 1 d)) (residue 8 z))
-    config-sets z e = by_number (value z) e
+    -- which the field is set to, and which is below 256
+    pub config-sets : (z : ℤ) → extract_meant (extracted setting_numbers (get_or l.tokens 2 d).kind) ≡ value z → {v : ℕ} → (nat_abs z < 256 → v ≡ nat_abs z)
+        → configured setup (record_meant s l) ≡ checked (set_field setup (spelling s (get_or l.tokens 1 d)) v)
+    config-sets z e is = rw (is (setting-byte (get_or l.tokens 2 d).kind z e)) (by_number (value z) e)

@@ -1,25 +1,25 @@
 -- Settings that lines lead to pass their checks, and a listed `.config` line sets its field again.
 use mathlib.Core.Path.{◌≡◌, refl, sym, ap, ◌∙◌}
-use Prim.Native.Nat.{ℕ, ◌<◌}
+use Prim.Native.Nat.{ℕ, ◌^◌, ◌<◌}
 use native.Mathlib.Omega.{arith}
 use mathlib.Core.Bool.{Bool, true, false}
 use mathlib.Core.Option.{Option, none, some}
 use mathlib.Core.List.{List, [], ◌∷◌, ◌++◌, append-nil}
 use lib.ListN.{drop}
 use lib.Dec.{eqb}
-use lib.IntN.{ℤ, pos}
+use borrow.Author.Tests.{lt-ltb}
+use lib.IntN.{ℤ, pos, nat_abs}
 use Rattle.text_lexical.specs.Bytes.{Result, value, refused, bytes, between, letter, digit, name_start, name_part, every, same, each}
-use Rattle.text_lexical.specs.Numbers.{residue, decimal, signed_decimal}
+use Rattle.text_lexical.specs.Numbers.{is_unsigned, lies_in, decimal, signed_decimal}
 use Rattle.text_lexical.specs.Names.{Name}
 use Rattle.text_lexical.proofs.Strings.{every_append, ends}
-use Rattle.text_lexical.proofs.Numbers.{residue-small}
 use Rattle.text.specs.Tokens.{Token, identifier, number, directive, is_identifier, is_register, infront, tokens}
-use Rattle.text.specs.Values.{read_number}
+use Rattle.text.specs.Values.{read_decimal, read_number}
 use Rattle.text.specs.Lines.{Line, lines, line_of, read_line}
 use Rattle.text.proofs.Tokens.{tokens-nil, Within64, reads-directive, reads-space, reads-identifier, reads-decimal}
 use Rattle.text.proofs.Lines.{visible, closed-append, Trimmed, decimal-visible, decimal-closed, high-plain, read-visible}
 use Rattle.instruction.specs.Operands.{Draft, read_identifier, read_instruction, behind}
-use Rattle.image.specs.Settings.{Settings, begin, settings_fault, set_field, checked, configured_by, configured_with, configured}
+use Rattle.image.specs.Settings.{Settings, begin, settings_fault, set_field, checked, setting_range, configured_by, configured_with, configured}
 use Rattle.instruction.specs.Kinds.{Kind, empty, labelled, config, ignored, plain, kind_of}
 use Rattle.image.specs.Assembling.{Context, first_context, Effect, nothing, sets, codes, faulty, setting, coding, after_label, read_kind, read_on, changed_by, context_after, reads_from, reads}
 use Rattle.image.specs.Meaning.{settings_in, settings_of}
@@ -44,16 +44,16 @@ good-by : (s : Settings) (key v : Token) → GoodIf (configured_by s key v)
 unfolding configured_by
 good-by s key v = go (read_identifier key)
   where
-    by_number : (k : List ℕ) (o : Result ℤ) → GoodIf (elim o [ refused n ↦ refused n | value z ↦ checked (set_field s k (residue 8 z)) ])
+    by_number : (k : List ℕ) (o : Result ℤ) → GoodIf (elim o [ refused n ↦ refused n | value z ↦ checked (set_field s k (nat_abs z)) ])
     by_number k (refused n) = tt
-    by_number k (value z) = good-checked (set_field s k (residue 8 z))
+    by_number k (value z) = good-checked (set_field s k (nat_abs z))
 
     go : (o : Option (List ℕ)) → GoodIf (elim o [
       | none ↦ refused 7
-      | some k ↦ elim (read_number v) [ refused n ↦ refused n | value z ↦ checked (set_field s k (residue 8 z)) ]
+      | some k ↦ elim (read_number setting_range v) [ refused n ↦ refused n | value z ↦ checked (set_field s k (nat_abs z)) ]
     ])
     go none = tt
-    go (some k) = by_number k (read_number v)
+    go (some k) = by_number k (read_number setting_range v)
 
 good-with : (s : Settings) (ts : List Token) → GoodIf (configured_with s ts)
 unfolding configured_with
@@ -165,9 +165,18 @@ module _ (names : List Name) (ok : each (λ n. is_identifier n.spelling) names �
         closed = closed-append (bytes ".config ") (key ++ (32 ∷ decimal v)) (closed-append key (32 ∷ decimal v) (closed-append (32 ∷ []) (decimal v) (decimal-closed v)));
       }
 
+  in-range : lies_in setting_range (pos v) ≡ true
+  unfolding setting_range lies_in is_unsigned
+  in-range = lt-ltb v (2 ^ 8) (omega arith)
+
+  -- Its number is one of a setting.
+  listed-number : read_number setting_range (number (pos v)) ≡ value (pos v)
+  unfolding read_number read_decimal
+  listed-number = rw (read_decimal, in-range)
+
   -- It sets the field of its key.
   pub config-read : (c : Context) (s : Settings) → set_field c.setup key v ≡ value s → settings_fault s ≡ none
       → read_on c (read_line names (config_text key v)) ≡ record { label = none; effect = sets s }
-  unfolding read_on read_kind setting kind_of same bytes line_of configured configured_with configured_by read_identifier read_number checked
+  unfolding read_on read_kind setting kind_of same bytes line_of configured configured_with configured_by read_identifier checked
   config-read c s e g =
-      rw (read-visible names (config_text key v) _ config-trimmed config-visible config-tokens, residue-small 8 v (omega arith), e, checked, g)
+      rw (read-visible names (config_text key v) _ config-trimmed config-visible config-tokens, configured_by, listed-number, e, checked, g)

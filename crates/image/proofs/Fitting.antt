@@ -8,25 +8,25 @@ use mathlib.Core.List.{List, [], ◌∷◌, ◌++◌, map}
 use lib.Dec.{eqb}
 use lib.IntN.{ℤ}
 use borrow.Author.Tests.{not-true}
-use Rattle.text_lexical.specs.Bytes.{Result, value, refused, is_some, each}
+use Rattle.text_lexical.specs.Bytes.{is_some, each}
 use Rattle.text_lexical.specs.Names.{Name}
 use Rattle.text_lexical.proofs.Tests.{both}
 use Rattle.text.specs.Tokens.{Token, identifier, is_register}
 use Rattle.text.specs.Lines.{Line, lines, line_of, read_line}
 use Rattle.text.specs.NameSets.{Naming}
 use Rattle.instruction.specs.Table.{table}
-use Rattle.instruction.specs.Operands.{Instruction, Amount, Draft, read_instruction, behind, mark_byte}
+use Rattle.instruction.specs.Operands.{Instruction, Amount, Draft, behind, mark_byte}
 use Rattle.instruction.specs.Words.{word_of}
 use Rattle.instruction.specs.Fits.{places_of, has_number, Fits, reduced_to}
 use Rattle.instruction.proofs.Rows.{carried}
 use Rattle.instruction.proofs.Decoding.{decode-encode, word_bound, decoded-fits, decoded-reduced, encode-decode}
 use Rattle.instruction.proofs.Reading.{numbered_token, DraftFits, read_fits, line-numbered, behind-numbered}
 use Rattle.instruction.proofs.Text.{operand_tokens, no_colon, no-colon, tokens-kept, tokens-read, text-visible, text-line}
-use Rattle.image.specs.Settings.{Settings, configured}
-use Rattle.instruction.specs.Kinds.{Kind, empty, labelled, config, ignored, plain, identifier_kind, kind_of}
-use Rattle.image.specs.Assembling.{Context, first_context, Effect, nothing, sets, codes, faulty, setting, coding, after_label, read_kind, read_on, context_after, reads_from, reads, words_of, address_in}
+use Rattle.instruction.specs.Kinds.{plain, identifier_kind, kind_of}
+use Rattle.image.specs.Assembling.{Context, first_context, Effect, nothing, sets, codes, faulty, read_on, context_after, reads_from, reads, words_of, address_in}
 use Rattle.image.specs.Meaning.{resolved, settled, coded_by, coded_in, instructions_of}
 use Rattle.image.proofs.Images.{Words}
+use Rattle.image.proofs.Coded.{Coded, unlabelled, after-colon, coded}
 use Rattle.image.proofs.Listed.{Decoded, AllDecoded}
 use Rattle.image.proofs.Round.{Reads, AllRead, instructions_in}
 
@@ -41,51 +41,20 @@ fit_append [] js a b = b
 fit_append (i ∷ is) js a b = (a.0, fit_append is js a.1 b)
 
 -- What a line has of an instruction fits.
-abbrev EffectFits : Effect → Type 0
-EffectFits (codes d) = DraftFits d
-EffectFits nothing = Unit {0}
-EffectFits (sets s) = Unit {0}
-EffectFits (faulty n) = Unit {0}
+fit-read : (l : Line) (d : Draft) → each numbered_token l.first ≡ true → Coded l d → DraftFits d
+fit-read l d h (unlabelled e) = read_fits l d h e
+fit-read l d h (after-colon s k e) = read_fits (behind 2 l) d (behind-numbered 2 l h) e
 
-fit-read : (l : Line) → each numbered_token l.first ≡ true → EffectFits (coding (read_instruction l))
-unfolding coding
-fit-read l h = go (read_instruction l) refl
-  where
-    go : (r : Result Draft) → read_instruction l ≡ r → EffectFits (coding r)
-    go (value d) e = read_fits l d h e
-    go (refused n) e = tt
-
-fit-after : (l : Line) → each numbered_token l.first ≡ true → EffectFits (after_label l)
-unfolding after_label
-fit-after l h = go l.first
-  where
-    go : (ts : List Token) → EffectFits (elim ts [ [] ↦ nothing | t ∷ us ↦ coding (read_instruction l) ])
-    go [] = tt
-    go (t ∷ us) = fit-read l h
-
-fit-setting : (r : Result Settings) → EffectFits (setting r)
-unfolding setting
-fit-setting (value s) = tt
-fit-setting (refused n) = tt
-
-fit-kind : (c : Context) (l : Line) (k : Kind) → each numbered_token l.first ≡ true → EffectFits (read_kind c l k).effect
-unfolding read_kind
-fit-kind c l (labelled s) h = fit-after (behind 2 l) (behind-numbered 2 l h)
-fit-kind c l plain h = fit-read l h
-fit-kind c l empty h = tt
-fit-kind c l config h = fit-setting (configured c.setup l)
-fit-kind c l ignored h = tt
-
-fit_on : (names : List Name) → Naming names → (c : Context) (l : List ℕ) → EffectFits (read_on c (read_line names l)).effect
+pub fit_on : (names : List Name) → Naming names → (c : Context) (l : List ℕ) (d : Draft) → (read_on c (read_line names l)).effect ≡ codes d → DraftFits d
 unfolding read_on
-fit_on names N c l = go (read_line names l) refl
+fit_on names N c l d = go (read_line names l) refl
   where
-    go : (o : Option Line) → read_line names l ≡ o → EffectFits (read_on c o).effect
-    go none e = tt
-    go (some x) e = fit-kind c x (kind_of x.first) (line-numbered names N l x e)
+    go : (o : Option Line) → read_line names l ≡ o → (read_on c o).effect ≡ codes d → DraftFits d
+    go none e h = cc
+    go (some x) e h = fit-read x d (line-numbered names N l x e) (coded c x d h)
 
 -- So does the instruction, whatever number a label comes to.
-fit-settled : (addresses : List ℕ → Option ℕ) (words : ℕ) (d : Draft) → DraftFits d → Fits (settled addresses words d)
+pub fit-settled : (addresses : List ℕ → Option ℕ) (words : ℕ) (d : Draft) → DraftFits d → Fits (settled addresses words d)
 unfolding settled is_some
 fit-settled addresses words d f = record { in_table = f.in_table; registers = f.registers; number = go d.amount f.amount }
   where
@@ -94,9 +63,9 @@ fit-settled addresses words d f = record { in_table = f.in_table; registers = f.
     go none h = h
     go (some a) h = h
 
-fit-coded : (addresses : List ℕ → Option ℕ) (words : ℕ) (e : Effect) → EffectFits e → AllFit (coded_by addresses words e)
+fit-coded : (addresses : List ℕ → Option ℕ) (words : ℕ) (e : Effect) → ((d : Draft) → e ≡ codes d → DraftFits d) → AllFit (coded_by addresses words e)
 unfolding coded_by
-fit-coded addresses words (codes d) f = (fit-settled addresses words d f, tt)
+fit-coded addresses words (codes d) f = (fit-settled addresses words d (f d refl), tt)
 fit-coded addresses words nothing f = tt
 fit-coded addresses words (sets s) f = tt
 fit-coded addresses words (faulty n) f = tt
@@ -144,7 +113,7 @@ module _ (names : List Name) (N : Naming names) (free : each (λ r. not (is_regi
         line = line_of (identifier i.row.mnemonic ∷ operand_tokens i);
         is-line = text-line i f r names N n;
         is_plain = ap kind_of (tokens-kept i f) ∙ plain-first i.row.mnemonic (operand_tokens i) (no-colon i);
-        is_read = tokens-read i f;
+        is_read = tokens-read i f r;
       }
 
   pub words-read : (ws : List ℕ) → AllDecoded ws → AllRead names ws

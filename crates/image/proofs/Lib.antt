@@ -8,6 +8,7 @@ pub mod Walking
 pub mod Targets
 pub mod ConfigLines
 pub mod Round
+pub mod Coded
 pub mod Fitting
 pub mod Checks
 pub mod Heads

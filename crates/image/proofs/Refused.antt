@@ -4,19 +4,19 @@
 use mathlib.Core.Path.{◌≡◌, refl, sym, subst}
 use mathlib.Core.Bool.{true≢false}
 use borrow.Author.Tests.{eqb-true}
-use Rattle.std.specs.Prelude.{ℕ, suc, ◌+◌, ◌-◌, ◌%◌, Bool, true, false, List, [], ◌∷◌, map, length, drop, eqb}
+use Rattle.std.specs.Prelude.{ℕ, suc, ◌+◌, ◌-◌, ◌%◌, ◌^◌, Bool, true, false, List, [], ◌∷◌, map, length, drop, ltb, eqb, nat_abs}
 use Rattle.std.proofs.Math.Option.{Option, none, some}
 use Rattle.text_lexical.specs.Bytes.{Result, value, refused, between, same, lower, each}
-use Rattle.text_lexical.specs.Numbers.{residue}
+use Rattle.text_lexical.specs.Numbers.{NumberRange, lies_in}
 use Rattle.text_lexical.proofs.Tests.{both}
 use Rattle.text_lexical.proofs.Tests.{by-test as cases}
 use Rattle.text.specs.Tokens.{Token, register, number, hex, binary}
-use Rattle.text.specs.Values.{read_number}
+use Rattle.text.specs.Values.{read_decimal, read_pattern, read_number}
 use Rattle.text.specs.Lines.{Line}
 use Rattle.instruction.specs.Table.{Place, reg, num, mark, Separator, a-comma, an-opening, a-closing, Form, places, Row, row_named}
 use Rattle.instruction.specs.Operands.{Amount, exactly, to, DraftOperands, Draft, takes_label, read_identifier, read_register, read_exactly, read_amount, read_place, read_operands, mark_byte, separator_byte, separator_refusal, with_register, with_amount, made, read_row, read_mnemonic, read_instruction, behind}
 use Rattle.instruction.specs.Kinds.{Kind, empty, labelled, config, ignored, plain, kind_of}
-use Rattle.image.specs.Settings.{Settings, settings_fault, set_field, checked, configured_by, configured_with, configured, limb_bits_key, data_limbs_key, addr_limbs_key}
+use Rattle.image.specs.Settings.{Settings, settings_fault, set_field, checked, setting_range, configured_by, configured_with, configured, limb_bits_key, data_limbs_key, addr_limbs_key}
 use Rattle.image.specs.Assembling.{Context, Effect, nothing, sets, codes, faulty, setting, coding, after_label, read_kind, read_on, Read, words_of, address_in, distance, in_reach, amount_fault, draft_fault, target_fault, Fault, first_fault, fault_in}
 
 -- ---- an answer by cases: what holds of each holds of it
@@ -73,9 +73,9 @@ of-settings P ten eleven twelve thirteen s =
 
 -- ---- a line
 
--- The numbers that a line can be refused with, its label aside: 3 and 6 to 21.
+-- The numbers that a line can be refused with, its label aside: 3, 6 to 21, and 35.
 abbrev pub line_numbers : List ℕ
-line_numbers = 3 ∷ 6 ∷ 7 ∷ 8 ∷ 9 ∷ 10 ∷ 11 ∷ 12 ∷ 13 ∷ 14 ∷ 15 ∷ 16 ∷ 17 ∷ 18 ∷ 19 ∷ 20 ∷ 21 ∷ []
+line_numbers = 3 ∷ 6 ∷ 7 ∷ 8 ∷ 9 ∷ 10 ∷ 11 ∷ 12 ∷ 13 ∷ 14 ∷ 15 ∷ 16 ∷ 17 ∷ 18 ∷ 19 ∷ 20 ∷ 21 ∷ 35 ∷ []
 
 abbrev is_in : List ℕ → ℕ → Bool
 is_in [] n = false
@@ -100,12 +100,16 @@ module _ (q : ℕ → Bool) (ok : each q line_numbers ≡ true) where
   Of = OfResult P
 
   -- an operand
-  of-number : (t : Token) → Of (read_number t)
-  unfolding read_number
-  of-number (number z) = tt
-  of-number (hex n) = tt
-  of-number (binary n) = tt
-  of-number t = listed 8 refl
+  of-pattern : (r : NumberRange) (n : ℕ) → Of (read_pattern r n)
+  unfolding read_pattern
+  of-pattern r n = by-test Of (ltb n (2 ^ r.width)) tt (listed 35 refl)
+
+  of-number : (r : NumberRange) (t : Token) → Of (read_number r t)
+  unfolding read_number read_decimal
+  of-number r (number z) = by-test Of (lies_in r z) tt (listed 35 refl)
+  of-number r (hex n) = of-pattern r n
+  of-number r (binary n) = of-pattern r n
+  of-number r t = listed 8 refl
 
   of-register : (t : Token) → Of (read_register t)
   unfolding read_register
@@ -118,14 +122,14 @@ module _ (q : ℕ → Bool) (ok : each q line_numbers ≡ true) where
   of-mark an-opening = listed 20 refl
   of-mark a-closing = listed 21 refl
 
-  of-exactly : (t : Token) → Of (read_exactly t)
+  of-exactly : (r : NumberRange) (t : Token) → Of (read_exactly r t)
   unfolding read_exactly
-  of-exactly t = by_result P Of (read_number t) (of-number t) (λ z. tt) (λ n l. l)
+  of-exactly r t = by_result P Of (read_number r t) (of-number r t) (λ z. tt) (λ n l. l)
 
-  of-amount : (label : Bool) (t : Token) → Of (read_amount label t)
+  of-amount : (r : NumberRange) (label : Bool) (t : Token) → Of (read_amount r label t)
   unfolding read_amount
-  of-amount false t = of-exactly t
-  of-amount true t = by-option Of (read_identifier t) (of-exactly t) (λ s. tt)
+  of-amount r false t = of-exactly r t
+  of-amount r true t = by-option Of (read_identifier t) (of-exactly r t) (λ s. tt)
 
   with-register : (n : ℕ) (rest : Result DraftOperands) → Of rest → Of (with_register n rest)
   unfolding with_register
@@ -140,7 +144,9 @@ module _ (q : ℕ → Bool) (ok : each q line_numbers ≡ true) where
   of-place : (label : Bool) (p : Place) (t : Token) (rest : Result DraftOperands) → Of rest → Of (read_place label p t rest)
   unfolding read_place
   of-place label (reg bit) t rest k = by_result P Of (read_register t) (of-register t) (λ n. with-register n rest k) (λ n l. l)
-  of-place label (num bit width signed) t rest k = by_result P Of (read_amount label t) (of-amount label t) (λ a. with-amount a rest k) (λ n l. l)
+  of-place label (num bit width signed) t rest k =
+      let r : NumberRange = record { width = width; signed = signed } in
+      by_result P Of (read_amount r label t) (of-amount r label t) (λ a. with-amount a rest k) (λ n l. l)
   of-place label (mark m) t rest k = by-test Of (eqb (mark_byte t) (separator_byte m)) k (of-mark m)
 
   of-operands : (label : Bool) (ps : List Place) (ts : List Token) → Of (read_operands label ps ts)
@@ -187,7 +193,7 @@ module _ (q : ℕ → Bool) (ok : each q line_numbers ≡ true) where
   of-setting-tokens s (key ∷ []) = listed 6 refl
   of-setting-tokens s (key ∷ v ∷ ts) =
       by-option Of (read_identifier key) (listed 7 refl) (λ k.
-      by_result P Of (read_number v) (of-number v) (λ z. of-checked (set_field s k (residue 8 z)) (of-set s k (residue 8 z))) (λ n l. l))
+      by_result P Of (read_number setting_range v) (of-number setting_range v) (λ z. of-checked (set_field s k (nat_abs z)) (of-set s k (nat_abs z))) (λ n l. l))
 
   of-configured : (s : Settings) (l : Line) → Of (configured s l)
   unfolding configured

@@ -1,5 +1,5 @@
 -- The labels that reading a source enters are spelled where they start: each is the part of the source that its line's content begins with.
-use Prim.Native.Nat.{ℕ, suc, ◌+◌, ◌≤◌, ◌<◌}
+use Prim.Native.Nat.{ℕ, suc, ◌+◌, ◌-◌, ◌≤◌, ◌<◌}
 use mathlib.Core.Path.{◌≡◌, refl, sym, ap, ◌∙◌}
 use native.Mathlib.Omega.{arith}
 use mathlib.Core.Bool.{Bool, true, false}
@@ -7,15 +7,15 @@ use mathlib.Core.Option.{Option, none, some}
 use mathlib.Core.List.{List, [], ◌∷◌, ◌++◌, append_assoc}
 use lib.ListN.{length, take, drop, length-append, length-drop}
 use lib.Seq.{drop-drop, drop-append-le, take_at}
-use lib.Dec.{leb, ltb, eqb}
-use Rattle.text_lexical.specs.Bytes.{ascii, every, same, bytes, before}
+use lib.Dec.{leb, ltb}
+use Rattle.text_lexical.specs.Bytes.{ascii, every, before}
 use Rattle.text_lexical.specs.Names.{Name}
 use Rattle.text_lexical.proofs.Strings.{run-le}
-use Rattle.text.specs.Tokens.{Token, identifier, directive, tokens}
+use Rattle.text.specs.Tokens.{Token, identifier, tokens}
 use Rattle.text.specs.Lines.{Line, lines, content, indent, kept, line_of, record_of, read_line}
 use Rattle.text.proofs.Parts.{Front, first-spelled, Stand, lines-stand}
-use Rattle.instruction.specs.Operands.{mark_byte}
-use Rattle.instruction.specs.Kinds.{Kind, empty, labelled, config, ignored, plain, identifier_kind, kind_of}
+use Rattle.instruction.specs.Kinds.{Kind, empty, labelled, config, ignored, plain, kind_of}
+use Rattle.instruction.proofs.Labelled.{BeginsWith, labelled-first}
 use Rattle.image.specs.Program.{image_length}
 use Rattle.image.specs.Assembling.{Label, State, start, Step, next, stop, Context, Effect, nothing, sets, codes, faulty, Read, read_kind, read_on, reads, is_known, with_label, enter, entering, with_settings, most_words, with_instruction, doing, step, context_of, Walk, finished, stopped, walk, Fault, fault_in, Assembled, accepted, rejected, refusing, line_refused, read_to, most_bytes, reading, fitted, assembling}
 use Rattle.image.specs.Lent.{entered}
@@ -36,20 +36,14 @@ label-kind c l plain u e = absurd (no-label e)
 
 -- whose first token is an Identifier of that spelling.
 first-labelled : (ts : List Token) (u : List ℕ) → kind_of (take kept ts) ≡ labelled u → (us : List Token) × (ts ≡ identifier u ∷ us)
-unfolding kind_of identifier_kind
-first-labelled [] u e = let y : ◌≡◌ {A = ℕ} 0 1 = cc in absurd (omega arith)
-first-labelled (identifier v ∷ []) u e = let y : ◌≡◌ {A = ℕ} 0 1 = cc in absurd (omega arith)
-first-labelled (identifier v ∷ t ∷ ts) u e = go (eqb (mark_byte t) 58) e
+first-labelled ts u e = go ts (labelled-first u (take kept ts) e)
   where
-    go : (b : Bool) → elim b [ true ↦ labelled v | false ↦ plain ] ≡ labelled u → (us : List Token) × (identifier v ∷ t ∷ ts ≡ identifier u ∷ us)
-    go true h = let z : v ≡ u = cc in (t ∷ ts, ap (λ (x : List ℕ). identifier x ∷ t ∷ ts) z)
-    go false h = let y : ◌≡◌ {A = ℕ} 0 1 = cc in absurd (omega arith)
-first-labelled (directive d ∷ ts) u e = go (same d (bytes "config")) e
-  where
-    go : (b : Bool) → elim b [ true ↦ config | false ↦ ignored ] ≡ labelled u → (us : List Token) × (directive d ∷ ts ≡ identifier u ∷ us)
-    go true h = let y : ◌≡◌ {A = ℕ} 0 1 = cc in absurd (omega arith)
-    go false h = let y : ◌≡◌ {A = ℕ} 0 1 = cc in absurd (omega arith)
-first-labelled (t ∷ ts) u e = let y : ◌≡◌ {A = ℕ} 0 1 = cc in absurd (omega arith)
+    go : (ts : List Token) → BeginsWith u (take kept ts) → (us : List Token) × (ts ≡ identifier u ∷ us)
+    go [] b = let q : [] ≡ identifier u ∷ b.second ∷ b.after = b.are in cc
+    go (t ∷ ts) b =
+        let q : t ∷ take (kept - 1) ts ≡ identifier u ∷ b.second ∷ b.after = b.are in
+        let i : t ≡ identifier u = cc in
+        (ts, ap (λ (x : Token). x ∷ ts) i)
 
 -- So a label stands after its line's indent, and takes a byte at least.
 pub label-front : (names : List Name) (c : Context) (l u : List ℕ) → (read_on c (read_line names l)).label ≡ some u → Front u (drop (indent l) l) × (0 < length u)

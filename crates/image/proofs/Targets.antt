@@ -9,11 +9,10 @@ use mathlib.Core.List.{List, [], ◌∷◌, ◌++◌}
 use lib.Dec.{leb}
 use lib.IntN.{pos}
 use borrow.Author.Tests.{lt-ltb}
-use Rattle.text_lexical.specs.Numbers.{minus}
+use Rattle.text_lexical.specs.Numbers.{minus, is_signed}
 use Rattle.text_lexical.specs.Names.{Name}
 use Rattle.instruction.specs.Table.{Form, Branch}
 use Rattle.instruction.specs.Operands.{Amount, exactly, to, Draft}
-use Rattle.instruction.specs.Words.{is_signed}
 use Rattle.image.specs.Program.{entry}
 use Rattle.image.specs.Assembling.{State, Effect, nothing, sets, codes, faulty, Read, reads, address_of, address_after, words_of, is_labelled, address_in, distance, in_reach, amount_fault, draft_fault, target_fault, Fault, first_fault, fault_in, accepted, reading}
 use Rattle.image.specs.Meaning.{resolved, settled, instructions_of, is_target, names_target, any_target}

@@ -2,12 +2,11 @@
 use Rattle.std.specs.Prelude.{ℕ, suc, ◌+◌, ◌-◌, ◌*◌, Bool, true, false, List, [], ◌∷◌, ◌++◌, length, leb, ltb, eqb, ℤ, pos}
 use Rattle.std.proofs.Math.Option.{Option, none, some}
 use Rattle.text_lexical.specs.Bytes.{Result, value, refused, ascii, every, same, before, find, is_some}
-use Rattle.text_lexical.specs.Numbers.{minus}
+use Rattle.text_lexical.specs.Numbers.{minus, is_signed}
 use Rattle.text_lexical.specs.Names.{Name}
 use Rattle.text.specs.Lines.{Line, lines, indent, read_line}
 use Rattle.instruction.specs.Table.{Form, R, I, Shift, Load, Store, Branch, Jump, System}
 use Rattle.instruction.specs.Operands.{Amount, exactly, to, Draft, read_instruction, behind}
-use Rattle.instruction.specs.Words.{is_signed}
 use Rattle.instruction.specs.Kinds.{Kind, empty, labelled, config, ignored, plain, kind_of}
 use Rattle.image.specs.Settings.{Settings, begin, configured}
 use Rattle.image.specs.Program.{entry, image_length}
@@ -71,7 +70,7 @@ first_context = record { setup = begin }
 -- What a line does, its label aside.
 pub data Effect : Type 0 where
   nothing : Effect
-  -- "`.config` ... sets a field to the value modulo 256 and checks it"
+  -- "`.config` ... sets a field" (document 01); "A setting must be 0..255" (document 02, c)
   sets : Settings → Effect
   codes : Draft → Effect
   -- why it is refused

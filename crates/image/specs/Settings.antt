@@ -1,8 +1,8 @@
--- The three settings, their checks, and the `.config` line. Quotations are document 01's.
-use Rattle.std.specs.Prelude.{ℕ, ◌%◌, true, false, List, [], ◌∷◌, drop, eqb}
+-- The three settings, their checks, and the `.config` line. Quotations are document 01's, and document 02's where it is named.
+use Rattle.std.specs.Prelude.{ℕ, ◌%◌, true, false, List, [], ◌∷◌, drop, eqb, nat_abs}
 use Rattle.std.proofs.Math.Option.{Option, none, some}
 use Rattle.text_lexical.specs.Bytes.{Result, value, refused, bytes, between, same}
-use Rattle.text_lexical.specs.Numbers.{residue}
+use Rattle.text_lexical.specs.Numbers.{NumberRange}
 use Rattle.text.specs.Tokens.{Token}
 use Rattle.text.specs.Values.{read_number}
 use Rattle.text.specs.Lines.{Line}
@@ -62,12 +62,17 @@ unfoldable pub checked : Result Settings → Result Settings
 checked (refused n) = refused n
 checked (value s) = elim (settings_fault s) [ some n ↦ refused n | none ↦ value s ]
 
--- "7 key not an Identifier; 8 number expected", which `read_number` says; "sets a field to the value modulo 256"
+-- "A setting must be 0..255" (document 02, c).
+unfoldable pub setting_range : NumberRange
+setting_range = record { width = 8; signed = false }
+
+-- "7 key not an Identifier; 8 number expected", and 35, which `read_number` says: "seen before its key is looked up" (document 02, c). None
+-- is below zero, so that the field is set to the number itself.
 unfoldable pub configured_by : Settings → Token → Token → Result Settings
 configured_by s key v =
     elim (read_identifier key) [
       | none ↦ refused 7
-      | some k ↦ elim (read_number v) [ refused n ↦ refused n | value z ↦ checked (set_field s k (residue 8 z)) ]
+      | some k ↦ elim (read_number setting_range v) [ refused n ↦ refused n | value z ↦ checked (set_field s k (nat_abs z)) ]
     ]
 
 unfoldable pub configured_with : Settings → List Token → Result Settings

@@ -9,6 +9,13 @@ ghost use Rattle.text.specs.Promised.{Kept};
 use refusal::refusal::Refusal;
 use text::lexer::Kind;
 use text::parser::Line;
+use text_lexical::number::NumberRange;
+
+// The numbers that a setting may be, before the checks of its own: they are those of a byte.
+const SETTING: NumberRange = NumberRange {
+    width: 8,
+    signed: false,
+};
 
 #[derive(Clone, Copy)]
 pub struct Config {
@@ -98,6 +105,6 @@ pub fn parse_config(source: &[u8], line: &Line, config: Config) -> Result<Config
         return Err(Refusal::KeyExpected);
     };
     let value = line.tokens[2];
-    let whole = text::parser::extract_number(value.kind)?;
-    set_field(config, key.spelling(source), whole.residue(0xFF) as u8)
+    let number = text::parser::extract_number(value.kind, SETTING)?;
+    set_field(config, key.spelling(source), number.magnitude() as u8)
 }

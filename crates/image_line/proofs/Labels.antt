@@ -5,30 +5,30 @@ use native.Mathlib.Omega.{arith}
 use mathlib.Core.Bool.{Bool, true, false}
 use mathlib.Core.Logic.{◌⊎◌, inl, inr}
 use mathlib.Core.Option.{none, some}
-use mathlib.Core.List.{List, [], ◌∷◌, map}
+use mathlib.Core.List.{List, [], ◌∷◌}
 use lib.ListN.{length, take, drop, get_or, length-take, length-drop, length-map, get_or-map}
 use lib.Seq.{get_or-take, get_or-drop}
 use lib.Dec.{eqb}
-use borrow.Author.Tests.{eqb-true}
 use Rattle.std.specs.Prelude.{Ok}
-use Rattle.text_lexical.specs.Bytes.{Result, value, refused, lower}
+use Rattle.text_lexical.specs.Bytes.{value}
+use Rattle.text_lexical.specs.Numbers.{NumberRange}
 use Rattle.text.specs.Tokens.{Token, identifier, comma}
 use Rattle.text.specs.Values.{read_number}
 use Rattle.text.specs.Lines.{kept}
-use Rattle.text.specs.Lines.{Line as Record}
 use Rattle.text.specs.Promised.{meant, filler, firsts}
 use Rattle.text.specs.declared.parser.Line.{Line}
-use Rattle.instruction.specs.Table.{Place, reg, num, mark, Form, Branch, Jump, places, Row, row_named}
-use Rattle.instruction.specs.Operands.{exactly, to, takes_label, read_identifier, read_register, mark_byte, read_exactly, read_amount, DraftOperands, no_operands, with_register, with_amount, separator_byte, separator_refusal, read_place, read_operands, made, read_row, read_mnemonic, read_instruction, behind}
+use Rattle.instruction.specs.Table.{Place, reg, num, mark, places}
+use Rattle.instruction.specs.Operands.{exactly, to, takes_label, read_identifier, read_register, mark_byte, read_exactly, read_amount, DraftOperands, no_operands, with_register, with_amount, separator_byte, separator_refusal, read_place, read_operands, read_instruction, behind}
 use Rattle.instruction.specs.Operands.{Amount as MeantAmount, Draft as MeantDraft}
 use Rattle.instruction.specs.Promised.{row_of, spelled_in, amount_meant, amount_for, amount_back, draft_meant, label_start}
 use Rattle.instruction.specs.declared.instruction.Target.{Target}
 use Rattle.instruction.specs.declared.instruction.Amount.{Amount}
 use Rattle.instruction.specs.declared.instruction.Amount.TheVariants.{Number, Label}
 use Rattle.instruction.specs.declared.instruction.Draft.{Draft}
-use Rattle.instruction.proofs.Results.{not_refused, test-value, option-value, result_value, through-value}
+use Rattle.instruction.proofs.Forms.{six-places, NumberLast, form-last}
+use Rattle.instruction.proofs.Reading.{instruction-read}
+use Rattle.instruction.proofs.Results.{not_refused, test-value, result_value, through-value}
 use Rattle.instruction_operands.specs.Promised.{LastToken, ParsedIs}
-use Rattle.instruction_operands.proofs.Line.{six-places}
 use Rattle.image.specs.Assembling.{coding}
 use Rattle.image.specs.Promised.{record_meant}
 use Rattle.image_line.specs.Promised.{EndsIn, EndsInIf, EffectIs}
@@ -36,32 +36,18 @@ use Rattle.image_line.specs.declared.line.Effect.TheVariants.{Codes}
 
 -- ---- the token that is read as a label
 
-not-exact {ℓ} : {X : Type ℓ} (t : Token) (u : List ℕ) → read_exactly t ≡ value (to u) → X
+not-exact {ℓ} : {X : Type ℓ} (r : NumberRange) (t : Token) (u : List ℕ) → read_exactly r t ≡ value (to u) → X
 unfolding read_exactly
-not-exact t u e = let (z, f, q) = result_value (read_number t) (λ z. value (exactly z)) (to u) e in cc
+not-exact r t u e = let (z, f, q) = result_value (read_number r t) (λ z. value (exactly z)) (to u) e in cc
 
 -- It is an Identifier, where a label may stand for the number.
-label-read : (label : Bool) (t : Token) (u : List ℕ) → read_amount label t ≡ value (to u) → (label ≡ true) × (t ≡ identifier u)
+label-read : (r : NumberRange) (label : Bool) (t : Token) (u : List ℕ) → read_amount r label t ≡ value (to u) → (label ≡ true) × (t ≡ identifier u)
 unfolding read_amount read_identifier
-label-read false t u e = not-exact t u e
-label-read true (identifier v) u e = (refl, cc)
-label-read true t u e = not-exact t u e
+label-read r false t u e = not-exact r t u e
+label-read r true (identifier v) u e = (refl, cc)
+label-read r true t u e = not-exact r t u e
 
 -- ---- it is the last operand
-
--- No place follows a number's.
-NumberEnds : List Place → Type 0
-NumberEnds [] = Unit {0}
-NumberEnds (reg bit ∷ ps) = NumberEnds ps
-NumberEnds (num bit width signed ∷ ps) = ps ≡ []
-NumberEnds (mark m ∷ ps) = NumberEnds ps
-
--- So it is where a label may stand for the number.
-number-ends : (f : Form) → takes_label f ≡ true → NumberEnds (places f)
-unfolding places NumberEnds
-number-ends Branch h = refl
-number-ends Jump h = refl
-number-ends f h = cc
 
 abbrev LastIs : List Token → List ℕ → Type 0
 LastIs ts u = (0 < length ts) × (get_or ts (length ts - 1) comma ≡ identifier u)
@@ -70,9 +56,9 @@ later : (t : Token) (ts : List Token) (u : List ℕ) → LastIs ts u → LastIs 
 later t ts u (l, e) = let n : suc (length ts) - 1 ≡ suc (length ts - 1) = omega arith in (omega arith, rw n e)
 
 -- The label of operands was read of their last token.
-last-read : (label : Bool) (ps : List Place) (ts : List Token) (o : DraftOperands) (u : List ℕ) → (label ≡ true → NumberEnds ps) → length ts ≡ length ps
+last-read : (label : Bool) (ps : List Place) (ts : List Token) (o : DraftOperands) (u : List ℕ) → (label ≡ true → NumberLast ps) → length ts ≡ length ps
     → read_operands label ps ts ≡ value o → o.amount ≡ some (to u) → LastIs ts u
-unfolding read_operands read_place no_operands with_register with_amount NumberEnds
+unfolding read_operands read_place no_operands with_register with_amount NumberLast
 last-read label [] ts o u n l e a = let q : no_operands ≡ o = cc in let z : none ≡ some (to u) = ap (λ (x : DraftOperands). x.amount) q ∙ a in cc
 last-read label (p ∷ ps) [] o u n l e a = not_refused e
 last-read label (reg bit ∷ ps) (t ∷ ts) o u n l e a =
@@ -80,11 +66,11 @@ last-read label (reg bit ∷ ps) (t ∷ ts) o u n l e a =
     let (o', e, q) = through-value (with_register k) (λ o. record { registers = k ∷ o.registers; amount = o.amount }) (λ o. refl) (λ k. refl) _ o e in
     later t ts u (last-read label ps ts o' u n (omega arith) e (ap (λ (x : DraftOperands). x.amount) q ∙ a))
 last-read label (num bit width signed ∷ ps) (t ∷ ts) o u n l e a =
-    let (k, f, e) = result_value (read_amount label t) _ o e in
+    let (k, f, e) = result_value (read_amount (record { width = width; signed = signed }) label t) _ o e in
     let (o', e, q) = through-value (with_amount k) (λ o. record { registers = o.registers; amount = some k }) (λ o. refl) (λ k. refl) _ o e in
     let z : some k ≡ some (to u) = ap (λ (x : DraftOperands). x.amount) q ∙ a in
     let m : k ≡ to u = cc in
-    let (b, i) = label-read label t u (f ∙ ap value m) in
+    let (b, i) = label-read _ label t u (f ∙ ap value m) in
     let none_after : length ps ≡ 0 = ap (λ (x : List Place). length x) (n b) in
     let first : suc (length ts) - 1 ≡ 0 = omega arith in
     (omega arith, rw first i)
@@ -92,26 +78,6 @@ last-read label (mark m ∷ ps) (t ∷ ts) o u n l e a =
     later t ts u (last-read label ps ts o u n (omega arith) (test-value (eqb (mark_byte t) (separator_byte m)) _ (separator_refusal m) o e).1 a)
 
 -- ---- of an instruction
-
-row-read : (r : Row) (count : ℕ) (ts : List Token) (d : MeantDraft) → read_row r count ts ≡ value d
-    → (count ≡ length (places r.form)) × ((o : DraftOperands) × (read_operands (takes_label r.form) (places r.form) ts ≡ value o) × (o.amount ≡ d.amount))
-unfolding read_row made
-row-read r count ts d e =
-    let (c, e) = test-value (eqb count (length (places r.form))) _ 16 d e in
-    let (o, e, q) = through-value (made r) (λ o. record { row = r; registers = o.registers; amount = o.amount }) (λ o. refl) (λ k. refl) _ d e in
-    (eqb-true count (length (places r.form)) c, (o, e, ap (λ (x : MeantDraft). x.amount) q))
-
-instruction-read : (l : Record) (d : MeantDraft) → read_instruction l ≡ value d → (r : Row) × (read_row r (l.count - 1) (drop 1 l.first) ≡ value d)
-unfolding read_instruction read_mnemonic
-instruction-read l d e = go l.first e
-  where
-    go : (ts : List Token) → ◌≡◌ {A = Result MeantDraft} (elim ts [ [] ↦ refused 14 | t ∷ us ↦ read_mnemonic t (l.count - 1) us ]) (value d)
-        → (r : Row) × (read_row r (l.count - 1) (drop 1 ts) ≡ value d)
-    go [] e = not_refused e
-    go (t ∷ ts) e =
-        let (s, f, e) = option-value (read_identifier t) _ 14 d e in
-        let (r, g, e) = option-value (row_named (map lower s)) _ 15 d e in
-        (r, e)
 
 -- An amount that a form takes is there.
 pub amount-taken : (ps : List Place) (a : MeantAmount) → (amount_for ps a ≡ some a) ⊎ (amount_for ps a ≡ none)
@@ -136,14 +102,15 @@ module _ (s : List ℕ) (l : Line) (places-kept : length l.tokens ≡ kept) (at 
   ends-in : (d : MeantDraft) (p : Target) → read_instruction (behind at (record_meant s l)) ≡ value d → d.amount ≡ some (to (spelled_in s p)) → LastToken l (Label p) → EndsIn s l p
   unfolding behind
   ends-in d p e a last =
-      let (r, q) = instruction-read (behind at (record_meant s l)) d e in
+      let r = instruction-read (behind at (record_meant s l)) d e in
       let ts = drop 1 (drop at (firsts s l.tokens l.count)) in
-      let (n, (o, f, g)) = row-read r (l.count - at - 1) ts d q in
-      let six = six-places r.form in
+      let f = rw (← ap (drop 1) r.are_first) at r.are_read in
+      let n = r.as_many in
+      let six = six-places r.row.form in
       let all_kept : l.count ≤ kept = omega arith in
       let many = firsts-all all_kept in
-      let long : length ts ≡ length (places r.form) = omega (arith, length-drop 1 (drop at (firsts s l.tokens l.count)), length-drop at (firsts s l.tokens l.count)) in
-      let (some-tokens, is) = last-read (takes_label r.form) (places r.form) ts o (spelled_in s p) (number-ends r.form) long f (g ∙ a) in
+      let long : length ts ≡ length (places r.row.form) = omega (arith, length-drop 1 (drop at (firsts s l.tokens l.count)), length-drop at (firsts s l.tokens l.count)) in
+      let (some-tokens, is) = last-read (takes_label r.row.form) (places r.row.form) ts r.operands (spelled_in s p) (form-last r.row.form) long f (ap (λ (x : MeantDraft). x.amount) r.is_made ∙ a) in
       let place : at + (1 + (length ts - 1)) ≡ l.count - 1 = omega arith in
       let here : get_or ts (length ts - 1) comma ≡ get_or (firsts s l.tokens l.count) (l.count - 1) comma
       = get_or-drop 1 (drop at (firsts s l.tokens l.count)) (length ts - 1) comma ∙ get_or-drop at (firsts s l.tokens l.count) (1 + (length ts - 1)) comma

@@ -35,9 +35,9 @@ use Rattle.instruction.specs.Operands.{takes_label, DraftOperands, read_identifi
 use Rattle.instruction.specs.Operands.{Draft as MeantDraft}
 use Rattle.instruction.specs.Promised.{row_of, spelled_in, taken_for, draft_meant, DraftSettled}
 use Rattle.instruction.specs.declared.instruction.Draft.{Draft}
+use Rattle.instruction.proofs.Forms.{six-places}
 use Rattle.instruction.proofs.Lookup.{row-by-key}
 use Rattle.instruction_operands.specs.Sources.{form_of}
-use Rattle.instruction_operands.proofs.Line.{six-places}
 use Rattle.instruction.specs.Kinds.{plain, identifier_kind, kind_of}
 use Rattle.image.specs.Assembling.{Context, nothing, codes, coding, after_label, read_kind, read_on}
 use Rattle.image_line.specs.Promised.{Reads, LabelIf, TailIs, is_label, Labels, OptionalLabel, WordHere, FirstWordIs, OfDraft, read_meant, label_length, end_of, LineIs, ReadsAs}

@@ -11,7 +11,9 @@ use lib.IntN.{ℤ}
 use Rattle.std.specs.Prelude.{Some}
 use Rattle.text_lexical.specs.Bytes.{value, digit, mark, name_start, name_part, blank, inside, every, before, run, is_some}
 use Rattle.text_lexical.specs.Names.{Name}
-use Rattle.text_lexical.specs.Promised.{index_of, name_number, whole_meant, whole_for}
+use Rattle.text_lexical.specs.Numbers.{NumberRange as MeantRange}
+use Rattle.text_lexical.specs.Promised.{index_of, name_number, whole_meant, whole_for, range_meant}
+use Rattle.text_lexical.specs.declared.number.NumberRange.{NumberRange}
 use Rattle.text_lexical.specs.Words.{RegisterWordIs}
 use Rattle.text_lexical.specs.declared.name.RegisterName.TheVariants.{Is as Named}
 use Rattle.text_lexical.specs.declared.name.RegisterWord.{RegisterWord}
@@ -107,27 +109,28 @@ register-reads names ok s from at r q (room, g, m, n) =
 
 -- ---- numbers and labels
 
-exactly-read : (t : Token) (z : ℤ) → read_number t ≡ value z → read_exactly t ≡ value (exactly z)
+exactly-read : (r : MeantRange) (t : Token) (z : ℤ) → read_number r t ≡ value z → read_exactly r t ≡ value (exactly z)
 unfolding read_exactly
-exactly-read t z e = rw (read_exactly, e)
+exactly-read r t z e = rw (read_exactly, e)
 
 -- A number is read as an amount, with a label in its place or without.
-amount-read : (label : Bool) (t : Token) (z : ℤ) → read_number t ≡ value z → read_amount label t ≡ value (exactly z)
+amount-read : (r : MeantRange) (label : Bool) (t : Token) (z : ℤ) → read_number r t ≡ value z → read_amount r label t ≡ value (exactly z)
 unfolding read_amount read_identifier read_number
-amount-read false t z e = exactly-read t z e
-amount-read true (number n) z e = exactly-read (number n) z e
-amount-read true (hex n) z e = exactly-read (hex n) z e
-amount-read true (binary n) z e = exactly-read (binary n) z e
-amount-read true t z e = not_refused e
+amount-read r false t z e = exactly-read r t z e
+amount-read r true (number n) z e = exactly-read r (number n) z e
+amount-read r true (hex n) z e = exactly-read r (hex n) z e
+amount-read r true (binary n) z e = exactly-read r (binary n) z e
+amount-read r true t z e = not_refused e
 
-pub number-reads : (names : List Name) (ok : Naming names) (s : List ℕ) (from at : ℕ) → at ≡ from + run blank (drop from s) → (n : NumberAt) → Some n ≡ number_at names s at
-    → (spells : Target → List ℕ) (label : Bool) → (k : Token) × AmountIn spells label (Number n.number) k × Reads names s from k n.end
-number-reads names ok s from at q n e spells label =
-    let (t, f, w) = number-found names s at n e in
-    let (z, (v, k)) = extracted-is _ (w ∙ extracted-for t.kind (spelling s t)) in
+pub number-reads : (names : List Name) (ok : Naming names) (s : List ℕ) (from at : ℕ) → at ≡ from + run blank (drop from s)
+    → (range : NumberRange) (n : NumberAt) → Some n ≡ number_at names s at range
+    → (spells : Target → List ℕ) (label : Bool) → (k : Token) × AmountIn spells range label (Number n.number) k × Reads names s from k n.end
+number-reads names ok s from at q range n e spells label =
+    let (t, f, w) = number-found names s at range n e in
+    let (z, (v, k)) = extracted-is _ (w ∙ extracted-for range t.kind (spelling s t)) in
     let m : whole_meant n.number ≡ z = ap whole_meant k ∙ whole-meant z in (
       _,
-      record { means = rw m (amount-read label _ z v); settled = k ∙ ap whole_for (sym m) },
+      record { means = rw m (amount-read (range_meant range) label _ z v); settled = k ∙ ap whole_for (sym m) },
       stepped-reads names ok s from t n.end (token_step names s from at t n.end q f),
     )
 
@@ -150,9 +153,9 @@ module _ (names : List Name) (ok : Naming names) (s : List ℕ) (from at : ℕ) 
   pub label-bounds : (0 < n) × (at + n ≤ length s)
   label-bounds = let r = label-reads-from at (omega (arith, past-blanks s from at q)) in (omega (arith, r.on), r.in_text)
 
-  pub label-amount : (label : Bool) → label ≡ true → AmountIn (spelled_in s) label (Label target) (identifier (spelled_in s target))
+  pub label-amount : (range : NumberRange) (label : Bool) → label ≡ true → AmountIn (spelled_in s) range label (Label target) (identifier (spelled_in s target))
   unfolding read_amount read_identifier
-  label-amount label h = let (l, m) = label-bounds in record { means = rw h refl; settled = omega (arith, length-take n (drop at s), length-drop at s) }
+  label-amount range label h = let (l, m) = label-bounds in record { means = rw h refl; settled = omega (arith, length-take n (drop at s), length-drop at s) }
 
   pub label-reads : Reads names s from (identifier (spelled_in s target)) (at + n) × Reads names s at (identifier (spelled_in s target)) (at + n)
   label-reads = (label-reads-from from q, label-reads-from at (omega (arith, past-blanks s from at q)))

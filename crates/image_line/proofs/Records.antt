@@ -13,7 +13,7 @@ use Rattle.std.specs.Prelude.{Option as Maybe, Result as Answer}
 use Rattle.refusal.specs.declared.refusal.Refusal.{Refusal}
 use Rattle.text_lexical.specs.Bytes.{Result, bytes, same}
 use Rattle.text_lexical.specs.Names.{Name}
-use Rattle.text.specs.Tokens.{identifier, directive, tokens}
+use Rattle.text.specs.Tokens.{tokens}
 use Rattle.text.specs.Tokens.{Token as Meant}
 use Rattle.text.specs.Lines.{kept, read_line}
 use Rattle.text.specs.Lines.{Line as Record}
@@ -33,6 +33,7 @@ use Rattle.instruction.specs.declared.instruction.Amount.{Amount}
 use Rattle.instruction.specs.declared.instruction.Amount.TheVariants.{Number as Exactly, Label}
 use Rattle.instruction.specs.declared.instruction.Draft.{Draft}
 use Rattle.instruction_operands.proofs.Line.{get_d_any, behind-none}
+use Rattle.instruction.proofs.Labelled.{labelled-first}
 use Rattle.image.specs.Settings.{configured}
 use Rattle.instruction.specs.Kinds.{Kind, empty, labelled, config, ignored, plain, identifier_kind, kind_of}
 use Rattle.image.specs.Assembling.{Context, nothing, setting, coding, after_label, read_kind, read_on}
@@ -163,16 +164,7 @@ module _ (s : List ℕ) (l : Line) where
 
 -- A line that begins with a label has two tokens at least.
 label-tokens : (u : List ℕ) (ts : List Meant) → labelled u ≡ kind_of ts → 2 ≤ length ts
-unfolding kind_of identifier_kind
-label-tokens u [] e = cc
-label-tokens u (identifier v ∷ []) e = cc
-label-tokens u (identifier v ∷ t ∷ ts) e = omega arith
-label-tokens u (directive d ∷ ts) e = go (same d (bytes "config")) e
-  where
-    go : (b : Bool) → labelled u ≡ elim b [ true ↦ config | false ↦ ignored ] → 2 ≤ suc (length ts)
-    go true e = cc
-    go false e = cc
-label-tokens u (t ∷ ts) e = cc
+label-tokens u ts e = let b = labelled-first u ts (sym e) in rw b.are (omega arith)
 
 pub two_tokens : (s : List ℕ) {u : List ℕ} (l : Line) → labelled u ≡ kind_of (firsts s l.tokens l.count) → 2 ≤ l.count
 two_tokens s {u} l e = omega (arith, label-tokens u (firsts s l.tokens l.count) e, firsts-length s l.tokens l.count)

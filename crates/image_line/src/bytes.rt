@@ -7,6 +7,7 @@ use instruction::form::Mark;
 use instruction::instruction::{Amount, Target};
 use instruction_operands::source::OperandSource;
 use text_lexical::bytes::Blank;
+use text_lexical::number::NumberRange;
 use text_lexical::register::Register;
 
 // The bytes of a line from a place on.
@@ -53,9 +54,9 @@ impl OperandSource for Bytes<'_> {
         Ok(word.register)
     }
 
-    fn amount(&mut self, label: bool) -> Result<Amount, Other> {
+    fn amount(&mut self, range: NumberRange, label: bool) -> Result<Amount, Other> {
         let start = self.past_blanks();
-        if let Some(found) = text::parser::number_at(self.text, start) {
+        if let Some(found) = text::parser::number_at(self.text, start, range) {
             self.at = found.end;
             return Ok(Amount::Number(found.number));
         }

@@ -11,6 +11,7 @@ use Rattle.std.specs.Prelude.{Result, Ok, Err}
 use Rattle.refusal.specs.Refusals.{refusals, refusal_at}
 use Rattle.refusal.specs.declared.refusal.Refusal.{Refusal}
 use Rattle.refusal.specs.declared.refusal.Refusal.TheVariants.{NoSuchLabel, LabelTooFar}
+use Rattle.text_lexical.specs.Numbers.{lies_in}
 use Rattle.text_lexical.specs.Promised.{index_of, whole_meant, whole_for}
 use Rattle.text_lexical.specs.declared.number.Whole.{Whole}
 use Rattle.text_lexical.specs.declared.number.Whole.TheVariants.{NotNegative, Negative}
@@ -19,7 +20,6 @@ use Rattle.text_lexical.proofs.Numbers.{whole-meant, whole_minus}
 use Rattle.instruction.specs.Table.{Place, reg, num, mark, places}
 use Rattle.instruction.specs.Operands.{exactly, to}
 use Rattle.instruction.specs.Operands.{Amount as MeantAmount, Draft as MeantDraft}
-use Rattle.instruction.specs.Words.{is_signed}
 use Rattle.instruction.specs.Promised.{form_meant, row_of, operands_with, registers_for, number_for, registers_of, whole_or, amount_meant, amount_for, draft_meant, amount_back, label_start, DraftSettled, parts_meant}
 use Rattle.instruction.specs.declared.form.Form.{Form as CodeForm}
 use Rattle.instruction.specs.declared.form.Form.TheVariants.{R, I, Shift, Load, Store, Branch, Jump, System}
@@ -57,8 +57,8 @@ reach-any Branch z h = absurd (h refl)
 reach-any Jump z h = refl
 reach-any System z h = refl
 
-pub reach-branch : (f : CodeForm) (z : ℤ) → f ≡ Branch → is_signed 17 z ≡ in_reach (form_meant f) z
-unfolding in_reach
+pub reach-branch : (f : CodeForm) (z : ℤ) → f ≡ Branch → lies_in (record { width = 17; signed = true }) z ≡ in_reach (form_meant f) z
+unfolding lies_in in_reach
 reach-branch f z e = rw e refl
 
 -- ---- the amount of a draft

@@ -41,7 +41,7 @@ fn distance(words: usize, address: u64) -> Whole
 fn in_reach(form: Form, distance: Whole) -> bool
     ensures { result ≡ in_reach (form_meant form) (whole_meant distance) }
 {
-    form != Form::Branch || form.layout().highest.holds(distance)
+    form != Form::Branch || form.range().holds(distance)
 }
 
 // The number of a draft after so many words, where labels have been entered; or why it has none (33, 34).

@@ -11,11 +11,12 @@ use lib.IntN.{ℤ}
 use lib.Pow.{pow_mono}
 use borrow.Author.Tests.{ltb-true, lt-ltb}
 use Rattle.text_lexical.specs.Bytes.{value, is_some}
+use Rattle.text_lexical.specs.Numbers.{NumberRange}
 use Rattle.text_lexical.proofs.Numbers.{residue-lt, residue-meant}
 use Rattle.instruction.specs.Table.{Row, row_coded}
 use Rattle.instruction.specs.Operands.{Instruction}
 use Rattle.instruction.specs.Words.{modulo, reduced, word_of, registers_in, unused_from, taken, instruction_of}
-use Rattle.instruction.specs.Fits.{places_of, NumberField, number_field, has_number, width_of, number_width, Fits, reduced_in, reduced_to}
+use Rattle.instruction.specs.Fits.{places_of, number_range, has_number, width_of, number_width, Fits, reduced_in, reduced_to}
 use Rattle.instruction.proofs.Rows.{coded-row, row-facts}
 use Rattle.instruction.proofs.Results.{test-value, option-value, nothing}
 use Rattle.instruction.proofs.Placing.{read_number_lem, read-registers, read-reduced, unused-most, Placed, placed, placed-tells}
@@ -86,7 +87,7 @@ decodes-iff w = (
 -- ---- instructions of one word
 
 -- What a field keeps of a number leaves the same as the number.
-pub modulo-reduced : (o : Option NumberField) (n : Option ℤ) → is_some n ≡ is_some o → modulo (width_of o) (reduced_in o n) ≡ modulo (width_of o) n
+pub modulo-reduced : (o : Option NumberRange) (n : Option ℤ) → is_some n ≡ is_some o → modulo (width_of o) (reduced_in o n) ≡ modulo (width_of o) n
 unfolding modulo reduced_in reduced width_of is_some
 modulo-reduced none n h = sym (ap (modulo 0) (nothing n h))
 modulo-reduced (some f) none h = absurd (true≢false (sym h))
@@ -102,7 +103,7 @@ reduced-modulo k none = refl
 reduced-modulo k (some z) = refl
 
 -- A field keeps the same of numbers that leave the same.
-reduced-same : (o : Option NumberField) (n m : Option ℤ) → modulo (width_of o) n ≡ modulo (width_of o) m → reduced_in o n ≡ reduced_in o m
+reduced-same : (o : Option NumberRange) (n m : Option ℤ) → modulo (width_of o) n ≡ modulo (width_of o) m → reduced_in o n ≡ reduced_in o m
 unfolding reduced_in width_of
 reduced-same none n m e = refl
 reduced-same (some f) n m e = rw (reduced-modulo f.width n, reduced-modulo f.width m, e)
@@ -119,9 +120,9 @@ word-tells i j f g e =
     let r : i.row ≡ j.row = ap (λ (x : Instruction). x.row) q in (
       r,
       ap (λ (x : Instruction). x.registers) q,
-      sym (modulo-reduced (number_field (places_of i.row)) i.number f.number)
+      sym (modulo-reduced (number_range (places_of i.row)) i.number f.number)
           ∙ ap (λ (x : Instruction). modulo (number_width (places_of x.row)) x.number) q
-          ∙ modulo-reduced (number_field (places_of j.row)) j.number g.number
+          ∙ modulo-reduced (number_range (places_of j.row)) j.number g.number
           ∙ ap (λ (x : Row). modulo (number_width (places_of x)) j.number) (sym r),
     )
 
@@ -130,6 +131,6 @@ pub same_word : (i j : Instruction) → Fits i → Fits j → i.row ≡ j.row �
     → modulo (number_width (places_of i.row)) i.number ≡ modulo (number_width (places_of i.row)) j.number → word_of i ≡ word_of j
 unfolding reduced_to number_width
 same_word i j f g r s n =
-    let m = reduced-same (number_field (places_of i.row)) i.number j.number n ∙ ap (λ (x : Row). reduced_in (number_field (places_of x)) j.number) r in
+    let m = reduced-same (number_range (places_of i.row)) i.number j.number n ∙ ap (λ (x : Row). reduced_in (number_range (places_of x)) j.number) r in
     let q : reduced_to i ≡ reduced_to j = λ k. record { row = r k; registers = s k; number = m k } in
     sym (encode-decode (word_of i) (reduced_to i) (decode-encode i f)) ∙ ap word_of q ∙ encode-decode (word_of j) (reduced_to j) (decode-encode j g)

@@ -1,6 +1,6 @@
 -- Operands that are read one by one, from left to right, by the description of a form: what has been read of them, and what is left to
--- read. The laws hold over any list of places; a loop that reads operands keeps `Reading` at its start, and `Marking` between an operand
--- and the mark after it.
+-- read. The laws hold over any list of places whose numbers are of one range; a loop that reads operands keeps `Reading` at its start, and
+-- `Marking` between an operand and the mark after it.
 use Prim.Native.Nat.{ℕ, zero, suc, pred, ◌+◌, ◌≤◌, ◌<◌}
 use mathlib.Core.Path.{◌≡◌, refl, sym, ap, ◌∙◌, subst}
 use native.Mathlib.Omega.{arith}
@@ -16,7 +16,9 @@ use Rattle.std.specs.Prelude.{Some, None}
 use Rattle.refusal.specs.Refusals.{number_of, refusals}
 use Rattle.refusal.specs.declared.refusal.Refusal.{Refusal}
 use Rattle.text_lexical.specs.Bytes.{Result, value, refused}
-use Rattle.text_lexical.specs.Promised.{index_of, register_at}
+use Rattle.text_lexical.specs.Numbers.{NumberRange as MeantRange}
+use Rattle.text_lexical.specs.Promised.{index_of, register_at, range_meant, IsRange}
+use Rattle.text_lexical.specs.declared.number.NumberRange.{NumberRange}
 use Rattle.text_lexical.specs.declared.register.Register.{Register}
 use Rattle.text_lexical.specs.declared.register.Register.TheVariants.{R0}
 use Rattle.text_lexical.proofs.Registers.{register-index}
@@ -25,7 +27,7 @@ use Rattle.text.specs.Values.{read_number}
 use Rattle.instruction.specs.Table.{Place, reg, num, mark, a-comma, an-opening, a-closing, Form, R, I, Shift, Load, Store, Branch, Jump, System, places}
 use Rattle.instruction.specs.Operands.{Amount, exactly, to, takes_label, DraftOperands, no_operands, with_register, with_amount, read_register, read_exactly, read_amount, mark_byte, read_place, read_operands}
 use Rattle.instruction.specs.Promised.{no_number_lem, row_of, registers_for, amount_meant, names_label, amount_for, taken_for, amount_back, label_start, DraftSettled}
-use Rattle.instruction.specs.Forms.{operand_list, is_number, mark_of, OperandPlace, number_place, register_place, MarkPlace, a_mark, MarkPlaces, no_mark, one_mark, Ahead, no_more, operand}
+use Rattle.instruction.specs.Forms.{operand_list, is_number, mark_of, range_of, RegisterPlace, register_place, NumberPlace, number_place, OperandPlace, MarkPlace, a_mark, MarkPlaces, no_mark, one_mark, Ahead, no_more, operand}
 use Rattle.instruction.specs.declared.instruction.Target.{Target}
 use Rattle.instruction.specs.declared.instruction.Amount.{Amount as KeptAmount}
 use Rattle.instruction.specs.declared.instruction.Amount.TheVariants.{Number, Label}
@@ -38,19 +40,19 @@ use Rattle.instruction.proofs.Results.{not_refused}
 -- ---- the operands of each form
 
 -- Forms that have their operands in common, wherever these go to in a word.
-jumping : {x z width : ℕ} {signed : Bool} → Ahead (reg x ∷ mark a-comma ∷ num z width signed ∷ []) (operand_list Jump)
+jumping : {r : NumberRange} {x z : ℕ} → Ahead r (reg x ∷ mark a-comma ∷ num z r.width r.signed ∷ []) (operand_list Jump)
 jumping = operand register_place (one_mark (a_mark a-comma)) (operand number_place no_mark no_more refl) refl
 
-immediate : {x y z width : ℕ} {signed : Bool} → Ahead (reg x ∷ mark a-comma ∷ reg y ∷ mark a-comma ∷ num z width signed ∷ []) (operand_list I)
+immediate : {r : NumberRange} {x y z : ℕ} → Ahead r (reg x ∷ mark a-comma ∷ reg y ∷ mark a-comma ∷ num z r.width r.signed ∷ []) (operand_list I)
 immediate = operand register_place (one_mark (a_mark a-comma)) jumping refl
 
-memory : {x y z width : ℕ} {signed : Bool} → Ahead (reg x ∷ mark a-comma ∷ num z width signed ∷ mark an-opening ∷ reg y ∷ mark a-closing ∷ []) (operand_list Load)
+memory : {r : NumberRange} {x y z : ℕ} → Ahead r (reg x ∷ mark a-comma ∷ num z r.width r.signed ∷ mark an-opening ∷ reg y ∷ mark a-closing ∷ []) (operand_list Load)
 memory =
     operand register_place (one_mark (a_mark a-comma))
     (operand number_place (one_mark (a_mark an-opening)) (operand register_place (one_mark (a_mark a-closing)) no_more refl) refl) refl
 
--- The operands of a form describe its places.
-pub form-ahead : (f : Form) → Ahead (places f) (operand_list f)
+-- The operands of a form describe its places, and its range the number's.
+pub form-ahead : (f : Form) → Ahead (range_of f) (places f) (operand_list f)
 unfolding places
 form-ahead R =
     operand register_place (one_mark (a_mark a-comma))
@@ -62,6 +64,29 @@ form-ahead Store = memory
 form-ahead Branch = immediate
 form-ahead Jump = jumping
 form-ahead System = no_more
+
+-- Its range is one, with a number or without.
+pub form_range : (f : Form) → IsRange (range_of f)
+form_range R = record { some_bits = omega arith; few_bits = omega arith }
+form_range I = record { some_bits = omega arith; few_bits = omega arith }
+form_range Shift = record { some_bits = omega arith; few_bits = omega arith }
+form_range Load = record { some_bits = omega arith; few_bits = omega arith }
+form_range Store = record { some_bits = omega arith; few_bits = omega arith }
+form_range Branch = record { some_bits = omega arith; few_bits = omega arith }
+form_range Jump = record { some_bits = omega arith; few_bits = omega arith }
+form_range System = record { some_bits = omega arith; few_bits = omega arith }
+
+-- No form has more than six operand tokens.
+pub six-places : (f : Form) → length (places f) ≤ 6
+unfolding places
+six-places R = omega arith
+six-places I = omega arith
+six-places Shift = omega arith
+six-places Load = omega arith
+six-places Store = omega arith
+six-places Branch = omega arith
+six-places Jump = omega arith
+six-places System = omega arith
 
 -- ---- registers and numbers of places
 
@@ -118,14 +143,14 @@ an-amount (num bit width signed ∷ ps) a h = refl
 an-amount (mark m ∷ ps) a h = an-amount ps a h
 
 -- No place follows a number's.
-pub NumberLast : List Place → Type 0
+unfoldable pub NumberLast : List Place → Type 0
 NumberLast [] = Unit {0}
 NumberLast (reg bit ∷ ps) = NumberLast ps
 NumberLast (num bit width signed ∷ ps) = ps ≡ []
 NumberLast (mark m ∷ ps) = NumberLast ps
 
 -- So it is where a label may stand for the number.
-form-last : (f : Form) → takes_label f ≡ true → NumberLast (places f)
+pub form-last : (f : Form) → takes_label f ≡ true → NumberLast (places f)
 unfolding places NumberLast
 form-last Branch h = refl
 form-last Jump h = refl
@@ -217,28 +242,28 @@ partly-begin spells label all room last =
 
 -- ---- a token at a place
 
-register-read : (label : Bool) {p : Place} (t : Token) {k : ℕ} → OperandPlace false p → read_register t ≡ value k → (x : Result DraftOperands)
+register-read : (label : Bool) {p : Place} (t : Token) {k : ℕ} → RegisterPlace p → read_register t ≡ value k → (x : Result DraftOperands)
     → read_place label p t x ≡ with_register k x
 unfolding read_place
 register-read label t register_place e x = rw (read_place, e)
 
-amount_read : (label : Bool) {p : Place} (t : Token) {a : Amount} → OperandPlace true p → read_amount label t ≡ value a → (x : Result DraftOperands)
+amount_read : {r : NumberRange} (label : Bool) {p : Place} (t : Token) {a : Amount} → NumberPlace r p → read_amount (range_meant r) label t ≡ value a → (x : Result DraftOperands)
     → read_place label p t x ≡ with_amount a x
 unfolding read_place
 amount_read label t number_place e x = rw (read_place, e)
 
 -- the same of one that is refused
-pub register-refuses : (label : Bool) {p : Place} (t : Token) {k : ℕ} → OperandPlace false p → read_register t ≡ refused k → (x : Result DraftOperands)
+pub register-refuses : (label : Bool) {p : Place} (t : Token) {k : ℕ} → RegisterPlace p → read_register t ≡ refused k → (x : Result DraftOperands)
     → read_place label p t x ≡ refused k
 unfolding read_place
 register-refuses label t register_place e x = rw (read_place, e)
 
-pub amount-refuses : (label : Bool) {p : Place} (t : Token) {k : ℕ} → OperandPlace true p → read_amount label t ≡ refused k → (x : Result DraftOperands)
+pub amount-refuses : {r : NumberRange} (label : Bool) {p : Place} (t : Token) {k : ℕ} → NumberPlace r p → read_amount (range_meant r) label t ≡ refused k → (x : Result DraftOperands)
     → read_place label p t x ≡ refused k
 unfolding read_place
 amount-refuses label t number_place e x = rw (read_place, e)
 
-register-counts : {p : Place} (ps : List Place) → OperandPlace false p → regs_in (p ∷ ps) ≡ suc (regs_in ps)
+register-counts : {p : Place} (ps : List Place) → RegisterPlace p → regs_in (p ∷ ps) ≡ suc (regs_in ps)
 unfolding regs_in
 register-counts ps register_place = refl
 
@@ -266,11 +291,11 @@ unfolding NumberLast
 mark-last ps (a_mark m) h = h
 
 -- A label is read only where one may stand for the number.
-label-allowed : (spells : Target → List ℕ) (label : Bool) (t : Token) (a : KeptAmount) → read_amount label t ≡ value (amount_meant spells a) → names_label a ≡ true → label ≡ true
+label-allowed : (r : MeantRange) (spells : Target → List ℕ) (label : Bool) (t : Token) (a : KeptAmount) → read_amount r label t ≡ value (amount_meant spells a) → names_label a ≡ true → label ≡ true
 unfolding read_amount read_exactly
-label-allowed spells true t a e h = refl
-label-allowed spells false t (Number w) e h = absurd (true≢false (sym h))
-label-allowed spells false t (Label p) e h = go (read_number t) e
+label-allowed r spells true t a e h = refl
+label-allowed r spells false t (Number w) e h = absurd (true≢false (sym h))
+label-allowed r spells false t (Label p) e h = go (read_number r t) e
   where
     go : (x : Result ℤ) → ◌≡◌ {A = Result Amount} (elim x [ value z ↦ value (exactly z) | refused k ↦ refused k ]) (value (to (spells p))) → false ≡ true
     go (value z) e = let q : ◌≡◌ {A = ℕ} 0 1 = cc in absurd (omega arith)
@@ -294,7 +319,7 @@ module _ {spells : Target → List ℕ} {label : Bool} {all : List Place} {pre :
   unfolding read_operands
   read-on t q got amount h ts = rw (append_assoc pre (t ∷ []) ts) (q.reads (t ∷ ts) ∙ h (read_operands label ps ts))
 
-  partly-register : {p : Place} (t : Token) (r : Register) → OperandPlace false p → Partly spells label all pre (p ∷ ps) count rs a → read_register t ≡ value (index_of r)
+  partly-register : {p : Place} (t : Token) (r : Register) → RegisterPlace p → Partly spells label all pre (p ∷ ps) count rs a → read_register t ≡ value (index_of r)
       → Partly spells label all (pre ++ (t ∷ [])) ps (count + 1) (set rs count r) a
   unfolding regs_in nums_in NumberLast
   partly-register t r (register_place {bit = b}) q e =
@@ -317,11 +342,11 @@ module _ {spells : Target → List ℕ} {label : Bool} {all : List Place} {pre :
             (λ x. rw (register-read label t (register_place {bit = b}) e x, joined-register (map index_of q.got) q.amount (index_of r) x, map-append index_of q.got (r ∷ [])));
       }
 
-  partly-amount : {p : Place} (t : Token) (a' : KeptAmount) → OperandPlace true p → Partly spells label all pre (p ∷ ps) count rs a
-      → read_amount label t ≡ value (amount_meant spells a') → a' ≡ amount_back (label_start a') (some (amount_meant spells a'))
+  partly-amount : {r : NumberRange} {p : Place} (t : Token) (a' : KeptAmount) → NumberPlace r p → Partly spells label all pre (p ∷ ps) count rs a
+      → read_amount (range_meant r) label t ≡ value (amount_meant spells a') → a' ≡ amount_back (label_start a') (some (amount_meant spells a'))
       → Partly spells label all (pre ++ (t ∷ [])) ps count rs a'
   unfolding regs_in nums_in counted NumberLast Standing
-  partly-amount t a' (number_place {bit = b} {width = d} {signed = f}) q e s =
+  partly-amount {r} t a' (number_place {bit = b}) q e s =
       let none_yet : counted q.amount ≡ 0 = omega (arith, q.nums, q.room.single) in
       let end : label ≡ true → ps ≡ [] = q.last in
       record {
@@ -334,12 +359,12 @@ module _ {spells : Target → List ℕ} {label : Bool} {all : List Place} {pre :
         three = q.three;
         stands = (refl, s);
         last = λ h. rw (end h) tt;
-        done = λ h. end (label-allowed spells label t a' e h);
+        done = λ h. end (label-allowed (range_meant r) spells label t a' e h);
         sum = rw (length-append pre (t ∷ [])) (omega (arith, q.sum));
         regs = q.regs;
         nums = omega (arith, q.nums);
         reads = read-on t q q.got (some (amount_meant spells a'))
-            (λ x. rw (amount_read label t (number_place {bit = b} {width = d} {signed = f}) e x, not-counted q.amount none_yet) (joined_amount (map index_of q.got) (amount_meant spells a') x));
+            (λ x. rw (amount_read label t (number_place {bit = b}) e x, not-counted q.amount none_yet) (joined_amount (map index_of q.got) (amount_meant spells a') x));
       }
 
   partly-mark : {p : Place} {byte : ℕ} {k : Refusal} (t : Token) → MarkPlace p byte k → Partly spells label all pre (p ∷ ps) count rs a → mark_byte t ≡ byte
@@ -370,20 +395,20 @@ module _ {spells : Target → List ℕ} {label : Bool} {all : List Place} {pre :
 -- ---- by the operands
 
 -- The places of the first of the operands, and those after it.
-record Next (ps : List Place) (o : Operand) (os : List Operand) : Type 0 where
+record Next (r : NumberRange) (ps : List Place) (o : Operand) (os : List Operand) : Type 0 where
   place : Place
   marks : List Place
   rest : List Place
   splits : ps ≡ place ∷ (marks ++ rest)
-  operand-place : OperandPlace (is_number o) place
+  operand-place : OperandPlace r (is_number o) place
   mark-places : MarkPlaces (mark_of o) marks
-  ahead : Ahead rest os
+  ahead : Ahead r rest os
 
-next_of : {ps : List Place} {o : Operand} {os : List Operand} → Ahead ps (o ∷ os) → Next ps o os
+next_of : {r : NumberRange} {ps : List Place} {o : Operand} {os : List Operand} → Ahead r ps (o ∷ os) → Next r ps o os
 next_of (operand {p = p} {ms = ms} {ps = rest} o m a e) =
     record { place = p; marks = ms; rest = rest; splits = e; operand-place = o; mark-places = m; ahead = a }
 
-none_ahead : {ps : List Place} → Ahead ps [] → ps ≡ []
+none_ahead : {r : NumberRange} {ps : List Place} → Ahead r ps [] → ps ≡ []
 none_ahead no_more = refl
 
 none-marked : {ms : List Place} → MarkPlaces None ms → ms ≡ []
@@ -395,112 +420,112 @@ one-marked (one_mark {p = p} m) = (p, (m, refl))
 -- ---- how many tokens there are
 
 -- So many tokens are counted before the operands that are left.
-pub record Counting (all : List Place) (n : ℕ) (left : List Operand) : Type 0 where
+pub record Counting (r : NumberRange) (all : List Place) (n : ℕ) (left : List Operand) : Type 0 where
   ps : List Place
-  ahead : Ahead ps left
+  ahead : Ahead r ps left
   sum : n + length ps ≡ length all
 
-pub counting-begin : {all : List Place} {left : List Operand} → Ahead all left → Counting all 0 left
+pub counting-begin : {r : NumberRange} {all : List Place} {left : List Operand} → Ahead r all left → Counting r all 0 left
 counting-begin {all} a = record { ps = all; ahead = a; sum = omega arith }
 
-module _ {all : List Place} {n : ℕ} {o : Operand} {os : List Operand} (q : Counting all n (o ∷ os)) where
-  pub counting-none : mark_of o ≡ None → Counting all (n + 1) os
+module _ {r : NumberRange} {all : List Place} {n : ℕ} {o : Operand} {os : List Operand} (q : Counting r all n (o ∷ os)) where
+  pub counting-none : mark_of o ≡ None → Counting r all (n + 1) os
   counting-none e =
       let x = next_of q.ahead in
       let m = none-marked (subst (λ m. MarkPlaces m x.marks) e x.mark-places) in
       record { ps = x.rest; ahead = x.ahead; sum = omega (arith, q.sum, ap length (rw m at x.splits)) }
 
-  pub counting-mark : {m : Mark} → mark_of o ≡ Some m → Counting all (n + 1 + 1) os
+  pub counting-mark : {m : Mark} → mark_of o ≡ Some m → Counting r all (n + 1 + 1) os
   counting-mark e =
       let x = next_of q.ahead in
       let (p, (m, l)) = one-marked (subst (λ m. MarkPlaces m x.marks) e x.mark-places) in
       record { ps = x.rest; ahead = x.ahead; sum = omega (arith, q.sum, ap length (rw l at x.splits)) }
 
-pub counting-most : {all : List Place} {n : ℕ} {left : List Operand} → Counting all n left → n ≤ length all
+pub counting-most : {r : NumberRange} {all : List Place} {n : ℕ} {left : List Operand} → Counting r all n left → n ≤ length all
 counting-most q = omega (arith, q.sum)
 
-pub counting-end : {all : List Place} {n : ℕ} → Counting all n [] → n ≡ length all
+pub counting-end : {r : NumberRange} {all : List Place} {n : ℕ} → Counting r all n [] → n ≡ length all
 counting-end q = omega (arith, q.sum, ap length (none_ahead q.ahead))
 
 -- ---- what has been read, by the operands
 
 -- Before the operands that are left,
-pub record Reading (spells : Target → List ℕ) (label : Bool) (all : List Place) (pre : List Token) (count : ℕ) (rs : List Register) (a : KeptAmount) (left : List Operand) : Type 0 where
+pub record Reading (r : NumberRange) (spells : Target → List ℕ) (label : Bool) (all : List Place) (pre : List Token) (count : ℕ) (rs : List Register) (a : KeptAmount) (left : List Operand) : Type 0 where
   ps : List Place
-  ahead : Ahead ps left
+  ahead : Ahead r ps left
   partly : Partly spells label all pre ps count rs a
 
 -- and between an operand and the mark that may follow it.
-pub record Marking (spells : Target → List ℕ) (label : Bool) (all : List Place) (pre : List Token) (count : ℕ) (rs : List Register) (a : KeptAmount) (o : Operand) (os : List Operand) : Type 0 where
+pub record Marking (r : NumberRange) (spells : Target → List ℕ) (label : Bool) (all : List Place) (pre : List Token) (count : ℕ) (rs : List Register) (a : KeptAmount) (o : Operand) (os : List Operand) : Type 0 where
   marks : List Place
   rest : List Place
   mark-places : MarkPlaces (mark_of o) marks
-  ahead : Ahead rest os
+  ahead : Ahead r rest os
   partly : Partly spells label all pre (marks ++ rest) count rs a
 
 -- At first all operands of a form are left; a label may stand for the number as the form says.
 pub reading-begin : (spells : Target → List ℕ) (f : Form) {left : List Operand} → left ≡ operand_list f
-    → Reading spells (takes_label f) (places f) [] 0 (replicate 3 R0) (Number no_number_lem) left
+    → Reading (range_of f) spells (takes_label f) (places f) [] 0 (replicate 3 R0) (Number no_number_lem) left
 reading-begin spells f e =
     record { ps = places f; ahead = rw e (form-ahead f); partly = partly-begin spells (takes_label f) (places f) (form-room f) (form-last f) }
 
-module _ {spells : Target → List ℕ} {label : Bool} {all : List Place} {pre : List Token} {count : ℕ} {rs : List Register} {a : KeptAmount} {o : Operand} {os : List Operand} where
+module _ {r : NumberRange} {spells : Target → List ℕ} {label : Bool} {all : List Place} {pre : List Token} {count : ℕ} {rs : List Register} {a : KeptAmount} {o : Operand} {os : List Operand} where
   -- The place of the next operand, by whether it is a number's.
-  ahead-at : (q : Reading spells label all pre count rs a (o ∷ os)) {b : Bool} → is_number o ≡ b
-      → let n = next_of q.ahead in OperandPlace b n.place × Partly spells label all pre (n.place ∷ (n.marks ++ n.rest)) count rs a
+  ahead-at : (q : Reading r spells label all pre count rs a (o ∷ os)) {b : Bool} → is_number o ≡ b
+      → let n = next_of q.ahead in OperandPlace r b n.place × Partly spells label all pre (n.place ∷ (n.marks ++ n.rest)) count rs a
   ahead-at q e =
       let n = next_of q.ahead in
-      (subst (λ b. OperandPlace b n.place) e n.operand-place, subst (λ ps. Partly spells label all pre ps count rs a) n.splits q.partly)
+      (subst (λ b. OperandPlace r b n.place) e n.operand-place, subst (λ ps. Partly spells label all pre ps count rs a) n.splits q.partly)
 
-  pub reading-register : Reading spells label all pre count rs a (o ∷ os) → is_number o ≡ false → (t : Token) (r : Register) → read_register t ≡ value (index_of r)
-      → Marking spells label all (pre ++ (t ∷ [])) (count + 1) (set rs count r) a o os
-  reading-register q letter t r e =
+  pub reading-register : Reading r spells label all pre count rs a (o ∷ os) → is_number o ≡ false → (t : Token) (x : Register) → read_register t ≡ value (index_of x)
+      → Marking r spells label all (pre ++ (t ∷ [])) (count + 1) (set rs count x) a o os
+  reading-register q letter t x e =
       let n = next_of q.ahead in
       let (o, p) = ahead-at q letter in
-      record { marks = n.marks; rest = n.rest; mark-places = n.mark-places; ahead = n.ahead; partly = partly-register t r o p e }
+      record { marks = n.marks; rest = n.rest; mark-places = n.mark-places; ahead = n.ahead; partly = partly-register t x o p e }
 
-  pub reading-amount : Reading spells label all pre count rs a (o ∷ os) → is_number o ≡ true → (t : Token) (a' : KeptAmount)
-      → read_amount label t ≡ value (amount_meant spells a') → a' ≡ amount_back (label_start a') (some (amount_meant spells a'))
-      → Marking spells label all (pre ++ (t ∷ [])) count rs a' o os
+  pub reading-amount : Reading r spells label all pre count rs a (o ∷ os) → is_number o ≡ true → (t : Token) (a' : KeptAmount)
+      → read_amount (range_meant r) label t ≡ value (amount_meant spells a') → a' ≡ amount_back (label_start a') (some (amount_meant spells a'))
+      → Marking r spells label all (pre ++ (t ∷ [])) count rs a' o os
   reading-amount q digit t a' e s =
       let n = next_of q.ahead in
       let (o, p) = ahead-at q digit in
       record { marks = n.marks; rest = n.rest; mark-places = n.mark-places; ahead = n.ahead; partly = partly-amount t a' o p e s }
 
-  pub marking-none : Marking spells label all pre count rs a o os → mark_of o ≡ None → Reading spells label all pre count rs a os
+  pub marking-none : Marking r spells label all pre count rs a o os → mark_of o ≡ None → Reading r spells label all pre count rs a os
   marking-none q e =
       let m = none-marked (subst (λ m. MarkPlaces m q.marks) e q.mark-places) in
       record { ps = q.rest; ahead = q.ahead; partly = subst (λ ms. Partly spells label all pre (ms ++ q.rest) count rs a) m q.partly }
 
   -- The place of the mark that follows.
-  mark-ahead : {m : Mark} (q : Marking spells label all pre count rs a o os) → mark_of o ≡ Some m
+  mark-ahead : {m : Mark} (q : Marking r spells label all pre count rs a o os) → mark_of o ≡ Some m
       → (p : Place) × (MarkPlace p m.byte m.refusal × Partly spells label all pre (p ∷ q.rest) count rs a)
   mark-ahead q e =
       let (p, (m, l)) = one-marked (subst (λ m. MarkPlaces m q.marks) e q.mark-places) in
       (p, (m, subst (λ ms. Partly spells label all pre (ms ++ q.rest) count rs a) l q.partly))
 
-  pub marking-mark : {m : Mark} → Marking spells label all pre count rs a o os → mark_of o ≡ Some m → (t : Token) → mark_byte t ≡ m.byte
-      → Reading spells label all (pre ++ (t ∷ [])) count rs a os
+  pub marking-mark : {m : Mark} → Marking r spells label all pre count rs a o os → mark_of o ≡ Some m → (t : Token) → mark_byte t ≡ m.byte
+      → Reading r spells label all (pre ++ (t ∷ [])) count rs a os
   marking-mark q e t b = let (p, (m, y)) = mark-ahead q e in record { ps = q.rest; ahead = q.ahead; partly = partly-mark t m y b }
 
   -- No label was read where an operand or a mark is left.
-  pub reading-unlabelled : Reading spells label all pre count rs a (o ∷ os) → names_label a ≡ true → ⊥
+  pub reading-unlabelled : Reading r spells label all pre count rs a (o ∷ os) → names_label a ≡ true → ⊥
   reading-unlabelled q h = let (o, p) = ahead-at q refl in not-empty (p.done h)
 
-  pub marking-unlabelled : {m : Mark} → Marking spells label all pre count rs a o os → mark_of o ≡ Some m → names_label a ≡ true → ⊥
+  pub marking-unlabelled : {m : Mark} → Marking r spells label all pre count rs a o os → mark_of o ≡ Some m → names_label a ≡ true → ⊥
   marking-unlabelled q e h = let (p, (m, y)) = mark-ahead q e in not-empty (y.done h)
 
   -- The place where the next token may be refused: what is refused there is refused at all places.
-  pub reading-refuses : {b : Bool} → Reading spells label all pre count rs a (o ∷ os) → is_number o ≡ b
-      → (p : Place) × (ps : List Place) × OperandPlace b p × ((ts : List Token) (k : ℕ) → read_operands label (p ∷ ps) ts ≡ refused k → read_operands label all (pre ++ ts) ≡ refused k)
+  pub reading-refuses : {b : Bool} → Reading r spells label all pre count rs a (o ∷ os) → is_number o ≡ b
+      → (p : Place) × (ps : List Place) × OperandPlace r b p × ((ts : List Token) (k : ℕ) → read_operands label (p ∷ ps) ts ≡ refused k → read_operands label all (pre ++ ts) ≡ refused k)
   reading-refuses q e = let (o, p) = ahead-at q e in (_, _, o, partly-refuses p)
 
-  pub marking-refuses : {m : Mark} → Marking spells label all pre count rs a o os → mark_of o ≡ Some m
+  pub marking-refuses : {m : Mark} → Marking r spells label all pre count rs a o os → mark_of o ≡ Some m
       → (p : Place) × (ps : List Place) × MarkPlace p m.byte m.refusal × ((ts : List Token) (k : ℕ) → read_operands label (p ∷ ps) ts ≡ refused k → read_operands label all (pre ++ ts) ≡ refused k)
   marking-refuses q e = let (p, (m, y)) = mark-ahead q e in (p, _, m, partly-refuses y)
 
   -- There is room for a register.
-  pub register-room : Reading spells label all pre count rs a (o ∷ os) → is_number o ≡ false → count < 3
+  pub register-room : Reading r spells label all pre count rs a (o ∷ os) → is_number o ≡ false → count < 3
   register-room q letter =
       let n = next_of q.ahead in
       let (o, p) = ahead-at q letter in
@@ -566,9 +591,9 @@ module _ {spells : Target → List ℕ} {label : Bool} {all : List Place} {pre :
         amount = rw amount (amount-back spells q.amount a q.stands);
       }
 
-pub reading-end : {spells : Target → List ℕ} {label : Bool} {all : List Place} {pre : List Token} {count : ℕ} {rs : List Register} {a : KeptAmount}
-    → Reading spells label all pre count rs a [] → Complete spells label all pre rs a
-reading-end {spells} {label} {all} {pre} {count} {rs} {a} q = partly-end (subst (λ ps. Partly spells label all pre ps count rs a) (none_ahead q.ahead) q.partly)
+pub reading-end : {r : NumberRange} {spells : Target → List ℕ} {label : Bool} {all : List Place} {pre : List Token} {count : ℕ} {rs : List Register} {a : KeptAmount}
+    → Reading r spells label all pre count rs a [] → Complete spells label all pre rs a
+reading-end {spells = spells} {label} {all} {pre} {count} {rs} {a} q = partly-end (subst (λ ps. Partly spells label all pre ps count rs a) (none_ahead q.ahead) q.partly)
 
 -- As a draft of a mnemonic with that form: no part of it is free.
 pub draft-settled : {spells : Target → List ℕ} {label : Bool} {pre : List Token} {rs : List Register} {a : KeptAmount} (m : Mnemonic)

@@ -5,8 +5,11 @@ pub mod Columns
 pub mod Lookup
 pub mod Parts
 pub mod Placing
+pub mod Ranges
 pub mod Decoding
 pub mod Meaning
 pub mod Reading
+pub mod Amounts
+pub mod Labelled
 pub mod Text
 pub mod Forms

@@ -11,7 +11,7 @@ use Rattle.instruction.specs.Operands.{Instruction as Meant}
 use Rattle.instruction.specs.Words.{word_of, instruction_of}
 use Rattle.instruction.specs.Promised.{row_for, registers_for, number_for, registers_of, parts_of, instruction_meant}
 use Rattle.instruction.specs.declared.instruction.Instruction.{Instruction}
-use Rattle.instruction.specs.Fits.{places_of, Regs, number_field, has_number, Fits, reduced_to}
+use Rattle.instruction.specs.Fits.{places_of, Regs, number_range, has_number, Fits, reduced_to}
 use Rattle.instruction.proofs.Rows.{named-row}
 use Rattle.instruction.proofs.Parts.{instruction-row, register-below}
 use Rattle.instruction.proofs.Decoding.{decode-encode, encode-decode}
@@ -30,7 +30,7 @@ registers-fit Jump a b c ha hb hc = (ha, tt)
 registers-fit System a b c ha hb hc = tt
 
 number_fits : (ps : List Place) (z : ℤ) → is_some (number_for ps z) ≡ has_number ps
-unfolding is_some number_for has_number number_field
+unfolding is_some number_for has_number number_range
 number_fits [] z = refl
 number_fits (num bit width signed ∷ ps) z = refl
 number_fits (reg bit ∷ ps) z = number_fits ps z

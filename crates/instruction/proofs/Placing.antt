@@ -18,7 +18,7 @@ use Rattle.text_lexical.proofs.Tests.{by-test, both, and_both, between-true}
 use Rattle.text_lexical.proofs.Numbers.{residue-lt, residue-meant}
 use Rattle.instruction.specs.Table.{Place, reg, num, mark, places, Row, row, table}
 use Rattle.instruction.specs.Words.{reduced, fields, field_at, registers_in, number_in, unused_from}
-use Rattle.instruction.specs.Fits.{InTable, places_of, Regs, number_field, has_number, reduced_in}
+use Rattle.instruction.specs.Fits.{InTable, places_of, Regs, number_range, has_number, reduced_in}
 use Rattle.instruction.proofs.Fields.{disjoint, disjoint-sym, field_lt, field-empty, put-read, put_other, put-bound, field-up}
 use Rattle.instruction.proofs.Rows.{carried, row-facts}
 use Rattle.instruction.proofs.Results.{nothing, each_both}
@@ -27,7 +27,7 @@ use Rattle.instruction.proofs.Results.{nothing, each_both}
 
 -- A number, where there is a place for one.
 pub read_number_lem : (w : ℕ) (ps : List Place) → is_some (number_in w ps) ≡ has_number ps
-unfolding is_some number_in number_field has_number
+unfolding is_some number_in number_range has_number
 read_number_lem w [] = refl
 read_number_lem w (num bit width signed ∷ ps) = refl
 read_number_lem w (reg bit ∷ ps) = read_number_lem w ps
@@ -42,8 +42,8 @@ read-registers w (num bit width signed ∷ ps) = read-registers w ps
 read-registers w (mark m ∷ ps) = read-registers w ps
 
 -- A number that is read is reduced already.
-pub read-reduced : (w : ℕ) (ps : List Place) → reduced_in (number_field ps) (number_in w ps) ≡ number_in w ps
-unfolding number_field reduced_in reduced number_in
+pub read-reduced : (w : ℕ) (ps : List Place) → reduced_in (number_range ps) (number_in w ps) ≡ number_in w ps
+unfolding number_range reduced_in reduced number_in
 read-reduced w [] = refl
 read-reduced w (num bit width signed ∷ ps) = rw (residue-meant signed width _ (field_lt w bit width))
 read-reduced w (reg bit ∷ ps) = read-reduced w ps
@@ -125,8 +125,8 @@ put x bit k v signed ps h s e =
 
 -- Registers and number, put where a word has nothing, are read back.
 put_all : (ps : List Place) (rs : List ℕ) (n : Option ℤ) (x : ℕ) → separate ps ≡ true → each (empty_in x) ps ≡ true → Regs ps rs
-    → (registers_in (x + fields ps rs n) ps ≡ rs) × (number_in (x + fields ps rs n) ps ≡ reduced_in (number_field ps) n) × (Within ps x (x + fields ps rs n))
-unfolding separate each at_field clear_of ends_by empty_in Regs registers_in number_in number_field reduced_in fields
+    → (registers_in (x + fields ps rs n) ps ≡ rs) × (number_in (x + fields ps rs n) ps ≡ reduced_in (number_range ps) n) × (Within ps x (x + fields ps rs n))
+unfolding separate each at_field clear_of ends_by empty_in Regs registers_in number_in number_range reduced_in fields
 put_all [] [] n x s e f = (refl, refl, ((λ b k h. rw add-zero), (λ t h l. rw add-zero l)))
 put_all [] (r ∷ rs) n x s e f = absurd f
 put_all (reg bit ∷ ps) [] n x s e f = absurd f
@@ -134,7 +134,7 @@ put_all (reg bit ∷ ps) (r ∷ rs) n x s e f =
     let (s, e, back) = put x bit 4 r true ps f.0 s e in
     let (hr, hn, hw) = put_all ps rs n (x + r * 2 ^ bit) s e f.1 in
     let (v, w) = back _ hw in
-    let P : ℕ → Type 0 = λ y. (registers_in y (reg bit ∷ ps) ≡ r ∷ rs) × (number_in y (reg bit ∷ ps) ≡ reduced_in (number_field (reg bit ∷ ps)) n)
+    let P : ℕ → Type 0 = λ y. (registers_in y (reg bit ∷ ps) ≡ r ∷ rs) × (number_in y (reg bit ∷ ps) ≡ reduced_in (number_range (reg bit ∷ ps)) n)
     × Within (reg bit ∷ ps) x y in
     subst P (add_assoc x (r * 2 ^ bit) (fields ps rs n)) ((λ i. v i ∷ hr i), hn, w)
 put_all (num bit width signed ∷ ps) rs n x s e f =
@@ -142,7 +142,7 @@ put_all (num bit width signed ∷ ps) rs n x s e f =
     let (hr, hn, hw) = put_all ps rs n (x + reduced width n * 2 ^ bit) s e f in
     let (v, w) = back _ hw in
     let P : ℕ → Type 0 = λ y. (registers_in y (num bit width signed ∷ ps) ≡ rs)
-    × (number_in y (num bit width signed ∷ ps) ≡ reduced_in (number_field (num bit width signed ∷ ps)) n)
+    × (number_in y (num bit width signed ∷ ps) ≡ reduced_in (number_range (num bit width signed ∷ ps)) n)
     × Within (num bit width signed ∷ ps) x y in
     subst P (add_assoc x (reduced width n * 2 ^ bit) (fields ps rs n)) (hr, (λ i. some (meant_by signed width (v i))), w)
 put_all (mark m ∷ ps) rs n x s e f = put_all ps rs n x s e f
@@ -150,7 +150,7 @@ put_all (mark m ∷ ps) rs n x s e f = put_all ps rs n x s e f
 -- ---- what is read tells the word
 
 -- At most one place is for a number.
-single : List Place → Bool
+unfoldable pub single : List Place → Bool
 single [] = true
 single (num bit width signed ∷ ps) = elim (not (has_number ps)) [ true ↦ single ps | false ↦ false ]
 single (reg bit ∷ ps) = single ps
@@ -219,7 +219,7 @@ well_laid ps =
     && (between 7 32 (unused_from ps) && eqb (climb (length ps) 7 ps) (unused_from ps)))))
 
 table-laid : each (λ r. well_laid (places_of r)) table ≡ true
-unfolding each well_laid places table row clear_of at_field disjoint separate single is_some number_field has_number ends_by unused_from between climb end_from
+unfolding each well_laid places table row clear_of at_field disjoint separate single is_some number_range has_number ends_by unused_from between climb end_from
 table-laid = refl
 
 record Layout (ps : List Place) : Type 0 where
@@ -248,12 +248,16 @@ module _ (r : Row) (h : InTable r) where
   pub unused-most : unused_from (places_of r) ≤ 32
   unused-most = (layout r h).most
 
+  -- At most one place is for a number.
+  pub one-number : single (places_of r) ≡ true
+  one-number = (layout r h).one
+
   -- What is read from a word: the row's opcode, registers, a number as its field keeps it, and no unused bit set.
   pub record Placed (rs : List ℕ) (n : Option ℤ) (w : ℕ) : Type 0 where
     pub opcode : w % 128 ≡ r.opcode
     pub unused : w < 2 ^ unused_from (places_of r)
     pub registers : registers_in w (places_of r) ≡ rs
-    pub number : number_in w (places_of r) ≡ reduced_in (number_field (places_of r)) n
+    pub number : number_in w (places_of r) ≡ reduced_in (number_range (places_of r)) n
 
   -- It is read from the word that the opcode, the registers and the number make.
   pub placed : (rs : List ℕ) (n : Option ℤ) → Regs (places_of r) rs → Placed rs n (r.opcode + fields (places_of r) rs n)

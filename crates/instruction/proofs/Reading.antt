@@ -1,4 +1,4 @@
--- What is read from a line fits: its registers are of the sixteen, and it has what its form asks for.
+-- What an instruction was read of; and that it fits: its registers are of the sixteen, and it has what its form asks for.
 use mathlib.Core.Path.{◌≡◌, refl, subst}
 use Prim.Native.Nat.{ℕ, zero, suc, pred, ◌-◌}
 use mathlib.Core.Bool.{Bool, true, false}
@@ -6,7 +6,7 @@ use mathlib.Core.Option.{Option, none, some}
 use mathlib.Core.List.{List, [], ◌∷◌, map}
 use lib.ListN.{length, take}
 use lib.Dec.{ltb, eqb}
-use borrow.Author.Tests.{ltb-true}
+use borrow.Author.Tests.{ltb-true, eqb-true}
 use Rattle.text_lexical.specs.Bytes.{Result, value, refused, blank, lower, same, find, is_some, each}
 use Rattle.text_lexical.specs.Names.{Name, named}
 use Rattle.text_lexical.proofs.Tests.{by-test, both, and_both}
@@ -14,9 +14,9 @@ use Rattle.text_lexical.proofs.Strings.{found}
 use Rattle.text.specs.Tokens.{Class, Register, Identifier, Number, Hex, Binary, Directive, Mark, Match, longest, Token, register, comma, colon, opening, closing, within, number_token, pattern_token, register_token, mark_token, token_of, Sized, sized, matched, front, infront, tokens_past, tokens}
 use Rattle.text.specs.Lines.{Line, content, kept, line_of, record_of, read_line}
 use Rattle.text.specs.NameSets.{is_numbered, Naming}
-use Rattle.instruction.specs.Table.{Place, reg, num, mark, row_named}
+use Rattle.instruction.specs.Table.{Place, reg, num, mark, Row, row_named}
 use Rattle.instruction.specs.Operands.{Draft, takes_label, read_register, read_identifier, mark_byte, read_amount, DraftOperands, separator_byte, separator_refusal, no_operands, with_register, with_amount, read_place, read_operands, made, read_row, read_mnemonic, read_instruction, behind}
-use Rattle.instruction.specs.Fits.{InTable, places_of, Regs, number_field, has_number}
+use Rattle.instruction.specs.Fits.{InTable, places_of, Regs, number_range, has_number}
 use Rattle.instruction.proofs.Rows.{named-row}
 use Rattle.instruction.proofs.Results.{not_refused, test-value, option-value, result_value, through-value, when_some, each_take, each-drop}
 
@@ -31,7 +31,7 @@ abbrev Fitting : List Place → DraftOperands → Type 0
 Fitting ps o = Regs ps o.registers × (is_some o.amount ≡ has_number ps)
 
 read-operands : (label : Bool) (ps : List Place) (ts : List Token) (o : DraftOperands) → each numbered_token ts ≡ true → read_operands label ps ts ≡ value o → Fitting ps o
-unfolding read_operands read_place Regs number_field has_number is_some each no_operands numbered_token with_register with_amount
+unfolding read_operands read_place Regs number_range has_number is_some each no_operands numbered_token with_register with_amount
 read-operands label [] ts o h e = let q : no_operands ≡ o = cc in subst (Fitting []) q (tt, refl)
 read-operands label (p ∷ ps) [] o h e = not_refused e
 read-operands label (reg bit ∷ ps) (t ∷ ts) o h e =
@@ -41,7 +41,7 @@ read-operands label (reg bit ∷ ps) (t ∷ ts) o h e =
     let (r, m) = read-operands label ps ts o' h e in
     subst (Fitting (reg bit ∷ ps)) q ((ltb-true n 16 (rw (numbered_token, f) at ht), r), m)
 read-operands label (num bit width signed ∷ ps) (t ∷ ts) o h e =
-    let (a, f, e) = result_value (read_amount label t) _ o e in
+    let (a, f, e) = result_value (read_amount (record { width = width; signed = signed }) label t) _ o e in
     let (o', e, q) = through-value (with_amount a) (λ o. record { registers = o.registers; amount = some a }) (λ o. refl) (λ k. refl) _ o e in
     subst (Fitting (num bit width signed ∷ ps)) q ((read-operands label ps ts o' (both (numbered_token t) _ h).1 e).0, refl)
 read-operands label (mark m ∷ ps) (t ∷ ts) o h e =
@@ -58,24 +58,53 @@ pub record DraftFits (d : Draft) : Type 0 where
   -- and an amount exactly if its form has a number
   pub amount : is_some d.amount ≡ has_number (places_of d.row)
 
-read-mnemonic : (t : Token) (count : ℕ) (ts : List Token) (d : Draft) → each numbered_token ts ≡ true → read_mnemonic t count ts ≡ value d → DraftFits d
-unfolding read_mnemonic read_row made
-read-mnemonic t count ts d h e =
-    let (s, f, e) = option-value (read_identifier t) _ 14 d e in
-    let (r, g, e) = option-value (row_named (map lower s)) _ 15 d e in
-    let (c, e) = test-value (eqb count (length (places_of r))) _ 16 d e in
-    let (o, e, q) = through-value (made r) (λ o. record { row = r; registers = o.registers; amount = o.amount }) (λ o. refl) (λ k. refl) _ d e in
-    let (l, n) = read-operands (takes_label r.form) (places_of r) ts o h e in
-    subst DraftFits q (record { in_table = (named-row (map lower s) r g).0; registers = l; amount = n })
+-- What an instruction was read of: a mnemonic, which is an Identifier, and as many operand tokens as the form of its row has places.
+pub record ReadOf (l : Line) (d : Draft) : Type 0 where
+  pub mnemonic : Token
+  pub after : List Token
+  pub are_first : l.first ≡ mnemonic ∷ after
+  pub spelling : List ℕ
+  pub spelled : read_identifier mnemonic ≡ some spelling
+  pub row : Row
+  pub is_row : row_named (map lower spelling) ≡ some row
+  pub as_many : l.count - 1 ≡ length (places_of row)
+  pub operands : DraftOperands
+  pub are_read : read_operands (takes_label row.form) (places_of row) after ≡ value operands
+  pub is_made : record { row = row; registers = operands.registers; amount = operands.amount } ≡ d
+
+pub instruction-read : (l : Line) (d : Draft) → read_instruction l ≡ value d → ReadOf l d
+unfolding read_instruction read_mnemonic read_row made
+instruction-read l d e = go l.first refl e
+  where
+    go : (ts : List Token) → l.first ≡ ts → ◌≡◌ {A = Result Draft} (elim ts [ [] ↦ refused 14 | t ∷ us ↦ read_mnemonic t (l.count - 1) us ]) (value d) → ReadOf l d
+    go [] q e = not_refused e
+    go (t ∷ us) q e =
+        let (s, f, e) = option-value (read_identifier t) _ 14 d e in
+        let (r, g, e) = option-value (row_named (map lower s)) _ 15 d e in
+        let (c, e) = test-value (eqb (l.count - 1) (length (places_of r))) _ 16 d e in
+        let (o, e, m) = through-value (made r) (λ o. record { row = r; registers = o.registers; amount = o.amount }) (λ o. refl) (λ k. refl) _ d e in
+        record {
+          mnemonic = t;
+          after = us;
+          are_first = q;
+          spelling = s;
+          spelled = f;
+          row = r;
+          is_row = g;
+          as_many = eqb-true (l.count - 1) (length (places_of r)) c;
+          operands = o;
+          are_read = e;
+          is_made = m;
+        }
 
 -- What is read from a line fits, if the line's tokens name registers of the sixteen.
 pub read_fits : (l : Line) (d : Draft) → each numbered_token l.first ≡ true → read_instruction l ≡ value d → DraftFits d
-unfolding read_instruction each
-read_fits l d h e = go l.first h e
-  where
-    go : (ts : List Token) → each numbered_token ts ≡ true → ◌≡◌ {A = Result Draft} (elim ts [ [] ↦ refused 14 | t ∷ ts ↦ read_mnemonic t (l.count - 1) ts ]) (value d) → DraftFits d
-    go [] h e = not_refused e
-    go (t ∷ ts) h e = read-mnemonic t (l.count - 1) ts d (both (numbered_token t) (each numbered_token ts) h).1 e
+unfolding each
+read_fits l d h e =
+    let r = instruction-read l d e in
+    let h : each numbered_token (r.mnemonic ∷ r.after) ≡ true = rw r.are_first at h in
+    let (f, n) = read-operands (takes_label r.row.form) (places_of r.row) r.after r.operands (both (numbered_token r.mnemonic) (each numbered_token r.after) h).1 r.are_read in
+    subst DraftFits r.is_made (record { in_table = (named-row (map lower r.spelling) r.row r.is_row).0; registers = f; amount = n })
 
 -- ---- the tokens of a text
 

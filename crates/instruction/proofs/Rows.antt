@@ -13,7 +13,7 @@ use Rattle.text_lexical.proofs.Tests.{both, between-true}
 use Rattle.text_lexical.proofs.Strings.{every-head, every-tail, same-eq, eq-same, found}
 use Rattle.text.specs.Tokens.{is_identifier}
 use Rattle.instruction.specs.Table.{Place, reg, num, mark, places, Row, row, table, row_named, row_coded}
-use Rattle.instruction.specs.Fits.{InTable, places_of, number_field, width_of, number_width}
+use Rattle.instruction.specs.Fits.{InTable, places_of, number_range, width_of, number_width}
 
 -- "fifty mnemonics"
 pub fifty : length table ≡ 50
@@ -73,7 +73,7 @@ rule r =
     && (apart (places_of r) && leb (number_width (places_of r)) 21)))
 
 table-ruled : each rule table ≡ true
-unfolding each rule table row bytes is_identifier name_start name_part letter digit lower_case between every apart marked places is_some number_field width_of number_width
+unfolding each rule table row bytes is_identifier name_start name_part letter digit lower_case between every apart marked places is_some number_range width_of number_width
 table-ruled = refl
 
 -- No two rows have the same mnemonic.

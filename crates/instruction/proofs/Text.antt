@@ -10,16 +10,16 @@ use lib.ListN.{length, length-append}
 use lib.Seq.{take_all}
 use lib.Dec.{leb, eqb}
 use lib.IntN.{ℤ, pos, negsuc}
-use lib.Pow.{pow-add, pow_mono}
-use borrow.Author.Tests.{leb-true, lt-ltb, le-ltb, eq-eqb}
+use lib.Pow.{pow-add}
+use borrow.Author.Tests.{leb-true, lt-ltb, le-ltb, eq-eqb, not-true}
 use Rattle.text_lexical.specs.Bytes.{value, bytes, between, letter, digit, name_start, name_part, edge, every, find, is_some, each}
-use Rattle.text_lexical.specs.Numbers.{meant_by, decimal_in, decimal, signed_decimal}
+use Rattle.text_lexical.specs.Numbers.{NumberRange, lies_in, meant_by, decimal_in, decimal, signed_decimal}
 use Rattle.text_lexical.specs.Names.{Name}
 use Rattle.text_lexical.proofs.Tests.{split, both, between-true}
 use Rattle.text_lexical.proofs.Strings.{every-head, every_append, every-mono, ends}
 use Rattle.text_lexical.proofs.Numbers.{decimal-digits, decimal-length}
 use Rattle.text.specs.Tokens.{is_identifier, is_register, Token, identifier, register, number, comma, opening, closing, infront, tokens}
-use Rattle.text.specs.Values.{read_number}
+use Rattle.text.specs.Values.{read_decimal, read_number}
 use Rattle.text.specs.Lines.{Line, kept, line_of, read_line}
 use Rattle.text.specs.NameSets.{Naming}
 use Rattle.text.proofs.Tokens.{Within64, tokens-nil, reads-identifier, reads-register, reads-decimal, reads-comma, reads-opening, reads-closing, reads-space}
@@ -28,10 +28,11 @@ use Rattle.instruction.specs.Table.{Place, reg, num, mark, a-comma, an-opening, 
 use Rattle.instruction.specs.Operands.{Instruction, exactly, Draft, Amount, takes_label, read_register, read_identifier, mark_byte, read_exactly, read_amount, no_operands, with_register, with_amount, read_place, read_operands, made, read_row, read_mnemonic, read_instruction}
 use Rattle.instruction.specs.Words.{field_at, registers_in, number_in, unused_from, taken, instruction_of}
 use Rattle.instruction.specs.Text.{register_text, number_text, separator_text, places_text, operands_text, instruction_text}
-use Rattle.instruction.specs.Fits.{InTable, places_of, Regs, NumberField, number_field, has_number, width_of, number_width, Fits, reduced_in, reduced_to}
+use Rattle.instruction.specs.Fits.{InTable, places_of, Regs, number_range, has_number, width_of, number_width, Fits, reduced_in, reduced_to}
 use Rattle.instruction.proofs.Rows.{lower_case, marked, apart, carried, row-facts}
 use Rattle.instruction.proofs.Results.{nothing}
-use Rattle.instruction.proofs.Placing.{reduced-lt}
+use Rattle.instruction.proofs.Placing.{reduced-lt, single, one-number}
+use Rattle.instruction.proofs.Ranges.{lies-within, Lies, lies-unasked, reduced-lies}
 
 -- ---- the tokens of operands
 
@@ -57,7 +58,7 @@ Given ps n = has_number ps ≡ true → is_some n ≡ true
 
 -- A token for each place.
 places_count : (ps : List Place) (rs : List ℕ) (n : Option ℤ) → Regs ps rs → Given ps n → length (places_tokens ps rs n) ≡ length ps
-unfolding places_tokens Regs is_some number_field has_number
+unfolding places_tokens Regs is_some number_range has_number
 places_count [] rs n f g = refl
 places_count (reg bit ∷ ps) [] n f g = absurd f
 places_count (reg bit ∷ ps) (r ∷ rs) n f g = ap suc (places_count ps rs n f.1 g)
@@ -68,11 +69,11 @@ places_count (mark an-opening ∷ ps) rs n f g = ap suc (places_count ps rs n f 
 places_count (mark a-closing ∷ ps) rs n f g = ap suc (places_count ps rs n f g)
 
 -- A number, where there is a place for one.
-kept_in : Option NumberField → Option ℤ → Option ℤ
+kept_in : Option NumberRange → Option ℤ → Option ℤ
 kept_in none n = none
 kept_in (some f) n = n
 
-kept_whole : (o : Option NumberField) (n : Option ℤ) → is_some n ≡ is_some o → kept_in o n ≡ n
+kept_whole : (o : Option NumberRange) (n : Option ℤ) → is_some n ≡ is_some o → kept_in o n ≡ n
 unfolding kept_in is_some
 kept_whole none n h = sym (nothing n h)
 kept_whole (some f) n h = refl
@@ -85,25 +86,27 @@ exact (some z) = some (exactly z)
 unfoldable pub drafted : Instruction → Draft
 drafted i = record { row = i.row; registers = i.registers; amount = exact i.number }
 
--- A number's token is read as exactly it, where a label may stand too.
-number-read : (label : Bool) (z : ℤ) → read_amount label (number z) ≡ value (exactly z)
-unfolding read_amount read_exactly read_number read_identifier
-number-read true z = refl
-number-read false z = refl
+-- The token of a number in a range is read as exactly it, where a label may stand too.
+number-read : (r : NumberRange) (label : Bool) (z : ℤ) → lies_in r z ≡ true → read_amount r label (number z) ≡ value (exactly z)
+unfolding read_amount read_exactly read_number read_decimal read_identifier
+number-read r true z l = rw (read_amount, read_exactly, read_number, read_decimal, l)
+number-read r false z l = rw (read_amount, read_exactly, read_number, read_decimal, l)
 
--- They are read as the registers and exactly the number.
-places-read : (label : Bool) (ps : List Place) (rs : List ℕ) (n : Option ℤ) → Regs ps rs → Given ps n
-    → read_operands label ps (places_tokens ps rs n) ≡ value (record { registers = rs; amount = exact (kept_in (number_field ps) n) })
-unfolding places_tokens Regs is_some number_field has_number kept_in read_operands read_place read_register mark_byte no_operands with_register with_amount exact
-places-read label [] [] n f g = refl
-places-read label [] (r ∷ rs) n f g = absurd f
-places-read label (reg bit ∷ ps) [] n f g = absurd f
-places-read label (reg bit ∷ ps) (r ∷ rs) n f g = rw (places-read label ps rs n f.1 g)
-places-read label (num bit width signed ∷ ps) rs none f g = absurd (true≢false (sym (g refl)))
-places-read label (num bit width signed ∷ ps) rs (some z) f g = rw (read_place, number-read label z, places-read label ps rs (some z) f (λ h. refl))
-places-read label (mark a-comma ∷ ps) rs n f g = places-read label ps rs n f g
-places-read label (mark an-opening ∷ ps) rs n f g = places-read label ps rs n f g
-places-read label (mark a-closing ∷ ps) rs n f g = places-read label ps rs n f g
+-- They are read as the registers and exactly the number, if it is in its range.
+places-read : (label : Bool) (ps : List Place) (rs : List ℕ) (n : Option ℤ) → Regs ps rs → Given ps n → single ps ≡ true → Lies (number_range ps) n
+    → read_operands label ps (places_tokens ps rs n) ≡ value (record { registers = rs; amount = exact (kept_in (number_range ps) n) })
+unfolding places_tokens Regs is_some number_range has_number kept_in read_operands read_place read_register mark_byte no_operands with_register with_amount exact single Lies
+places-read label [] [] n f g o l = refl
+places-read label [] (r ∷ rs) n f g o l = absurd f
+places-read label (reg bit ∷ ps) [] n f g o l = absurd f
+places-read label (reg bit ∷ ps) (r ∷ rs) n f g o l = rw (places-read label ps rs n f.1 g o l)
+places-read label (num bit width signed ∷ ps) rs none f g o l = absurd (true≢false (sym (g refl)))
+places-read label (num bit width signed ∷ ps) rs (some z) f g o l =
+    let (e, o) = both (not (has_number ps)) (single ps) o in
+    rw (read_place, number-read _ label z l, places-read label ps rs (some z) f (λ h. refl) o (lies-unasked (number_range ps) (some z) (not-true (has_number ps) e)))
+places-read label (mark a-comma ∷ ps) rs n f g o l = places-read label ps rs n f g o l
+places-read label (mark an-opening ∷ ps) rs n f g o l = places-read label ps rs n f g o l
+places-read label (mark a-closing ∷ ps) rs n f g o l = places-read label ps rs n f g o l
 
 -- A token is no colon.
 unfoldable pub no_colon : Token → Bool
@@ -157,30 +160,22 @@ meant-length true k v h =
     (λ l. rw (meant_by, lt-ltb (v + v) (2 ^ k) l) (omega (arith, decimal-longest v (2 ^ k / 2) (omega arith))))
     (λ l. rw (meant_by, le-ltb (v + v) (2 ^ k) l) (omega (arith, decimal-longest (suc (2 ^ k - suc v)) (2 ^ k / 2) (omega arith))))
 
--- A number of a field of 21 bits or fewer is read again.
-meant-within : (s : Bool) (k v : ℕ) → k ≤ 21 → v < 2 ^ k → Within64 (meant_by s k v)
-unfolding meant_by Within64
-meant-within false k v l h = let m : 2 ^ k ≤ 2 ^ 21 = pow_mono l in omega arith
-meant-within true k v l h =
-    let m : 2 ^ k ≤ 2 ^ 21 = pow_mono l in
-    split (v + v) (2 ^ k) (λ e. rw (meant_by, lt-ltb (v + v) (2 ^ k) e) (omega arith)) (λ e. rw (meant_by, le-ltb (v + v) (2 ^ k) e) (omega arith))
-
--- A number, if there is one, that is read again.
+-- A number, if there is one, whose text is one token.
 Readable : Option ℤ → Type 0
 Readable none = Unit {0}
 Readable (some z) = Within64 z
 
 -- How many bytes the number takes at most.
-room_in : Option NumberField → ℕ
+room_in : Option NumberRange → ℕ
 room_in none = 0
 room_in (some f) = field_room f.signed f.width
 
-reduced-readable : (o : Option NumberField) (n : Option ℤ) → width_of o ≤ 21 → Readable (reduced_in o n)
-unfolding width_of reduced_in Readable
+reduced-readable : (o : Option NumberRange) (n : Option ℤ) → width_of o ≤ 21 → Readable (reduced_in o n)
+unfolding width_of reduced_in Readable Lies
 reduced-readable none n l = tt
-reduced-readable (some f) n l = meant-within f.signed f.width _ l (reduced-lt f.width n)
+reduced-readable (some f) n l = lies-within f _ l (reduced-lies (some f) n)
 
-reduced-length : (o : Option NumberField) (n : Option ℤ) → length (number_text (reduced_in o n)) ≤ room_in o
+reduced-length : (o : Option NumberRange) (n : Option ℤ) → length (number_text (reduced_in o n)) ≤ room_in o
 unfolding reduced_in number_text room_in
 reduced-length none n = omega arith
 reduced-length (some f) n = meant-length f.signed f.width _ (reduced-lt f.width n)
@@ -234,7 +229,7 @@ closed-before [] s t c e = rw (e, append-nil s) c
 closed-before (p ∷ ps) s t c e = closed-append s t e
 
 places-ending : (ps : List Place) (rs : List ℕ) (n : Option ℤ) → Regs ps rs → Given ps n → closes ps ≡ true → Ending ps (places_text ps rs n)
-unfolding Ending closes places_text register_text number_text Regs is_some number_field has_number
+unfolding Ending closes places_text register_text number_text Regs is_some number_range has_number
 places-ending [] rs n f g h = refl
 places-ending (reg bit ∷ ps) [] n f g h = absurd f
 places-ending (reg bit ∷ ps) (r ∷ rs) n f g h = closed-before ps (114 ∷ decimal r) _ (closed-append (114 ∷ []) _ (decimal-closed r)) (places-ending ps rs n f.1 g h)
@@ -305,16 +300,16 @@ module _ (names : List Name) (N : Naming names) where
 text_rule : Row → Bool
 text_rule r =
     leb (length (places_of r)) 8 && (closes (places_of r)
-    && leb (length r.mnemonic + suc (places_room (room_in (number_field (places_of r))) (places_of r))) 21)
+    && leb (length r.mnemonic + suc (places_room (room_in (number_range (places_of r))) (places_of r))) 21)
 
 table-short : each text_rule table ≡ true
-unfolding each text_rule table row bytes places closes places_room room_in field_room number_field decimal decimal_in
+unfolding each text_rule table row bytes places closes places_room room_in field_room number_range decimal decimal_in
 table-short = refl
 
 record Short (r : Row) : Type 0 where
   few : length (places_of r) ≤ 8
   ended : closes (places_of r) ≡ true
-  room : length r.mnemonic + suc (places_room (room_in (number_field (places_of r))) (places_of r)) ≤ 21
+  room : length r.mnemonic + suc (places_room (room_in (number_range (places_of r))) (places_of r)) ≤ 21
 
 short : (r : Row) → InTable r → Short r
 unfolding text_rule
@@ -381,21 +376,6 @@ module _ (i : Instruction) (f : Fits i) where
   pub tokens-kept : (line_of (identifier i.row.mnemonic ∷ operand_tokens i)).first ≡ identifier i.row.mnemonic ∷ operand_tokens i
   tokens-kept = ap (λ (l : Line). l.first) (line-whole _ few-tokens)
 
-  -- They are read as the instruction, its number exactly.
-  pub tokens-read : read_instruction (line_of (identifier i.row.mnemonic ∷ operand_tokens i)) ≡ value (drafted i)
-  unfolding read_instruction read_mnemonic read_identifier read_row made operand_tokens has_number drafted
-  tokens-read =
-      let c : suc (length (operand_tokens i)) - 1 ≡ length (places_of i.row) = let c = count in omega arith in
-      rw (line-whole (identifier i.row.mnemonic ∷ operand_tokens i) few-tokens, c)
-      (rw (
-        read_mnemonic,
-        (row-facts i.row f.in_table).again,
-        read_row,
-        eq-eqb (length (places_of i.row)) _ refl,
-        places-read (takes_label i.row.form) (places_of i.row) i.registers i.number f.registers given,
-        kept_whole (number_field (places_of i.row)) i.number f.number,
-      ))
-
   -- Its bytes are visible.
   pub text-visible : every visible (instruction_text i) ≡ true
   unfolding instruction_text
@@ -411,15 +391,34 @@ module _ (i : Instruction) (f : Fits i) where
 
   module _ (m : reduced_to i ≡ i) where
     -- Its number is the one that its field means.
-    its-number : reduced_in (number_field (places_of i.row)) i.number ≡ i.number
+    its-number : reduced_in (number_range (places_of i.row)) i.number ≡ i.number
     unfolding reduced_to
     its-number = ap (λ (j : Instruction). j.number) m
+
+    -- It is in the field's range.
+    pub its-range : Lies (number_range (places_of i.row)) i.number
+    its-range = rw its-number at (reduced-lies (number_range (places_of i.row)) i.number)
+
+    -- Its tokens are read as the instruction, its number exactly.
+    pub tokens-read : read_instruction (line_of (identifier i.row.mnemonic ∷ operand_tokens i)) ≡ value (drafted i)
+    unfolding read_instruction read_mnemonic read_identifier read_row made operand_tokens has_number drafted
+    tokens-read =
+        let c : suc (length (operand_tokens i)) - 1 ≡ length (places_of i.row) = let c = count in omega arith in
+        rw (line-whole (identifier i.row.mnemonic ∷ operand_tokens i) few-tokens, c)
+        (rw (
+          read_mnemonic,
+          (row-facts i.row f.in_table).again,
+          read_row,
+          eq-eqb (length (places_of i.row)) _ refl,
+          places-read (takes_label i.row.form) (places_of i.row) i.registers i.number f.registers given (one-number i.row f.in_table) its-range,
+          kept_whole (number_range (places_of i.row)) i.number f.number,
+        ))
 
     -- It takes 21 bytes at most.
     pub text-length : length (instruction_text i) ≤ 21
     unfolding instruction_text
     text-length =
-        let o = number_field (places_of i.row) in
+        let o = number_range (places_of i.row) in
         let l : length (number_text i.number) ≤ room_in o = rw its-number at (reduced-length o i.number) in
         le_trans (operands-length i.row.mnemonic i.registers i.number (places_of i.row) _
         (places-length (places_of i.row) i.registers i.number (room_in o) f.registers l)) (short i.row f.in_table).room
@@ -430,7 +429,7 @@ module _ (i : Instruction) (f : Fits i) where
     unfolding instruction_text operand_tokens number_width
     text-tokens names N h =
         let r = row-facts i.row f.in_table in
-        let l = rw its-number at (reduced-readable (number_field (places_of i.row)) i.number r.narrow) in
+        let l = rw its-number at (reduced-readable (number_range (places_of i.row)) i.number r.narrow) in
         operands-tokens names N i.row.mnemonic (places_of i.row) i.registers i.number r.identifier h
         (places-tokens names N (places_of i.row) i.registers i.number r.stands f.registers l)
 

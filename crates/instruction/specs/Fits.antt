@@ -3,7 +3,7 @@
 use Rattle.std.specs.Prelude.{ℕ, ◌<◌, ◌≡◌, Bool, List, [], ◌∷◌, ℤ}
 use Rattle.std.proofs.Math.Option.{Option, none, some}
 use Rattle.text_lexical.specs.Bytes.{is_some}
-use Rattle.text_lexical.specs.Numbers.{meant_by}
+use Rattle.text_lexical.specs.Numbers.{NumberRange, meant_by}
 use Rattle.instruction.specs.Table.{Place, reg, num, mark, places, Row, row_named}
 use Rattle.instruction.specs.Operands.{Instruction}
 use Rattle.instruction.specs.Words.{reduced}
@@ -25,30 +25,25 @@ Regs (reg bit ∷ ps) (r ∷ rs) = (r < 16) × Regs ps rs
 Regs (num bit width signed ∷ ps) rs = Regs ps rs
 Regs (mark m ∷ ps) rs = Regs ps rs
 
--- The field of a number: its width, and whether it is read as signed.
-pub record NumberField : Type 0 where
-  pub width : ℕ
-  pub signed : Bool
-
--- The number's field, where there is a place for a number.
-unfoldable pub number_field : List Place → Option NumberField
-number_field [] = none
-number_field (num bit width signed ∷ ps) = some (record { width = width; signed = signed })
-number_field (reg bit ∷ ps) = number_field ps
-number_field (mark m ∷ ps) = number_field ps
+-- The range of the number, where there is a place for one.
+unfoldable pub number_range : List Place → Option NumberRange
+number_range [] = none
+number_range (num bit width signed ∷ ps) = some (record { width = width; signed = signed })
+number_range (reg bit ∷ ps) = number_range ps
+number_range (mark m ∷ ps) = number_range ps
 
 -- There is one.
 unfoldable pub has_number : List Place → Bool
-has_number ps = is_some (number_field ps)
+has_number ps = is_some (number_range ps)
 
--- A field's width; 0 where there is none.
-unfoldable pub width_of : Option NumberField → ℕ
+-- A range's width; 0 where there is none.
+unfoldable pub width_of : Option NumberRange → ℕ
 width_of none = 0
 width_of (some f) = f.width
 
 -- The width of the number's field.
 unfoldable pub number_width : List Place → ℕ
-number_width ps = width_of (number_field ps)
+number_width ps = width_of (number_range ps)
 
 -- An instruction fits.
 pub record Fits (i : Instruction) : Type 0 where
@@ -61,10 +56,10 @@ pub record Fits (i : Instruction) : Type 0 where
 
 -- What a field keeps of a number: the number that its bits mean. It is the same as the number modulo 2 to the field's width
 -- (`modulo-reduced`).
-unfoldable pub reduced_in : Option NumberField → Option ℤ → Option ℤ
+unfoldable pub reduced_in : Option NumberRange → Option ℤ → Option ℤ
 reduced_in none n = none
 reduced_in (some f) n = some (meant_by f.signed f.width (reduced f.width n))
 
 -- What a word keeps of an instruction: its row, its registers, and of its number what the field keeps.
 unfoldable pub reduced_to : Instruction → Instruction
-reduced_to i = record { row = i.row; registers = i.registers; number = reduced_in (number_field (places_of i.row)) i.number }
+reduced_to i = record { row = i.row; registers = i.registers; number = reduced_in (number_range (places_of i.row)) i.number }

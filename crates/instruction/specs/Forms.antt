@@ -11,6 +11,7 @@ use Rattle.instruction.specs.declared.form.Operand.TheVariants.{RegisterComma, N
 use Rattle.instruction.specs.declared.form.Mark.{Mark}
 use Rattle.instruction.specs.declared.form.Layout.{Layout}
 use Rattle.instruction.specs.declared.field.Field.{Field}
+use Rattle.text_lexical.specs.declared.number.NumberRange.{NumberRange}
 
 -- The operands of each form, left to right.
 abbrev pub operand_list : Form → List Operand
@@ -43,7 +44,7 @@ mark_of Number = None
 
 -- A field; and a layout, by the bits of the first two registers of a line and by the highest field.
 abbrev pub field : ℕ → ℕ → Bool → Field
-field bit width signed = record { bit = bit; width = width; signed = signed }
+field bit width signed = record { bit = bit; range = record { width = width; signed = signed } }
 
 abbrev pub layout : ℕ → ℕ → Field → Layout
 layout first second highest = record { first = first; second = second; highest = highest }
@@ -59,10 +60,21 @@ layout_of Branch = layout 7 11 (field 15 17 true)
 layout_of Jump = layout 7 11 (field 11 21 true)
 layout_of System = layout 7 11 (field 0 7 false)
 
--- A place for a number, or for a register.
-pub data OperandPlace : Bool → Place → Type 0 where
-  number_place : {bit width : ℕ} {signed : Bool} → OperandPlace true (num bit width signed)
-  register_place : {bit : ℕ} → OperandPlace false (reg bit)
+-- The numbers that a form's operand may be: those of its highest field. Forms without a number have one too, which nobody asks.
+abbrev pub range_of : Form → NumberRange
+range_of f = (layout_of f).highest.range
+
+-- A place for a register, or for a number of a range.
+pub data RegisterPlace : Place → Type 0 where
+  register_place : {bit : ℕ} → RegisterPlace (reg bit)
+
+pub data NumberPlace (r : NumberRange) : Place → Type 0 where
+  number_place : {bit : ℕ} → NumberPlace r (num bit r.width r.signed)
+
+-- One of them, by whether it is a number's.
+abbrev pub OperandPlace : NumberRange → Bool → Place → Type 0
+OperandPlace r false p = RegisterPlace p
+OperandPlace r true p = NumberPlace r p
 
 -- A place for the mark of a byte, and the refusal of another token.
 pub data MarkPlace : Place → ℕ → Refusal → Type 0 where
@@ -73,8 +85,8 @@ pub data MarkPlaces : StdOption Mark → List Place → Type 0 where
   no_mark : MarkPlaces None []
   one_mark : {p : Place} {m : Mark} → MarkPlace p m.byte m.refusal → MarkPlaces (Some m) (p ∷ [])
 
--- The places of a form from an operand on, and the operands for them.
-pub data Ahead : List Place → List Operand → Type 0 where
-  no_more : Ahead [] []
-  operand : {o : Operand} {os : List Operand} {p : Place} {ms ps qs : List Place} → OperandPlace (is_number o) p → MarkPlaces (mark_of o) ms
-      → Ahead ps os → qs ≡ p ∷ (ms ++ ps) → Ahead qs (o ∷ os)
+-- The places of a form from an operand on, and the operands for them, with numbers of a range.
+pub data Ahead (r : NumberRange) : List Place → List Operand → Type 0 where
+  no_more : Ahead r [] []
+  operand : {o : Operand} {os : List Operand} {p : Place} {ms ps qs : List Place} → OperandPlace r (is_number o) p → MarkPlaces (mark_of o) ms
+      → Ahead r ps os → qs ≡ p ∷ (ms ++ ps) → Ahead r qs (o ∷ os)

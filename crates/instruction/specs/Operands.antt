@@ -2,6 +2,7 @@
 use Rattle.std.specs.Prelude.{ℕ, ◌-◌, Bool, true, false, List, [], ◌∷◌, map, length, drop, eqb, ℤ}
 use Rattle.std.proofs.Math.Option.{Option, none, some}
 use Rattle.text_lexical.specs.Bytes.{Result, value, refused, lower}
+use Rattle.text_lexical.specs.Numbers.{NumberRange}
 use Rattle.text.specs.Tokens.{Token, identifier, register, number, hex, binary, directive, comma, colon, opening, closing}
 use Rattle.text.specs.Values.{read_number}
 use Rattle.text.specs.Lines.{Line}
@@ -79,13 +80,14 @@ mark_byte (hex n) = 0
 mark_byte (binary n) = 0
 mark_byte (directive s) = 0
 
--- What a token is where a number stands, and perhaps a label: "8 number expected", but "Such operands no longer give 8" (document 02, a).
-unfoldable pub read_exactly : Token → Result Amount
-read_exactly t = elim (read_number t) [ value z ↦ value (exactly z) | refused k ↦ refused k ]
+-- What a token is where a number of a range stands, and perhaps a label: "8 number expected", but "Such operands no longer give 8"
+-- (document 02, a), and "35 number out of its range" (document 02, c), which is not asked of a label's distance.
+unfoldable pub read_exactly : NumberRange → Token → Result Amount
+read_exactly r t = elim (read_number r t) [ value z ↦ value (exactly z) | refused k ↦ refused k ]
 
-unfoldable pub read_amount : Bool → Token → Result Amount
-read_amount false t = read_exactly t
-read_amount true t = elim (read_identifier t) [ some s ↦ value (to s) | none ↦ read_exactly t ]
+unfoldable pub read_amount : NumberRange → Bool → Token → Result Amount
+read_amount r false t = read_exactly r t
+read_amount r true t = elim (read_identifier t) [ some s ↦ value (to s) | none ↦ read_exactly r t ]
 
 -- ---- the operands
 
@@ -119,7 +121,8 @@ separator_refusal a-closing = 21
 -- or not.
 unfoldable pub read_place : Bool → Place → Token → Result DraftOperands → Result DraftOperands
 read_place label (reg bit) t rest = elim (read_register t) [ value n ↦ with_register n rest | refused k ↦ refused k ]
-read_place label (num bit width signed) t rest = elim (read_amount label t) [ value a ↦ with_amount a rest | refused k ↦ refused k ]
+read_place label (num bit width signed) t rest =
+    elim (read_amount (record { width = width; signed = signed }) label t) [ value a ↦ with_amount a rest | refused k ↦ refused k ]
 read_place label (mark m) t rest = elim (eqb (mark_byte t) (separator_byte m)) [ true ↦ rest | false ↦ refused (separator_refusal m) ]
 
 -- The tokens at the places of a form. (That there are as many of them is tested before.)

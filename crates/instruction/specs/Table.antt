@@ -1,4 +1,4 @@
--- The forms of operands and the table of the fifty mnemonics. Quotations are document 01's.
+-- The forms of operands and the table of the fifty mnemonics. Quotations are document 01's, and document 02's where it is named.
 use Rattle.std.specs.Prelude.{ℕ, Bool, true, false, List, [], ◌∷◌, eqb}
 use Prim.Native.String.{String}
 use Rattle.std.proofs.Math.Option.{Option}
@@ -9,7 +9,7 @@ pub data Separator : Type 0 where
   a-comma an-opening a-closing : Separator
 
 -- What stands at a place of a form: a register, whose number goes to a bit and the three above it ("Registers are 4 bits
--- wide"); a number, which goes to a bit and takes so many bits, and is listed as signed or not; or a mark.
+-- wide"); a number, which goes to a bit and takes so many bits, and is read and listed as signed or not; or a mark.
 pub data Place : Type 0 where
   reg : (bit : ℕ) → Place
   num : (bit width : ℕ) (signed : Bool) → Place
@@ -24,7 +24,7 @@ unfoldable pub places : Form → List Place
 places R = reg 7 ∷ mark a-comma ∷ reg 11 ∷ mark a-comma ∷ reg 15 ∷ []
 -- "`rd, rs1, n`: 7, 11; n modulo 2^17 at 15"
 places I = reg 7 ∷ mark a-comma ∷ reg 11 ∷ mark a-comma ∷ num 15 17 true ∷ []
--- "slli srli srai: n modulo 256"; listed from 0 to 255
+-- "slli srli srai: n modulo 256"; "for shifts in 0..255" (document 02, c)
 places Shift = reg 7 ∷ mark a-comma ∷ reg 11 ∷ mark a-comma ∷ num 15 8 false ∷ []
 -- "loads `rd, n(rs1)`: as addi"
 places Load = reg 7 ∷ mark a-comma ∷ num 15 17 true ∷ mark an-opening ∷ reg 11 ∷ mark a-closing ∷ []

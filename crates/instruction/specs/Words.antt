@@ -1,5 +1,5 @@
 -- The word of an instruction, and the instruction of a word. Quotations are document 01's.
-use Rattle.std.specs.Prelude.{ℕ, ◌+◌, ◌*◌, ◌/◌, ◌%◌, ◌^◌, ◌-◌, max, Bool, true, false, List, [], ◌∷◌, ltb, ℤ, pos, negsuc}
+use Rattle.std.specs.Prelude.{ℕ, ◌+◌, ◌*◌, ◌/◌, ◌%◌, ◌^◌, max, true, false, List, [], ◌∷◌, ltb, ℤ}
 use Rattle.std.proofs.Math.Option.{Option, none, some}
 use Rattle.text_lexical.specs.Bytes.{Result, value, refused}
 use Rattle.text_lexical.specs.Numbers.{residue, meant_by}
@@ -17,11 +17,6 @@ modulo k (some z) = some (residue k z)
 unfoldable pub reduced : ℕ → Option ℤ → ℕ
 reduced width none = 0
 reduced width (some z) = residue width z
-
--- Whether a number is one of so many bits with a sign: "signed 17 bits" (document 02, a).
-unfoldable pub is_signed : ℕ → ℤ → Bool
-is_signed width (pos n) = ltb n (2 ^ (width - 1))
-is_signed width (negsuc n) = ltb n (2 ^ (width - 1))
 
 -- Registers and number, each at its place's bit.
 unfoldable pub fields : List Place → List ℕ → Option ℤ → ℕ

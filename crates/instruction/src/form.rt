@@ -3,10 +3,12 @@
 ghost use Rattle.std.specs.Prelude.{◌≡◌};
 ghost use Rattle.instruction.specs.Operands.{takes_label};
 ghost use Rattle.instruction.specs.Promised.{form_meant};
-ghost use Rattle.instruction.specs.Forms.{operand_list, is_number, mark_of, layout_of};
+ghost use Rattle.text_lexical.specs.Promised.{IsRange};
+ghost use Rattle.instruction.specs.Forms.{operand_list, is_number, mark_of, layout_of, range_of};
 
 use crate::field::{AMOUNT, Field, HIGH, IMMEDIATE, LOW, OFFSET, OPCODE, THIRD};
 use refusal::refusal::Refusal;
+use text_lexical::number::NumberRange;
 
 // The forms of instructions.
 #[derive(Clone, Copy, PartialEq)]
@@ -47,8 +49,9 @@ pub struct Mark {
 }
 
 // Where the operands of a form stand in its word: the bits at which the first two registers of a line begin, and the highest field, above which
-// no bit is used. That field is the number's, the third register's, or, without operands, the opcode's. Where a form has no such register, the
-// bits are there all the same, so that all forms are decoded alike; `Instruction::from_parts` drops what the form has not.
+// no bit is used. That field is the number's, which says what numbers a line may have too, the third register's, or, without operands, the
+// opcode's. Where a form has no such register, the bits are there all the same, so that all forms are decoded alike; `Instruction::from_parts`
+// drops what the form has not.
 #[derive(Clone, Copy)]
 pub struct Layout {
     pub first: u32,
@@ -111,6 +114,16 @@ impl Form {
         ensures { result ≡ layout_of (form_meant self) }
     {
         LAYOUTS[self as usize]
+    }
+
+    // The numbers that the form's operand may be: those of its highest field. A form without a number has such a range too, which nobody asks
+    // for.
+    #[tactic(auto, using(crate::proofs::Forms::form_range))]
+    pub fn range(self) -> NumberRange
+        ensures value { result ≡ range_of (form_meant self) }
+        ensures range { IsRange result }
+    {
+        self.layout().highest.range
     }
 }
 

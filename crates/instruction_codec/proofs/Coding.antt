@@ -39,7 +39,7 @@ kept-settled System o h = refl
 -- ---- what a form reads of a word
 
 -- A word's instruction has no bit set from the end of its form's highest field on.
-layout-ends : (f : Form) → unused_from (places f) ≡ (layout_of f).highest.bit + (layout_of f).highest.width
+layout-ends : (f : Form) → unused_from (places f) ≡ (layout_of f).highest.bit + (layout_of f).highest.range.width
 unfolding places unused_from
 layout-ends R = refl
 layout-ends I = refl
@@ -66,7 +66,7 @@ module _ (w x y t : ℕ) where
 
 -- The number is the highest field's, where a form has one.
 abbrev highest_meant : Field → ℕ → Whole
-highest_meant h w = whole_for (meant_by h.signed h.width (field_at w h.bit h.width))
+highest_meant h w = whole_for (meant_by h.range.signed h.range.width (field_at w h.bit h.range.width))
 
 layout-number : (w : ℕ) (f : Form) → number_for (places f) (whole_meant (highest_meant (layout_of f).highest w)) ≡ number_in w (places f)
 unfolding places number_for number_in
@@ -99,14 +99,14 @@ module _ (w : ℕ) (m : Mnemonic) (f : CodeForm) (l : Layout) (e : form_meant f 
   its-layout : l ≡ layout_of (row_of m).form
   its-layout = k ∙ ap layout_of e
 
-  its-end : unused_from (places (row_of m).form) ≡ l.highest.bit + l.highest.width
-  its-end = layout-ends (row_of m).form ∙ sym (ap (λ (l : Layout). l.highest.bit + l.highest.width) its-layout)
+  its-end : unused_from (places (row_of m).form) ≡ l.highest.bit + l.highest.range.width
+  its-end = layout-ends (row_of m).form ∙ sym (ap (λ (l : Layout). l.highest.bit + l.highest.range.width) its-layout)
 
   -- A bit is set that its form does not use.
   pub word_unused : None ≡ highest_number w l.highest → refused 31 ≡ instruction_of w
   unfolding instruction_of
   word_unused t =
-      let q = if-none (ltb w (2 ^ (l.highest.bit + l.highest.width))) (highest_meant l.highest w) t in
+      let q = if-none (ltb w (2 ^ (l.highest.bit + l.highest.range.width))) (highest_meant l.highest w) t in
       rw (instruction_of, ← c, its-end, q)
 
   -- No such bit is: the instruction has the row, and the operands that its form's layout has in the word.
@@ -117,7 +117,7 @@ module _ (w : ℕ) (m : Mnemonic) (f : CodeForm) (l : Layout) (e : form_meant f 
   unfolding instruction_of taken
   word_taken i o n x y t p v =
       let g = (row_of m).form in
-      let q = if-some (ltb w (2 ^ (l.highest.bit + l.highest.width))) (highest_meant l.highest w) o.number n in
+      let q = if-some (ltb w (2 ^ (l.highest.bit + l.highest.range.width))) (highest_meant l.highest w) o.number n in
       let rs = layout-registers w _ _ _ g (rw its-layout at x) (rw its-layout at y) (rw its-layout at t) in
       let z : number_for (places g) (whole_meant o.number) ≡ number_in w (places g) = rw (q.1, its-layout) (layout-number w g) in
       record {

@@ -63,15 +63,15 @@ residue_kept k most r z e d = d.at_width k (omega (arith, e, pow_pos k))
 
 -- A number reduced to a field loses no bit at the field's place.
 module _ (f : Field) (z : ℤ) (w : IsField f) where
-  reduced_ends : suc (residue f.width z) * 2 ^ f.bit ≤ 2 ^ 32
+  reduced_ends : suc (residue f.range.width z) * 2 ^ f.bit ≤ 2 ^ 32
   reduced_ends =
-      le_trans (mul-le-mul_right (2 ^ f.bit) (residue-lt f.width z))
-      (subst (λ (n : ℕ). n ≤ 2 ^ 32) (pow-add 2 f.width f.bit) (pow_mono {i = f.width + f.bit} {j = 32} (omega (arith, w.ends))))
+      le_trans (mul-le-mul_right (2 ^ f.bit) (residue-lt f.range.width z))
+      (subst (λ (n : ℕ). n ≤ 2 ^ 32) (pow-add 2 f.range.width f.bit) (pow_mono {i = f.range.width + f.bit} {j = 32} (omega (arith, w.ends))))
 
-  pub reduced_fits : residue f.width z * 2 ^ f.bit + 2 ^ f.bit ≤ 2 ^ 32
+  pub reduced_fits : residue f.range.width z * 2 ^ f.bit + 2 ^ f.bit ≤ 2 ^ 32
   reduced_fits = omega (arith, reduced_ends)
 
-  pub reduced_kept : residue f.width z * 2 ^ f.bit % 2 ^ 32 ≡ residue f.width z * 2 ^ f.bit
+  pub reduced_kept : residue f.range.width z * 2 ^ f.bit % 2 ^ 32 ≡ residue f.range.width z * 2 ^ f.bit
   reduced_kept = mod-eq_of_lt (omega (arith, reduced_ends, pow_pos f.bit))
 
 -- The number of a field's bits: below zero from the half of its values on.
@@ -96,16 +96,16 @@ module _ (s : Bool) (k v : ℕ) (l : v < 2 ^ k) where
 
 -- The bits from a word's highest field on are the field's, unless one above it is set.
 module _ (w : ℕ) (f : Field) where
-  end : 2 ^ f.width * 2 ^ f.bit ≡ 2 ^ (f.bit + f.width)
-  end = omega (arith, pow-add 2 f.bit f.width)
+  end : 2 ^ f.range.width * 2 ^ f.bit ≡ 2 ^ (f.bit + f.range.width)
+  end = omega (arith, pow-add 2 f.bit f.range.width)
 
-  pub highest_some : w / 2 ^ f.bit < 2 ^ f.width → Some (whole_for (meant_by f.signed f.width (w / 2 ^ f.bit))) ≡ highest_number w f
+  pub highest_some : w / 2 ^ f.bit < 2 ^ f.range.width → Some (whole_for (meant_by f.range.signed f.range.width (w / 2 ^ f.bit))) ≡ highest_number w f
   unfolding field_at
   highest_some l =
-      let t : w < 2 ^ (f.bit + f.width) = rw end at ((div-lt_iff_lt-mul (pow_pos f.bit)).0 l) in
-      rw (highest_number, lt-ltb w (2 ^ (f.bit + f.width)) t, field_at, mod-eq_of_lt l)
+      let t : w < 2 ^ (f.bit + f.range.width) = rw end at ((div-lt_iff_lt-mul (pow_pos f.bit)).0 l) in
+      rw (highest_number, lt-ltb w (2 ^ (f.bit + f.range.width)) t, field_at, mod-eq_of_lt l)
 
-  pub highest_none : 2 ^ f.width ≤ w / 2 ^ f.bit → None ≡ highest_number w f
+  pub highest_none : 2 ^ f.range.width ≤ w / 2 ^ f.bit → None ≡ highest_number w f
   highest_none l =
-      let t : 2 ^ (f.bit + f.width) ≤ w = rw end at ((le-div_iff_mul-le (pow_pos f.bit)).0 l) in
-      rw (highest_number, le-ltb w (2 ^ (f.bit + f.width)) t)
+      let t : 2 ^ (f.bit + f.range.width) ≤ w = rw end at ((le-div_iff_mul-le (pow_pos f.bit)).0 l) in
+      rw (highest_number, le-ltb w (2 ^ (f.bit + f.range.width)) t)

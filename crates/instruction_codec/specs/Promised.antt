@@ -35,13 +35,13 @@ form_word f m rs n = (row_of m).opcode + fields (places f) rs n
 -- A field of a word: it begins no higher than bit 15, has at most twenty-one bits, and ends within the thirty-two of a word.
 pub record IsField (f : Field) : Type 0 where
   pub begins : f.bit ≤ 15
-  pub narrow : f.width ≤ 21
-  pub ends : f.bit + f.width ≤ 32
+  pub narrow : f.range.width ≤ 21
+  pub ends : f.bit + f.range.width ≤ 32
 
 -- The number that a field means, where no bit above the field is set.
 abbrev pub highest_number : ℕ → Field → StdOption Whole
 highest_number word f =
-    elim (ltb word (2 ^ (f.bit + f.width))) [ true ↦ Some (whole_for (meant_by f.signed f.width (field_at word f.bit f.width))) | false ↦ None ]
+    elim (ltb word (2 ^ (f.bit + f.range.width))) [ true ↦ Some (whole_for (meant_by f.range.signed f.range.width (field_at word f.bit f.range.width))) | false ↦ None ]
 
 -- ---- the texts of forms, in pieces
 

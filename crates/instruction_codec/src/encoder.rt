@@ -27,10 +27,10 @@ fn register_bits(register: Register, bit: u32) -> u32
 // What a field of a word keeps of a number, at the field's bit.
 fn number_bits(number: Whole, field: Field) -> u32
     requires { IsField field }
-    ensures value { result ≡ residue field.width (whole_meant number) * 2 ^ field.bit }
+    ensures value { result ≡ residue field.range.width (whole_meant number) * 2 ^ field.bit }
     ensures room { result + 2 ^ field.bit ≤ 2 ^ 32 }
 {
-    let most = u64::from(field.size() - 1);
+    let most = u64::from(field.range.size() - 1);
     (number.residue(most) as u32) << field.bit
 }
 
@@ -110,18 +110,18 @@ fn register_in(word: u32, bit: u32) -> Register
     requires { bit ≤ 15 }
     ensures { index_of result ≡ field_at word bit 4 }
 {
-    Register::from_index(((word >> bit) % THIRD.size()) as u8)
+    Register::from_index(((word >> bit) % THIRD.range.size()) as u8)
 }
 
-// The number that a field's bits mean. Whether the highest is set is asked here of the bits, and by `Field::holds` whether a number fits.
+// The number that a field's bits mean. Whether the highest is set is asked here of the bits, and by `NumberRange::holds` whether a number fits.
 #[tactic(auto, using(crate::proofs::Forms::number_below, crate::proofs::Forms::number_unsigned, crate::proofs::Forms::number_above))]
 fn number_of(bits: u32, field: Field) -> Whole
     requires field { IsField field }
-    requires fits { bits < 2 ^ field.width }
-    ensures { result ≡ whole_for (meant_by field.signed field.width bits) }
+    requires fits { bits < 2 ^ field.range.width }
+    ensures { result ≡ whole_for (meant_by field.range.signed field.range.width bits) }
 {
-    let size = field.size();
-    if field.signed && size <= 2 * bits {
+    let size = field.range.size();
+    if field.range.signed && size <= 2 * bits {
         return Whole::Negative(u64::from(size - bits));
     }
     Whole::NotNegative(u64::from(bits))
@@ -134,7 +134,7 @@ fn number_in(word: u32, field: Field) -> Option<Whole>
     ensures { result ≡ highest_number word field }
 {
     let bits = word >> field.bit;
-    if bits < field.size() {
+    if bits < field.range.size() {
         Some(number_of(bits, field))
     } else {
         None

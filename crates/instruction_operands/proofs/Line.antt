@@ -25,11 +25,11 @@ use Rattle.text.specs.Promised.{kind_meant, filler, firsts, meant, spelling, Kep
 use Rattle.text.specs.declared.lexer.Kind.TheVariants.{Identifier}
 use Rattle.text.specs.declared.lexer.Token.{Token as KeptToken}
 use Rattle.text.specs.declared.parser.Line.{Line}
-use Rattle.instruction.specs.Table.{Place, Form, R, I, Shift, Load, Store, Branch, Jump, System, Row, places, table, row_named}
+use Rattle.instruction.specs.Table.{Place, Form, Row, places, table, row_named}
 use Rattle.instruction.specs.Operands.{takes_label, read_identifier, read_operands, made, read_row, read_mnemonic, read_instruction, behind}
 use Rattle.instruction.specs.Promised.{row_of, form_meant, found_meant, spelled_in, taken_for, draft_meant}
 use Rattle.instruction.specs.declared.form.Form.{Form as CodeForm}
-use Rattle.instruction.specs.Forms.{mark_of}
+use Rattle.instruction.specs.Forms.{mark_of, range_of}
 use Rattle.instruction.specs.declared.form.Mark.{Mark}
 use Rattle.instruction.specs.declared.form.Operand.{Operand}
 use Rattle.instruction.specs.declared.instruction.Amount.{Amount}
@@ -37,26 +37,12 @@ use Rattle.instruction.specs.declared.instruction.Amount.TheVariants.{Number, La
 use Rattle.instruction.specs.declared.instruction.Draft.{Draft}
 use Rattle.instruction.specs.declared.opcode.Mnemonic.{Mnemonic}
 use Rattle.instruction.proofs.Results.{no-identifier}
-use Rattle.instruction.proofs.Forms.{Counting, counting-none, counting-mark, counting-most, counting-end}
+use Rattle.instruction.proofs.Forms.{six-places, Counting, counting-none, counting-mark, counting-most, counting-end}
 use Rattle.instruction.proofs.Lookup.{row-by-name}
 use Rattle.instruction_operands.specs.Sources.{LastStands, OperandsTaken}
 use Rattle.instruction_operands.specs.Promised.{left_meant, TokensTook, TokensRefuse, tokens_spell, TokensStand, LastToken, RowIs, ParsedIs}
 use Rattle.instruction_operands.specs.Laws.{left_before}
 use Rattle.instruction_operands.specs.declared.tokens.Tokens.{Tokens}
-
--- ---- forms
-
--- No form has more than six operand tokens.
-pub six-places : (f : Form) → length (places f) ≤ 6
-unfolding places
-six-places R = omega arith
-six-places I = omega arith
-six-places Shift = omega arith
-six-places Load = omega arith
-six-places Store = omega arith
-six-places Branch = omega arith
-six-places Jump = omega arith
-six-places System = omega arith
 
 -- ---- the tokens after the mnemonic
 
@@ -66,22 +52,22 @@ get_d_any l i d e h = let p = drop-cons l i d h in let q = drop-cons l i e h in 
 
 -- ---- how many tokens there are
 
-module _ (f : Form) (ops : List Operand) (i : ℕ) {n : ℕ} (q : Counting (places f) n (drop i ops)) where
+module _ (f : Form) (ops : List Operand) (i : ℕ) {n : ℕ} (q : Counting (range_of f) (places f) n (drop i ops)) where
   module _ (o : Operand) (h : i < length ops) where
-    counts-here : Counting (places f) n (get_or ops i o ∷ drop (i + 1) ops)
+    counts-here : Counting (range_of f) (places f) n (get_or ops i o ∷ drop (i + 1) ops)
     counts-here = let e : drop i ops ≡ get_or ops i o ∷ drop (i + 1) ops = drop-cons ops i o h ∙ rw (add-one i) in rw e at q
 
-    pub counts-operand : is_some (mark_of (get_or ops i o)) ≡ false → Counting (places f) (n + 1) (drop (i + 1) ops)
+    pub counts-operand : is_some (mark_of (get_or ops i o)) ≡ false → Counting (range_of f) (places f) (n + 1) (drop (i + 1) ops)
     counts-operand = go (mark_of (get_or ops i o)) refl
       where
-        go : (m : StdOption Mark) → mark_of (get_or ops i o) ≡ m → is_some m ≡ false → Counting (places f) (n + 1) (drop (i + 1) ops)
+        go : (m : StdOption Mark) → mark_of (get_or ops i o) ≡ m → is_some m ≡ false → Counting (range_of f) (places f) (n + 1) (drop (i + 1) ops)
         go None k e = counting-none counts-here k
         go (Some m) k e = absurd (true≢false e)
 
-    pub counts-mark : is_some (mark_of (get_or ops i o)) ≡ true → Counting (places f) (n + 1 + 1) (drop (i + 1) ops)
+    pub counts-mark : is_some (mark_of (get_or ops i o)) ≡ true → Counting (range_of f) (places f) (n + 1 + 1) (drop (i + 1) ops)
     counts-mark = go (mark_of (get_or ops i o)) refl
       where
-        go : (m : StdOption Mark) → mark_of (get_or ops i o) ≡ m → is_some m ≡ true → Counting (places f) (n + 1 + 1) (drop (i + 1) ops)
+        go : (m : StdOption Mark) → mark_of (get_or ops i o) ≡ m → is_some m ≡ true → Counting (range_of f) (places f) (n + 1 + 1) (drop (i + 1) ops)
         go None k e = absurd (true≢false (sym e))
         go (Some m) k e = counting-mark counts-here k
 

@@ -10,7 +10,9 @@ use borrow.Author.Tests.{eqb-true, eqb-false, ne_eqb}
 use Rattle.std.specs.Prelude.{Ok, Err}
 use Rattle.std.specs.Prelude.{Result as Answer}
 use Rattle.text_lexical.specs.Bytes.{value}
-use Rattle.text_lexical.specs.Promised.{index_of, whole_meant, whole_for}
+use Rattle.text_lexical.specs.Numbers.{NumberRange as MeantRange}
+use Rattle.text_lexical.specs.Promised.{index_of, whole_meant, whole_for, range_meant}
+use Rattle.text_lexical.specs.declared.number.NumberRange.{NumberRange}
 use Rattle.text_lexical.specs.declared.number.Whole.{Whole}
 use Rattle.text_lexical.specs.declared.register.Register.{Register as NamedRegister}
 use Rattle.text_lexical.proofs.Numbers.{whole-meant}
@@ -56,10 +58,10 @@ unfolding read_operands
 none-left s For e label = λ p ps f. rw e refl
 
 -- Only an Identifier is a label, where one may stand for the number.
-no-label : (label : Bool) (k : Kind) (u : List ℕ) → (label ≡ true → k ≡ Identifier → ⊥) → read_amount label (kind_meant k u) ≡ read_exactly (kind_meant k u)
+no-label : (r : MeantRange) (label : Bool) (k : Kind) (u : List ℕ) → (label ≡ true → k ≡ Identifier → ⊥) → read_amount r label (kind_meant k u) ≡ read_exactly r (kind_meant k u)
 unfolding read_amount
-no-label false k u f = refl
-no-label true k u f = rw (read_amount, no-identifier k u (f refl))
+no-label r false k u f = refl
+no-label r true k u f = rw (read_amount, no-identifier k u (f refl))
 
 -- It is read as an operand, or is its mark.
 module _ (s t : Tokens) (k : KeptToken) (text : t.source.now ≡ s.source.now) (left : s.left.now ≡ k ∷ t.left.now) where
@@ -81,9 +83,9 @@ module _ (s t : Tokens) (k : KeptToken) (text : t.source.now ≡ s.source.now) (
   register-next (Err x) h = λ label p ps f. rw taken (register-refuses label token f (sym (h u)) _)
 
   -- A label is the part of the source that the token is,
-  pub label-next : (label : Bool) → label ≡ true → k.kind ≡ Identifier → AmountTaken TokensTook TokensRefuse tokens_spell TokensStand label s (Ok (Label (record { start = k.start; length = k.length }))) t
+  pub label-next : (range : NumberRange) (label : Bool) → label ≡ true → k.kind ≡ Identifier → AmountTaken TokensTook TokensRefuse tokens_spell TokensStand range label s (Ok (Label (record { start = k.start; length = k.length }))) t
   unfolding read_amount read_identifier
-  label-next label l e =
+  label-next range label l e =
       let inside : k.start + k.length ≤ length s.source.now = rw left at (s.in_source 0) in (
         record {
           token = token;
@@ -97,27 +99,27 @@ module _ (s t : Tokens) (k : KeptToken) (text : t.source.now ≡ s.source.now) (
       )
 
   -- and a number is what it is without a label, so that an Identifier is none.
-  pub number-next : (label : Bool) (w : Whole) → Ok w ≡ extracted k.kind → AmountTaken TokensTook TokensRefuse tokens_spell TokensStand label s (Ok (NumberAmount w)) t
+  pub number-next : (range : NumberRange) (label : Bool) (w : Whole) → Ok w ≡ extracted range k.kind → AmountTaken TokensTook TokensRefuse tokens_spell TokensStand range label s (Ok (NumberAmount w)) t
   unfolding read_exactly read_number
-  number-next label w h =
-      let (z, (m, f)) = extracted-is _ (h ∙ extracted-for k.kind u) in (
+  number-next range label w h =
+      let (z, (m, f)) = extracted-is _ (h ∙ extracted-for range k.kind u) in (
         record {
           token = token;
           took = took;
           holds = record {
-            means = no-label label k.kind u (λ l e. not-ok (h ∙ ap extracted e)) ∙ rw (read_exactly, m) (ap (λ x. value (exactly x)) (sym (ap whole_meant f ∙ whole-meant z)));
+            means = no-label (range_meant range) label k.kind u (λ l e. not-ok (h ∙ ap (extracted range) e)) ∙ rw (read_exactly, m) (ap (λ x. value (exactly x)) (sym (ap whole_meant f ∙ whole-meant z)));
             settled = f ∙ ap whole_for (sym (ap whole_meant f ∙ whole-meant z));
           };
         },
         tt,
       )
     where
-      not-ok : Ok w ≡ extracted Identifier → ⊥
+      not-ok : Ok w ≡ extracted range Identifier → ⊥
       not-ok e = let z : ◌≡◌ {A = ℕ} 0 1 = cc in omega arith
 
-  pub amount-refused : (label : Bool) (x : Refusal) → Err x ≡ extracted k.kind → (label ≡ true → k.kind ≡ Identifier → ⊥) → AmountTaken TokensTook TokensRefuse tokens_spell TokensStand label s (Err x) t
+  pub amount-refused : (range : NumberRange) (label : Bool) (x : Refusal) → Err x ≡ extracted range k.kind → (label ≡ true → k.kind ≡ Identifier → ⊥) → AmountTaken TokensTook TokensRefuse tokens_spell TokensStand range label s (Err x) t
   unfolding read_operands read_exactly
-  amount-refused label x h f = λ p ps n. rw taken (amount-refuses label token n (no-label label k.kind u f ∙ rw (read_exactly, sym (ap extract_meant h ∙ extracted-number k.kind u))) _)
+  amount-refused range label x h f = λ p ps n. rw taken (amount-refuses label token n (no-label (range_meant range) label k.kind u f ∙ rw (read_exactly, sym (ap extract_meant h ∙ extracted-number range k.kind u))) _)
 
   module _ (m : Mark) (between : Separates m) where
     -- whether the token is the mark, by its byte

@@ -1,8 +1,9 @@
 -- What operands are read from, token by token: what every such source keeps, and what its operations promise by that.
-use Rattle.std.specs.Prelude.{ℕ, ◌+◌, ◌≤◌, ◌≡◌, Bool, true, false, List, [], ◌∷◌, ◌++◌, length, get_or, Ok, Err}
+use Rattle.std.specs.Prelude.{ℕ, ◌+◌, ◌≤◌, ◌≡◌, Bool, List, [], ◌∷◌, ◌++◌, length, get_or, Ok, Err}
 use Rattle.std.specs.Prelude.{Result as Answer}
 use Rattle.text_lexical.specs.Bytes.{value, refused}
-use Rattle.text_lexical.specs.Promised.{index_of, whole_meant, whole_for}
+use Rattle.text_lexical.specs.Promised.{index_of, whole_meant, whole_for, range_meant}
+use Rattle.text_lexical.specs.declared.number.NumberRange.{NumberRange}
 use Rattle.text_lexical.specs.declared.register.Register.{Register}
 use Rattle.text.specs.Tokens.{Token}
 use Rattle.text.specs.Promised.{filler}
@@ -10,7 +11,7 @@ use Rattle.text.specs.declared.lexer.Token.{Token as KeptToken}
 use Rattle.instruction.specs.Table.{Separator, Place, Form, places}
 use Rattle.instruction.specs.Operands.{takes_label, read_register, read_amount, mark_byte, read_operands}
 use Rattle.instruction.specs.Promised.{row_of, amount_meant, taken_for, DraftSettled}
-use Rattle.instruction.specs.Forms.{mark_for, OperandPlace, MarkPlace}
+use Rattle.instruction.specs.Forms.{mark_for, RegisterPlace, NumberPlace, MarkPlace}
 use Rattle.instruction.specs.declared.form.Mark.{Mark}
 use Rattle.instruction.specs.declared.instruction.Target.{Target}
 use Rattle.instruction.specs.declared.instruction.Amount.{Amount}
@@ -44,9 +45,9 @@ abbrev pub AmountSettled : (Target → List ℕ) → Amount → Type 0
 AmountSettled spells (Number w) = w ≡ whole_for (whole_meant w)
 AmountSettled spells (Label t) = length (spells t) ≡ t.length
 
--- An amount that a token means: the number, or the label, where one may stand for it.
-pub record AmountIn (spells : Target → List ℕ) (label : Bool) (a : Amount) (t : Token) : Type 0 where
-  pub means : read_amount label t ≡ value (amount_meant spells a)
+-- An amount that a token means: the number, which is of a range, or the label, where one may stand for it.
+pub record AmountIn (spells : Target → List ℕ) (range : NumberRange) (label : Bool) (a : Amount) (t : Token) : Type 0 where
+  pub means : read_amount (range_meant range) label t ≡ value (amount_meant spells a)
   pub settled : AmountSettled spells a
 
 -- If it is a label, this is where its token stands.
@@ -66,12 +67,12 @@ PlaceRefused Refuses For label s e = (p : Place) (ps : List Place) → For p →
 
 abbrev pub RegisterTaken : {S E : Type 0} → (S → List Token → S → Type 0) → (S → Bool → List Place → E → Type 0) → S → Answer Register E → S → Type 0
 RegisterTaken Took Refuses s (Ok r) t = TokenTaken Took (λ k. read_register k ≡ value (index_of r)) s t
-RegisterTaken Took Refuses s (Err e) t = (label : Bool) → PlaceRefused Refuses (OperandPlace false) label s e
+RegisterTaken Took Refuses s (Err e) t = (label : Bool) → PlaceRefused Refuses RegisterPlace label s e
 
 abbrev pub AmountTaken : {S E : Type 0} → (S → List Token → S → Type 0) → (S → Bool → List Place → E → Type 0) → (S → Target → List ℕ) → (S → Target → S → Type 0)
-    → Bool → S → Answer Amount E → S → Type 0
-AmountTaken Took Refuses Spells Stands label s (Ok a) t = TokenTaken Took (AmountIn (Spells s) label a) s t × StandsIf Stands s a t
-AmountTaken Took Refuses Spells Stands label s (Err e) t = PlaceRefused Refuses (OperandPlace true) label s e
+    → NumberRange → Bool → S → Answer Amount E → S → Type 0
+AmountTaken Took Refuses Spells Stands range label s (Ok a) t = TokenTaken Took (AmountIn (Spells s) range label a) s t × StandsIf Stands s a t
+AmountTaken Took Refuses Spells Stands range label s (Err e) t = PlaceRefused Refuses (NumberPlace range) label s e
 
 abbrev pub MarkTaken : {S E : Type 0} → (S → List Token → S → Type 0) → (S → Bool → List Place → E → Type 0) → Mark → S → Answer (Unit {0}) E → S → Type 0
 MarkTaken Took Refuses m s (Ok u) t = TokenTaken Took (λ k. mark_byte k ≡ m.byte) s t

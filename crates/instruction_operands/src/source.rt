@@ -1,5 +1,6 @@
 // What operands are read from, token by token, and the loop that reads the operands of a form from it.
 ghost use Rattle.std.specs.Prelude.{ℕ, Bool, List};
+ghost use Rattle.text_lexical.specs.Promised.{IsRange};
 ghost use Rattle.text.specs.Tokens.{Token};
 ghost use Rattle.instruction.specs.Table.{Place};
 ghost use Rattle.instruction.specs.declared.instruction.Target.{Target};
@@ -8,7 +9,7 @@ ghost use Rattle.instruction_operands.specs.Sources.{SourceLaws, Separates, Regi
 use instruction::form::Mark;
 use instruction::instruction::{Amount, Draft};
 use instruction::opcode::Mnemonic;
-use text_lexical::number::Whole;
+use text_lexical::number::{NumberRange, Whole};
 use text_lexical::register::Register;
 
 pub trait OperandSource {
@@ -31,9 +32,10 @@ pub trait OperandSource {
     fn register(&mut self) -> Result<Register, Self::Error>
         ensures { RegisterTaken Took Refuses self.old result self.new };
 
-    // The number that the next token means, or the label that it names, where a label may stand for the number.
-    fn amount(&mut self, label: bool) -> Result<Amount, Self::Error>
-        ensures { AmountTaken Took Refuses Spells Stands label self.old result self.new };
+    // The number of a range that the next token means, or the label that it names, where a label may stand for the number.
+    fn amount(&mut self, range: NumberRange, label: bool) -> Result<Amount, Self::Error>
+        requires { IsRange range }
+        ensures { AmountTaken Took Refuses Spells Stands range label self.old result self.new };
 
     // The next token is this mark. That it stands between operands is asked here alone, and no source asks it again.
     fn mark(&mut self, mark: Mark) -> Result<(), Self::Error>
@@ -60,7 +62,7 @@ pub fn read_operands<S: OperandSource>(
     let mut amount = Amount::Number(Whole::default());
     for operand in form.operands() {
         if operand.is_number() {
-            amount = source.amount(label)?;
+            amount = source.amount(form.range(), label)?;
         } else {
             registers[count] = source.register()?;
             count += 1;

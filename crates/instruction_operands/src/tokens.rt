@@ -11,6 +11,7 @@ use instruction::form::Mark;
 use instruction::instruction::{Amount, Target};
 use refusal::refusal::Refusal;
 use text::lexer::{Kind, Token};
+use text_lexical::number::NumberRange;
 use text_lexical::register::Register;
 
 // The register that a token names.
@@ -74,7 +75,7 @@ impl OperandSource for Tokens<'_> {
         extract_register(self.take()?.kind)
     }
 
-    fn amount(&mut self, label: bool) -> Result<Amount, Refusal> {
+    fn amount(&mut self, range: NumberRange, label: bool) -> Result<Amount, Refusal> {
         let token = self.take()?;
         if label && token.kind == Kind::Identifier {
             return Ok(Amount::Label(Target {
@@ -82,7 +83,7 @@ impl OperandSource for Tokens<'_> {
                 length: token.length,
             }));
         }
-        let number = text::parser::extract_number(token.kind)?;
+        let number = text::parser::extract_number(token.kind, range)?;
         Ok(Amount::Number(number))
     }
 

@@ -2,7 +2,7 @@
 use Rattle.std.specs.Prelude.{◌≡◌, refl}
 use Rattle.refusal.specs.Refusals.{number_of, refusal_at}
 use Rattle.refusal.specs.declared.refusal.Refusal.{Refusal}
-use Rattle.refusal.specs.declared.refusal.Refusal.TheVariants.{SourceTooLong, NotAscii, BadToken, DuplicateLabel, TableFull, ConfigTokens, KeyExpected, NumberExpected, UnknownKey, LimbBitsRange, LimbBitsOdd, DataLimbsRange, AddrLimbsRange, MnemonicExpected, UnknownMnemonic, OperandCount, RegisterExpected, NoSuchRegister, CommaExpected, OpeningExpected, ClosingExpected, TooManyWords, ImageTooShort, HeaderCut, WrongMagic, WrongVersion, CodeSize, ImageLength, UnusualHeader, UnknownOpcode, UnusedBit, TextTooShort, NoSuchLabel, LabelTooFar}
+use Rattle.refusal.specs.declared.refusal.Refusal.TheVariants.{SourceTooLong, NotAscii, BadToken, DuplicateLabel, TableFull, ConfigTokens, KeyExpected, NumberExpected, UnknownKey, LimbBitsRange, LimbBitsOdd, DataLimbsRange, AddrLimbsRange, MnemonicExpected, UnknownMnemonic, OperandCount, RegisterExpected, NoSuchRegister, CommaExpected, OpeningExpected, ClosingExpected, TooManyWords, ImageTooShort, HeaderCut, WrongMagic, WrongVersion, CodeSize, ImageLength, UnusualHeader, UnknownOpcode, UnusedBit, TextTooShort, NoSuchLabel, LabelTooFar, NumberOutOfRange}
 
 pub number-back : (r : Refusal) → refusal_at (number_of r) ≡ r
 unfolding Rattle.refusal.specs.Refusals.refusals
@@ -40,3 +40,4 @@ number-back UnusedBit = refl
 number-back TextTooShort = refl
 number-back NoSuchLabel = refl
 number-back LabelTooFar = refl
+number-back NumberOutOfRange = refl

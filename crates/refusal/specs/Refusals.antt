@@ -4,7 +4,7 @@ use Rattle.std.specs.Prelude.{Result as Answer}
 use Rattle.std.proofs.Math.Option.{Option, none, some}
 use Rattle.text_lexical.specs.Bytes.{Result, value, refused}
 use Rattle.refusal.specs.declared.refusal.Refusal.{Refusal}
-use Rattle.refusal.specs.declared.refusal.Refusal.TheVariants.{SourceTooLong, NotAscii, BadToken, DuplicateLabel, TableFull, ConfigTokens, KeyExpected, NumberExpected, UnknownKey, LimbBitsRange, LimbBitsOdd, DataLimbsRange, AddrLimbsRange, MnemonicExpected, UnknownMnemonic, OperandCount, RegisterExpected, NoSuchRegister, CommaExpected, OpeningExpected, ClosingExpected, TooManyWords, ImageTooShort, HeaderCut, WrongMagic, WrongVersion, CodeSize, ImageLength, UnusualHeader, UnknownOpcode, UnusedBit, TextTooShort, NoSuchLabel, LabelTooFar}
+use Rattle.refusal.specs.declared.refusal.Refusal.TheVariants.{SourceTooLong, NotAscii, BadToken, DuplicateLabel, TableFull, ConfigTokens, KeyExpected, NumberExpected, UnknownKey, LimbBitsRange, LimbBitsOdd, DataLimbsRange, AddrLimbsRange, MnemonicExpected, UnknownMnemonic, OperandCount, RegisterExpected, NoSuchRegister, CommaExpected, OpeningExpected, ClosingExpected, TooManyWords, ImageTooShort, HeaderCut, WrongMagic, WrongVersion, CodeSize, ImageLength, UnusualHeader, UnknownOpcode, UnusedBit, TextTooShort, NoSuchLabel, LabelTooFar, NumberOutOfRange}
 
 abbrev pub number_of : Refusal → ℕ
 number_of SourceTooLong = 1
@@ -41,6 +41,7 @@ number_of UnusedBit = 31
 number_of TextTooShort = 32
 number_of NoSuchLabel = 33
 number_of LabelTooFar = 34
+number_of NumberOutOfRange = 35
 
 -- The refusals in the order of their numbers, and the one with a number.
 unfoldable pub refusals : List Refusal
@@ -51,10 +52,10 @@ refusals =
     ∷ OperandCount ∷ RegisterExpected ∷ NoSuchRegister ∷ CommaExpected ∷ OpeningExpected
     ∷ ClosingExpected ∷ TooManyWords ∷ ImageTooShort ∷ HeaderCut ∷ WrongMagic
     ∷ WrongVersion ∷ CodeSize ∷ ImageLength ∷ UnusualHeader ∷ UnknownOpcode
-    ∷ UnusedBit ∷ TextTooShort ∷ NoSuchLabel ∷ LabelTooFar ∷ []
+    ∷ UnusedBit ∷ TextTooShort ∷ NoSuchLabel ∷ LabelTooFar ∷ NumberOutOfRange ∷ []
 
 abbrev pub refusal_at : ℕ → Refusal
-refusal_at n = get_or refusals (n - 1) LabelTooFar
+refusal_at n = get_or refusals (n - 1) NumberOutOfRange
 
 -- An answer that may be a refusal, by what its value means.
 abbrev pub answered : {A B : Type 0} → (A → B) → Answer A Refusal → Result B

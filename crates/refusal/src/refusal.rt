@@ -39,6 +39,7 @@ pub enum Refusal {
     TextTooShort,
     NoSuchLabel,
     LabelTooFar,
+    NumberOutOfRange,
 }
 
 impl From<Refusal> for u8 {

@@ -21,7 +21,7 @@ agreed (Refused n) = true
 
 -- Nothing is counted as yet.
 abbrev pub nothing_tallied : Tally
-nothing_tallied = record { records = 0; differences = 0; assembled = 0; listed = 0; refusals = record { counts = replicate 35 0 } }
+nothing_tallied = record { records = 0; differences = 0; assembled = 0; listed = 0; refusals = record { counts = replicate 36 0 } }
 
 -- A record more.
 unfoldable pub tallied : Tally → Outcome → Tally

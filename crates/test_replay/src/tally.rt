@@ -15,14 +15,14 @@ pub fn more(n: u64) -> u64
 // How often each refusal was met, by its number in the list.
 #[derive(Drop)]
 pub struct Refusals {
-    pub counts: [u64; 35],
+    pub counts: [u64; 36],
 }
 
 impl Refusals {
     pub fn new() -> Refusals
-        ensures { result ≡ record { counts = replicate 35 0 } }
+        ensures { result ≡ record { counts = replicate 36 0 } }
     {
-        Refusals { counts: [0u64; 35] }
+        Refusals { counts: [0u64; 36] }
     }
 
     // One refusal more.

@@ -7,32 +7,35 @@ use mathlib.Core.Option.{Option, none, some}
 use mathlib.Core.List.{List, [], ◌∷◌}
 use lib.ListN.{take, drop, get_or}
 use lib.Dec.{leb, ltb, eqb}
-use lib.IntN.{pos, nat_abs}
+use lib.IntN.{ℤ, pos, nat_abs}
 use borrow.Author.Tests.{ltb-true, eqb-true, eq-eqb}
 use Rattle.text_lexical.specs.Bytes.{value, same}
-use Rattle.text_lexical.specs.Numbers.{value_of, minus}
+use Rattle.text_lexical.specs.Numbers.{value_of, minus, lies_in}
+use Rattle.text_lexical.specs.Numbers.{NumberRange as MeantRange}
+use Rattle.text_lexical.specs.Promised.{range_meant}
+use Rattle.text_lexical.specs.declared.number.NumberRange.{NumberRange}
 use Rattle.text_lexical.specs.Names.{Name, named}
 use Rattle.text_lexical.proofs.Tests.{by-test, no_both}
 use Rattle.text_lexical.proofs.Strings.{found}
 use Rattle.text_lexical.proofs.Registers.{index-register}
 use Rattle.text_lexical.proofs.Numbers.{whole-meant, abs_minus}
 use Rattle.text.specs.Tokens.{Class, Register, Identifier, Number, Hex, Binary, Directive, Mark, Match, Token, register, number, hex, binary, comma, colon, opening, closing, within, number_token, pattern_token, register_token, mark_token, token_of, Sized, sized, matched, front, longest}
-use Rattle.text.specs.Values.{read_number}
+use Rattle.text.specs.Values.{read_decimal, read_pattern, read_number}
 use Rattle.text.specs.NameSets.{is_numbered, Naming}
 use Rattle.refusal.specs.Refusals.{refusals}
 use Rattle.text.specs.Promised.{extract_for, extracted, extract_meant, kind_meant, kind_for}
 use Rattle.text.specs.declared.lexer.Kind.{Kind}
-use Rattle.text.specs.declared.lexer.Kind.TheVariants.{Identifier as IdentifierKind, Number as NumberKind, Negative}
+use Rattle.text.specs.declared.lexer.Kind.TheVariants.{Identifier as IdentifierKind, Number as NumberKind, Negative, Hex as HexKind, Binary as BinaryKind}
 
 -- Where there is no token there is none.
-no-token : {t : Token} → ◌≡◌ {A = Option Token} none (some t) → ⊥
+pub no-token : {t : Token} → ◌≡◌ {A = Option Token} none (some t) → ⊥
 no-token e = let z : ◌≡◌ {A = ℕ} 0 1 = cc in absurd (omega arith)
 
 same-token : {t m : Token} → ◌≡◌ {A = Option Token} (some t) (some m) → t ≡ m
 same-token e = cc
 
 -- A token's kind means the token.
-Means : Token → List ℕ → Type 0
+unfoldable pub Means : Token → List ℕ → Type 0
 Means m u = kind_meant (kind_for m u) u ≡ m
 
 register-means : (u : List ℕ) (r : Option ℕ) → is_numbered r ≡ true → Means (register r) u
@@ -40,12 +43,12 @@ unfolding Means is_numbered
 register-means u none h = refl
 register-means u (some n) h = ap (λ (x : ℕ). register (some x)) (index-register n (ltb-true n 16 h))
 
-within-means : (u : List ℕ) (b : Bool) (t m : Token) → within b t ≡ some m → Means t u → Means m u
+pub within-means : (u : List ℕ) (b : Bool) (t m : Token) → within b t ≡ some m → Means t u → Means m u
 unfolding within
 within-means u true t m e h = rw (← same-token e) h
 within-means u false t m e h = absurd (no-token e)
 
-number-means : (u : List ℕ) (m : Token) → number_token u ≡ some m → Means m u
+pub number-means : (u : List ℕ) (m : Token) → number_token u ≡ some m → Means m u
 unfolding number_token Means
 number-means [] m h = absurd (no-token h)
 number-means (b ∷ s) m h =
@@ -54,7 +57,7 @@ number-means (b ∷ s) m h =
     (rw e (ap (λ (n : ℕ). number (minus n)) (abs_minus (value_of 10 s)))))
     (λ e. within-means (b ∷ s) (ltb (value_of 10 (b ∷ s)) (2 ^ 63)) (number (pos (value_of 10 (b ∷ s)))) m (rw (number_token, e) at h) (rw e))
 
-mark-means : (u : List ℕ) (m : Token) → mark_token u ≡ some m → Means m u
+pub mark-means : (u : List ℕ) (m : Token) → mark_token u ≡ some m → Means m u
 unfolding mark_token Means
 mark-means [] m h = absurd (no-token h)
 mark-means (b ∷ s) m h = go (eqb b 44) (eqb b 58) (eqb b 40) h
@@ -119,13 +122,25 @@ kind-sign m u n = ((λ h. cc), (λ h. cc))
 
 -- ---- the number
 
--- What is read of a kind is the number that its token means.
-pub extracted-for : (k : Kind) (u : List ℕ) → extracted k ≡ extract_for (read_number (kind_meant k u))
+-- What is read of a kind is the number of the range that its token means.
+pub extracted-for : (r : NumberRange) (k : Kind) (u : List ℕ) → extracted r k ≡ extract_for (read_number (range_meant r) (kind_meant k u))
 unfolding read_number
-extracted-for IdentifierKind u = refl
-extracted-for k u = refl
+extracted-for r IdentifierKind u = refl
+extracted-for r k u = refl
 
-pub extracted-number : (k : Kind) (u : List ℕ) → extract_meant (extracted k) ≡ read_number (kind_meant k u)
-unfolding read_number refusals
-extracted-number (Negative n) u = ap value (whole-meant (minus n))
-extracted-number k u = refl
+-- What is answered for a number of a range, or for 35, means that again.
+decimal-back : (r : MeantRange) (z : ℤ) → extract_meant (extract_for (read_decimal r z)) ≡ read_decimal r z
+unfolding read_decimal refusals
+decimal-back r z = by-test (lies_in r z) (λ e. rw (read_decimal, e) (ap value (whole-meant z))) (λ e. rw (read_decimal, e))
+
+pattern-back : (r : MeantRange) (n : ℕ) → extract_meant (extract_for (read_pattern r n)) ≡ read_pattern r n
+unfolding read_pattern refusals
+pattern-back r n = by-test (ltb n (2 ^ r.width)) (λ e. rw (read_pattern, e)) (λ e. rw (read_pattern, e))
+
+pub extracted-number : (r : NumberRange) (k : Kind) (u : List ℕ) → extract_meant (extracted r k) ≡ read_number (range_meant r) (kind_meant k u)
+unfolding read_number read_decimal read_pattern refusals
+extracted-number r (NumberKind n) u = decimal-back (range_meant r) (pos n)
+extracted-number r (Negative n) u = decimal-back (range_meant r) (minus n)
+extracted-number r (HexKind n) u = pattern-back (range_meant r) n
+extracted-number r (BinaryKind n) u = pattern-back (range_meant r) n
+extracted-number r k u = refl

@@ -15,6 +15,7 @@ use Rattle.refusal.specs.declared.refusal.Refusal.{Refusal}
 use Rattle.text_lexical.specs.Bytes.{mark, name_start, name_part, before, run}
 use Rattle.text_lexical.specs.Names.{Name, named}
 use Rattle.text_lexical.specs.declared.number.Whole.{Whole}
+use Rattle.text_lexical.specs.declared.number.NumberRange.{NumberRange}
 use Rattle.text_lexical.proofs.Tests.{split, by-test}
 use Rattle.text.specs.Tokens.{is_register, Directive, register, comma, colon, opening, closing, register_token, mark_token, token_of, sized, matched, front}
 use Rattle.text.specs.NameSets.{Naming}
@@ -32,58 +33,58 @@ use Rattle.text.proofs.Fronts.{begins-with, begins-otherwise, no-number-start}
 
 -- ---- what is found
 
--- Where no token is found, or one that is no number, there is none.
-pub no-token : (r : Scan) → ((t : Token) (next : ℕ) → r ≡ Found t next → ⊥) → None ≡ number_of r
-no-token (Found t next) f = absurd (f t next refl)
-no-token Bad f = refl
-no-token (End e) f = refl
+-- Where no token is found, or one that is no number of the range, there is none.
+pub no-token : (range : NumberRange) (r : Scan) → ((t : Token) (next : ℕ) → r ≡ Found t next → ⊥) → None ≡ number_of range r
+no-token range (Found t next) f = absurd (f t next refl)
+no-token range Bad f = refl
+no-token range (End e) f = refl
 
 pub no-number : (next : ℕ) (x : Answer Whole Refusal) → ((w : Whole) → x ≡ Ok w → ⊥) → None ≡ number_with x next
 no-number next (Ok w) f = absurd (f w refl)
 no-number next (Err r) f = refl
 
 -- A number that is found is that of a token.
-pub number-found : (names : List Name) (s : List ℕ) (at : ℕ) (n : NumberAt) → Some n ≡ number_at names s at
-    → (t : Token) × (Found t n.end ≡ token_at names s at) × (Ok n.number ≡ extracted t.kind)
+pub number-found : (names : List Name) (s : List ℕ) (at : ℕ) (range : NumberRange) (n : NumberAt) → Some n ≡ number_at names s at range
+    → (t : Token) × (Found t n.end ≡ token_at names s at) × (Ok n.number ≡ extracted range t.kind)
 unfolding number_at
-number-found names s at n e = by-scan (token_at names s at) refl e
+number-found names s at range n e = by-scan (token_at names s at) refl e
   where
-    by-number : (t : Token) (next : ℕ) (x : Answer Whole Refusal) → Found t next ≡ token_at names s at → x ≡ extracted t.kind → Some n ≡ number_with x next
-        → (t : Token) × (Found t n.end ≡ token_at names s at) × (Ok n.number ≡ extracted t.kind)
+    by-number : (t : Token) (next : ℕ) (x : Answer Whole Refusal) → Found t next ≡ token_at names s at → x ≡ extracted range t.kind → Some n ≡ number_with x next
+        → (t : Token) × (Found t n.end ≡ token_at names s at) × (Ok n.number ≡ extracted range t.kind)
     by-number t next (Ok w) f k e = let q : n ≡ record { number = w; end = next } = cc in rw q (t, f, k)
     by-number t next (Err r) f k e = let z : ◌≡◌ {A = ℕ} 0 1 = cc in absurd (omega arith)
 
-    by-scan : (r : Scan) → r ≡ token_at names s at → Some n ≡ number_of r → (t : Token) × (Found t n.end ≡ token_at names s at) × (Ok n.number ≡ extracted t.kind)
-    by-scan (Found t next) f e = by-number t next (extracted t.kind) f refl e
+    by-scan : (r : Scan) → r ≡ token_at names s at → Some n ≡ number_of range r → (t : Token) × (Found t n.end ≡ token_at names s at) × (Ok n.number ≡ extracted range t.kind)
+    by-scan (Found t next) f e = by-number t next (extracted range t.kind) f refl e
     by-scan Bad f e = let z : ◌≡◌ {A = ℕ} 0 1 = cc in absurd (omega arith)
     by-scan (End x) f e = let z : ◌≡◌ {A = ℕ} 0 1 = cc in absurd (omega arith)
 
 -- ---- where there is none
 
-module _ (names : List Name) (s : List ℕ) (at : ℕ) where
+module _ (names : List Name) (s : List ℕ) (at : ℕ) (range : NumberRange) where
   -- A register is no number.
-  register-none : (n : ℕ) (r : Option ℕ) → None ≡ number_of (found_at s at (sized n (some (register r))))
+  register-none : (n : ℕ) (r : Option ℕ) → None ≡ number_of range (found_at s at (sized n (some (register r))))
   unfolding sized read_number
   register-none n none = refl
   register-none n (some k) = refl
 
   -- A word, which is a register or an identifier, is no number.
-  word-none : (n : ℕ) (u : List ℕ) (b : Bool) → None ≡ number_of (found_at s at (sized n (token_of names (word_class b) u)))
+  word-none : (n : ℕ) (u : List ℕ) (b : Bool) → None ≡ number_of range (found_at s at (sized n (token_of names (word_class b) u)))
   unfolding word_class token_of register_token sized read_number
   word-none n u false = refl
   word-none n u true = go (named names u)
     where
-      go : (o : Option Name) → None ≡ number_of (found_at s at (sized n (register_token o)))
+      go : (o : Option Name) → None ≡ number_of range (found_at s at (sized n (register_token o)))
       go none = refl
       go (some m) = register-none n m.number
 
   -- A mark is no number.
-  mark-none : (n : ℕ) (u : List ℕ) → None ≡ number_of (found_at s at (sized n (mark_token u)))
+  mark-none : (n : ℕ) (u : List ℕ) → None ≡ number_of range (found_at s at (sized n (mark_token u)))
   unfolding mark_token sized read_number
   mark-none n [] = refl
   mark-none n (b ∷ u) = go (eqb b 44) (eqb b 58) (eqb b 40)
     where
-      go : (x y z : Bool) → None ≡ number_of (found_at s at (sized n (elim x [
+      go : (x y z : Bool) → None ≡ number_of range (found_at s at (sized n (elim x [
         | true ↦ some comma
         | false ↦ elim y [
           | true ↦ some colon
@@ -96,17 +97,17 @@ module _ (names : List Name) (s : List ℕ) (at : ℕ) where
       go false false false = refl
 
   -- What begins with a point is no number.
-  dot-none : (b : ℕ) (t : List ℕ) → None ≡ number_of (found_at s at (matched names (b ∷ t) (dot_scan t)))
+  dot-none : (b : ℕ) (t : List ℕ) → None ≡ number_of range (found_at s at (matched names (b ∷ t) (dot_scan t)))
   unfolding dot_scan matched matching token_of sized read_number
   dot-none b [] = refl
   dot-none b (c ∷ u) = go (name_start c)
     where
-      go : (x : Bool) → None ≡ number_of (found_at s at (matched names (b ∷ c ∷ u) (elim x [ true ↦ some (matching (suc (suc (run name_part u))) Directive) | false ↦ none ])))
+      go : (x : Bool) → None ≡ number_of range (found_at s at (matched names (b ∷ c ∷ u) (elim x [ true ↦ some (matching (suc (suc (run name_part u))) Directive) | false ↦ none ])))
       go true = refl
       go false = refl
 
   -- Nor is what begins with another byte than a number does.
-  scan-none : (b : ℕ) (t : List ℕ) → number_start b ≡ false → None ≡ number_of (found_at s at (matched names (b ∷ t) (scan names (b ∷ t))))
+  scan-none : (b : ℕ) (t : List ℕ) → number_start b ≡ false → None ≡ number_of range (found_at s at (matched names (b ∷ t) (scan names (b ∷ t))))
   unfolding scan matched matching token_of
   scan-none b t h =
       let (d, m) = no-number-start b h in
@@ -123,7 +124,7 @@ module _ (names : List Name) (s : List ℕ) (at : ℕ) where
     front-is = front_at names ok.identifiers s at ∙ front-scan names ok.identifiers (drop at s)
 
     -- There is none at the text's end, nor where a byte stands with which no number begins.
-    pub number_none : (at < length s → number_start (get_or s at 0) ≡ false) → None ≡ number_at names s at
+    pub number_none : (at < length s → number_start (get_or s at 0) ≡ false) → None ≡ number_at names s at range
     unfolding number_at token_at scan matched
     number_none f =
         rw front-is
@@ -132,10 +133,10 @@ module _ (names : List Name) (s : List ℕ) (at : ℕ) where
         (λ l. rw (drop_of_length-le s l)))
 
     -- Where a number begins, the number there is that of the token.
-    pub number-is : (r : Scan) → Some r ≡ scan_if number_start names s at → number_of r ≡ number_at names s at
+    pub number-is : (r : Scan) → Some r ≡ scan_if number_start names s at → number_of range r ≡ number_at names s at range
     unfolding number_at
-    number-is r e = ap number_of (begins-with number_start names s at r e).1
+    number-is r e = ap (number_of range) (begins-with number_start names s at r e).1
 
     -- Where none begins there is none.
-    pub no-number-is : None ≡ scan_if number_start names s at → None ≡ number_at names s at
+    pub no-number-is : None ≡ scan_if number_start names s at → None ≡ number_at names s at range
     no-number-is e = number_none (λ l. begins-otherwise number_start names s at e)

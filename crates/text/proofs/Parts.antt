@@ -3,21 +3,21 @@
 use Prim.Native.Nat.{ℕ, suc, pred, ◌+◌, ◌<◌}
 use mathlib.Core.Path.{◌≡◌, refl, sym, ap, ◌∙◌, subst}
 use native.Mathlib.Omega.{arith}
-use mathlib.Core.Bool.{Bool, true, false, not}
+use mathlib.Core.Bool.{Bool, true, not}
 use mathlib.Core.Option.{Option, none, some}
 use mathlib.Core.List.{List, [], ◌∷◌, ◌++◌, append_assoc}
 use lib.ListN.{length, take, drop, length-append, length-take, take-append-drop}
 use lib.Seq.{drop-drop, drop_at}
 use lib.Dec.{eqb}
-use lib.IntN.{pos}
 use Rattle.text_lexical.specs.Bytes.{edge, before, after, run}
-use Rattle.text_lexical.specs.Numbers.{value_of, minus}
+use Rattle.text_lexical.specs.Numbers.{value_of}
 use Rattle.text_lexical.specs.Names.{Name, named}
 use Rattle.text_lexical.proofs.Tests.{by-test}
 use Rattle.text_lexical.proofs.Strings.{ends, ends-head}
-use Rattle.text.specs.Tokens.{Class, Register, Identifier, Number, Hex, Binary, Directive, Mark, Match, longest, Token, identifier, number, hex, binary, comma, colon, opening, closing, within, number_token, pattern_token, register_token, mark_token, token_of, Sized, sized, matched, front, infront, tokens_past, tokens}
+use Rattle.text.specs.Tokens.{Class, Register, Identifier, Number, Hex, Binary, Directive, Mark, Match, longest, Token, identifier, hex, binary, pattern_token, register_token, token_of, Sized, sized, matched, front, infront, tokens_past, tokens}
 use Rattle.text.specs.Lines.{extended, lines, kept_byte, trim_end, trim, cut, content, indent}
 use Rattle.text.proofs.Left.{Within, longest-within, edge-blank}
+use Rattle.text.proofs.Meanings.{no-token, Means, within-means, number-means, mark-means}
 
 -- ---- the front of a string
 
@@ -87,58 +87,26 @@ content-front l =
 
 -- ---- the first token of a text
 
-no-token : {t : Token} → ◌≡◌ {A = Option Token} none (some t) → ⊥
-no-token e = let z : ◌≡◌ {A = ℕ} 0 1 = cc in omega arith
-
--- No other token is an Identifier.
-abbrev NoIdentifier : Token → Type 0
-NoIdentifier m = (v : List ℕ) → m ≡ identifier v → ⊥
-
-within-no : (b : Bool) (m : Token) (v : List ℕ) → NoIdentifier m → within b m ≡ some (identifier v) → ⊥
-unfolding within
-within-no true m v f e = f v cc
-within-no false m v f e = no-token e
-
-number-no : (u v : List ℕ) → number_token u ≡ some (identifier v) → ⊥
-unfolding number_token
-number-no [] v e = no-token e
-number-no (b ∷ s) v e =
-    by-test (eqb b 45)
-    (λ h. within-no _ (number (minus (value_of 10 s))) v (λ w k. let z : ◌≡◌ {A = ℕ} 0 1 = cc in omega arith) (rw (number_token, h) at e))
-    (λ h. within-no _ (number (pos (value_of 10 (b ∷ s)))) v (λ w k. let z : ◌≡◌ {A = ℕ} 0 1 = cc in omega arith) (rw (number_token, h) at e))
-
-mark-no : (u v : List ℕ) → mark_token u ≡ some (identifier v) → ⊥
-unfolding mark_token
-mark-no [] v e = no-token e
-mark-no (b ∷ s) v e = go (eqb b 44) (eqb b 58) (eqb b 40) e
-  where
-    go : (x y z : Bool) → ◌≡◌ {A = Option Token} (elim x [
-      | true ↦ some comma
-      | false ↦ elim y [
-        | true ↦ some colon
-        | false ↦ elim z [ true ↦ some opening | false ↦ some closing ]
-      ]
-    ]) (some (identifier v)) → ⊥
-    go true y z h = let q : ◌≡◌ {A = ℕ} 0 1 = cc in omega arith
-    go false true z h = let q : ◌≡◌ {A = ℕ} 0 1 = cc in omega arith
-    go false false true h = let q : ◌≡◌ {A = ℕ} 0 1 = cc in omega arith
-    go false false false h = let q : ◌≡◌ {A = ℕ} 0 1 = cc in omega arith
-
 register-no : (o : Option Name) (v : List ℕ) → register_token o ≡ some (identifier v) → ⊥
 unfolding register_token
 register-no none v e = no-token e
 register-no (some n) v e = let q : ◌≡◌ {A = ℕ} 0 1 = cc in omega arith
 
--- An Identifier is spelled as its match, for no other class means one.
+-- What an Identifier's kind means tells its spelling.
+meant-spelled : (u v : List ℕ) → Means (identifier v) u → u ≡ v
+unfolding Means
+meant-spelled u v e = cc
+
+-- An Identifier is spelled as its match.
 token-spelled : (names : List Name) (c : Class) (u v : List ℕ) → token_of names c u ≡ some (identifier v) → u ≡ v
-unfolding token_of pattern_token
+unfolding token_of pattern_token Means
 token-spelled names Register u v e = absurd (register-no (named names u) v e)
 token-spelled names Identifier u v e = cc
-token-spelled names Number u v e = absurd (number-no u v e)
-token-spelled names Hex u v e = absurd (within-no _ (hex (value_of 16 (drop 2 u))) v (λ w k. let z : ◌≡◌ {A = ℕ} 0 1 = cc in omega arith) e)
-token-spelled names Binary u v e = absurd (within-no _ (binary (value_of 2 (drop 2 u))) v (λ w k. let z : ◌≡◌ {A = ℕ} 0 1 = cc in omega arith) e)
+token-spelled names Number u v e = meant-spelled u v (number-means u (identifier v) e)
+token-spelled names Hex u v e = meant-spelled u v (within-means u _ (hex (value_of 16 (drop 2 u))) (identifier v) e refl)
+token-spelled names Binary u v e = meant-spelled u v (within-means u _ (binary (value_of 2 (drop 2 u))) (identifier v) e refl)
 token-spelled names Directive u v e = let z : ◌≡◌ {A = ℕ} 0 1 = cc in absurd (omega arith)
-token-spelled names Mark u v e = absurd (mark-no u v e)
+token-spelled names Mark u v e = meant-spelled u v (mark-means u (identifier v) e)
 
 front-spelled : (names : List Name) (s : List ℕ) (t : Sized) (v : List ℕ) → front names s ≡ some t → t.token ≡ identifier v → Front v s × (0 < length v)
 unfolding front matched sized Within

@@ -5,10 +5,11 @@ use Rattle.std.proofs.Math.Option.{Option, none, some}
 use Rattle.text_lexical.specs.Bytes.{Result, value, refused, digit, name_start, name_part, blank, margin, mark, run}
 use Rattle.text_lexical.specs.Numbers.{minus}
 use Rattle.text_lexical.specs.Names.{Name}
-use Rattle.text_lexical.specs.Promised.{index_of, register_at, whole_meant, whole_for}
+use Rattle.text_lexical.specs.Promised.{index_of, register_at, whole_meant, whole_for, range_meant}
 use Rattle.text_lexical.specs.declared.number.Radix.{Radix}
 use Rattle.text_lexical.specs.declared.number.Radix.TheVariants.{Binary as BinaryRadix, Decimal as DecimalRadix, Hex as HexRadix}
 use Rattle.text_lexical.specs.declared.number.Whole.{Whole}
+use Rattle.text_lexical.specs.declared.number.NumberRange.{NumberRange}
 use Rattle.refusal.specs.Refusals.{refusal_at, answered}
 use Rattle.refusal.specs.declared.refusal.Refusal.{Refusal}
 use Rattle.refusal.specs.declared.refusal.Refusal.TheVariants.{BadToken}
@@ -53,9 +54,9 @@ kind_meant Colon u = colon
 kind_meant LParen u = opening
 kind_meant RParen u = closing
 
--- What is read of a kind, whatever its spelling: the number is in the kind.
-abbrev pub extracted : Kind → Answer Whole Refusal
-extracted k = extract_for (read_number (kind_meant k []))
+-- What is read of a kind as a number of a range, whatever its spelling: the number is in the kind.
+abbrev pub extracted : NumberRange → Kind → Answer Whole Refusal
+extracted r k = extract_for (read_number (range_meant r) (kind_meant k []))
 
 -- The spelling of a token of a text, and the token that it means.
 abbrev pub spelling : List ℕ → Token → List ℕ
@@ -144,19 +145,19 @@ past s from = from + run blank (drop from s)
 unfoldable pub scan_at : List Name → List ℕ → ℕ → Scan
 scan_at names s from = stands_at names s (past s from)
 
--- The whole number of a token that is found, and the place after it; none where no token is found, or one that is no number.
+-- The whole number of a token that is found, and the place after it; none where no token is found, or one that is no number of the range.
 abbrev pub number_with : Answer Whole Refusal → ℕ → Maybe NumberAt
 number_with (Ok w) next = Some (record { number = w; end = next })
 number_with (Err r) next = None
 
-abbrev pub number_of : Scan → Maybe NumberAt
-number_of (Found t next) = number_with (extracted t.kind) next
-number_of Bad = None
-number_of (End e) = None
+abbrev pub number_of : NumberRange → Scan → Maybe NumberAt
+number_of r (Found t next) = number_with (extracted r t.kind) next
+number_of r Bad = None
+number_of r (End e) = None
 
--- The whole number whose token stands at a place, by a set of names.
-unfoldable pub number_at : List Name → List ℕ → ℕ → Maybe NumberAt
-number_at names s at = number_of (token_at names s at)
+-- The whole number of a range whose token stands at a place, by a set of names.
+unfoldable pub number_at : List Name → List ℕ → ℕ → NumberRange → Maybe NumberAt
+number_at names s at r = number_of r (token_at names s at)
 
 -- The length of a token that is found, if it is an Identifier.
 abbrev pub length_with : Kind → ℕ → Maybe ℕ

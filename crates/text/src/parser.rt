@@ -1,25 +1,52 @@
 // Numbers, of tokens and at places of a text, and the record of a line's tokens.
 ghost use Rattle.std.specs.Prelude.{◌≡◌, ◌≤◌, length};
 ghost use Rattle.text_lexical.specs.Names.{present};
+ghost use Rattle.text_lexical.specs.Promised.{range_meant, whole_meant, whole_for, IsRange};
 ghost use Rattle.text.specs.Places.{StartsAt};
-ghost use Rattle.text.specs.Promised.{extracted, number_at, identifier_length, record_at};
+ghost use Rattle.text.specs.Values.{read_decimal, read_pattern};
+ghost use Rattle.text.specs.Promised.{extract_for, extracted, number_at, identifier_length, record_at};
 
 use crate::lexer::{Kind, Scan, Token};
 use crate::reader::Reader;
 use refusal::refusal::Refusal;
-use text_lexical::number::Whole;
+use text_lexical::number::{NumberRange, Whole};
 
-// The whole number that a token means; -0 is 0. Operands and `.config` read their numbers by this function, whose
-// name says so where a `TryFrom` would not.
+// A number that is written in decimals, if it lies in a range.
+#[tactic(auto, unfolding(crate::specs::Values::read_decimal, refusal::specs::Refusals::refusals))]
+fn read_decimal(number: Whole, range: NumberRange) -> Result<Whole, Refusal>
+    requires range { IsRange range }
+    requires settled { number ≡ whole_for (whole_meant number) }
+    ensures { result ≡ extract_for (read_decimal (range_meant range) (whole_meant number)) }
+{
+    if !range.holds(number) {
+        return Err(Refusal::NumberOutOfRange);
+    }
+    Ok(number)
+}
+
+// A number that is written as its bits, if a range has so many.
+#[tactic(auto, unfolding(crate::specs::Values::read_pattern, refusal::specs::Refusals::refusals))]
+fn read_pattern(bits: u64, range: NumberRange) -> Result<Whole, Refusal>
+    requires { IsRange range }
+    ensures { result ≡ extract_for (read_pattern (range_meant range) bits) }
+{
+    if u64::from(range.size()) <= bits {
+        return Err(Refusal::NumberOutOfRange);
+    }
+    Ok(Whole::NotNegative(bits))
+}
+
+// The whole number of a range that a token means; -0 is 0. Operands and `.config` read their numbers by this function, whose name says so
+// where a `TryFrom` would not.
 #[tactic(auto, unfolding(crate::specs::Values::read_number, refusal::specs::Refusals::refusals))]
-pub fn extract_number(kind: Kind) -> Result<Whole, Refusal>
-    ensures { result ≡ extracted kind }
+pub fn extract_number(kind: Kind, range: NumberRange) -> Result<Whole, Refusal>
+    requires { IsRange range }
+    ensures { result ≡ extracted range kind }
 {
     match kind {
-        Kind::Number(magnitude) | Kind::Hex(magnitude) | Kind::Binary(magnitude) => {
-            Ok(Whole::NotNegative(magnitude))
-        }
-        Kind::Negative(magnitude) => Ok(Whole::minus(magnitude)),
+        Kind::Number(magnitude) => read_decimal(Whole::NotNegative(magnitude), range),
+        Kind::Negative(magnitude) => read_decimal(Whole::minus(magnitude), range),
+        Kind::Hex(bits) | Kind::Binary(bits) => read_pattern(bits, range),
         _ => Err(Refusal::NumberExpected),
     }
 }
@@ -31,11 +58,12 @@ pub struct NumberAt {
     pub end: usize,
 }
 
-// The whole number whose token stands at a place, and where the token ends: none where no number stands there, or one that is a bad token.
-// Operands that are read from a line's bytes are found by it.
-pub fn number_at(text: &[u8], at: usize) -> Option<NumberAt>
-    requires { at ≤ length text.now }
-    ensures { result ≡ number_at present text.now at }
+// The whole number of a range whose token stands at a place, and where the token ends: none where no number stands there, or one that is out of
+// the range or a bad token. Operands that are read from a line's bytes are found by it.
+pub fn number_at(text: &[u8], at: usize, range: NumberRange) -> Option<NumberAt>
+    requires in_text { at ≤ length text.now }
+    requires range { IsRange range }
+    ensures { result ≡ number_at present text.now at range }
 {
     if text.len() <= at {
         return None;
@@ -43,8 +71,8 @@ pub fn number_at(text: &[u8], at: usize) -> Option<NumberAt>
     let Scan::Found { token, next } = crate::lexer::number(text, at)? else {
         return None;
     };
-    // Each token that `number` finds is one, so there is always a number.
-    let Ok(number) = extract_number(token.kind) else {
+    // Each token that `number` finds is one, so there is a number unless it is out of the range.
+    let Ok(number) = extract_number(token.kind, range) else {
         return None;
     };
     Some(NumberAt { number, end: next })

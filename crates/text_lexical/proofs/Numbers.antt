@@ -2,6 +2,7 @@
 use mathlib.Core.Path.{◌≡◌, refl, sym, ap, ◌∙◌}
 use Prim.Native.Nat.{ℕ, zero, suc, ◌+◌, ◌-◌, ◌*◌, ◌/◌, ◌%◌, ◌^◌, ◌≤◌, ◌<◌}
 use native.Mathlib.Nat.{div-add-mod', suc-mul, mul-add-mod_self_right, pow-suc, mod-lt, mod-eq_of_lt}
+use native.Mathlib.Numerals.{unary_clauses}
 use native.Mathlib.Omega.{arith}
 use mathlib.Core.Logic.{◌↔◌}
 use mathlib.Core.Bool.{Bool, true, false, true≢false}
@@ -89,6 +90,11 @@ unfolding decimal
 decimal-digits n = decimal_in-digits n n
 
 -- ---- reduction, for any width
+
+-- With a bit more there are twice as many numbers.
+pub twice : (k : ℕ) → 0 < k → 2 ^ k ≡ 2 ^ (k - 1) + 2 ^ (k - 1)
+twice zero h = absurd (let f : ⊥ = omega arith in f)
+twice (suc n) h = simp unary_clauses (omega arith)
 
 pub residue-lt : (k : ℕ) (z : ℤ) → residue k z < 2 ^ k
 unfolding residue

@@ -1,5 +1,5 @@
--- Numbers: the value of digits, reduction modulo a power of two, the signed reading of a field, printed decimals, and
--- numbers as little-endian bytes. Quotations are document 01's.
+-- Numbers: the value of digits, reduction modulo a power of two, the signed reading of a field, ranges, printed decimals, and
+-- numbers as little-endian bytes. Quotations are document 01's, and document 02's where it is named.
 use Rattle.std.specs.Prelude.{ℕ, zero, suc, ◌+◌, ◌-◌, ◌*◌, ◌/◌, ◌%◌, ◌^◌, Bool, true, false, List, [], ◌∷◌, ◌++◌, leb, ltb, ℤ, pos, negsuc}
 
 -- ---- digits
@@ -37,6 +37,26 @@ residue k (negsuc n) = 2 ^ k - suc (n % 2 ^ k)
 unfoldable pub meant_by : Bool → ℕ → ℕ → ℤ
 meant_by false k v = pos v
 meant_by true k v = elim (ltb (v + v) (2 ^ k)) [ true ↦ pos v | false ↦ negsuc (2 ^ k - suc v) ]
+
+-- ---- ranges
+
+-- The numbers of a field: so many bits, and whether they have a sign.
+pub record NumberRange : Type 0 where
+  pub width : ℕ
+  pub signed : Bool
+
+-- Whether a number is one of so many bits with a sign: "signed 17 bits" (document 02, a), "-65,536..65,535" (c);
+unfoldable pub is_signed : ℕ → ℤ → Bool
+is_signed width (pos n) = ltb n (2 ^ (width - 1))
+is_signed width (negsuc n) = ltb n (2 ^ (width - 1))
+
+-- and without one: "0..255" (c).
+unfoldable pub is_unsigned : ℕ → ℤ → Bool
+is_unsigned width (pos n) = ltb n (2 ^ width)
+is_unsigned width (negsuc n) = false
+
+unfoldable pub lies_in : NumberRange → ℤ → Bool
+lies_in r z = elim r.signed [ true ↦ is_signed r.width z | false ↦ is_unsigned r.width z ]
 
 -- ---- printed decimals
 

@@ -1,9 +1,10 @@
 -- What the code's values mean in terms of the definitions, and what its functions promise.
-use Rattle.std.specs.Prelude.{ℕ, suc, ◌+◌, ◌-◌, ◌*◌, ◌%◌, ◌^◌, ◌≡◌, Bool, true, false, List, [], ◌∷◌, map, length, drop, get_or, leb, ltb, ℤ, pos, negsuc}
+use Rattle.std.specs.Prelude.{ℕ, suc, ◌+◌, ◌-◌, ◌*◌, ◌%◌, ◌^◌, ◌<◌, ◌≡◌, Bool, true, false, List, [], ◌∷◌, map, length, drop, get_or, leb, ltb, ℤ, pos, negsuc}
 use Rattle.std.specs.Prelude.{Option as CodeOption, Some, None}
 use Rattle.std.proofs.Math.Option.{Option, none, some}
 use Rattle.text_lexical.specs.Bytes.{digit, hex_digit, binary_digit, name_part, lower, every, before, run}
 use Rattle.text_lexical.specs.Numbers.{digit_value, value_of, minus, residue}
+use Rattle.text_lexical.specs.Numbers.{NumberRange as MeantRange}
 use Rattle.text_lexical.specs.Names.{Name}
 use Rattle.text_lexical.specs.declared.register.Register.{Register}
 use Rattle.text_lexical.specs.declared.register.Register.TheVariants.{R0, R1, R2, R3, R4, R5, R6, R7, R8, R9, R10, R11, R12, R13, R14, R15}
@@ -14,6 +15,7 @@ use Rattle.text_lexical.specs.declared.number.Radix.TheVariants.{Binary, Decimal
 use Rattle.text_lexical.specs.declared.number.Digits.{Digits}
 use Rattle.text_lexical.specs.declared.number.Whole.{Whole}
 use Rattle.text_lexical.specs.declared.number.Whole.TheVariants.{NotNegative, Negative}
+use Rattle.text_lexical.specs.declared.number.NumberRange.{NumberRange}
 
 -- ---- registers
 
@@ -117,3 +119,15 @@ remainder m (negsuc n) = m - suc (n % m)
 pub record Reduced (modulus : ℕ) (z : ℤ) (r : ℕ) : Type 0 where
   pub exact : r ≡ remainder modulus z
   pub at_width : (k : ℕ) → modulus ≡ 2 ^ k → r ≡ residue k z
+
+abbrev pub range_meant : NumberRange → MeantRange
+range_meant r = record { width = r.width; signed = r.signed }
+
+-- How many numbers of a range are below zero: half of them, or none.
+unfoldable pub below_zero : MeantRange → ℕ
+below_zero r = elim r.signed [ true ↦ 2 ^ (r.width - 1) | false ↦ 0 ]
+
+-- A range that has at least one bit, and whose size has room in 32.
+pub record IsRange (r : NumberRange) : Type 0 where
+  pub some_bits : 0 < r.width
+  pub few_bits : r.width < 32

@@ -1,8 +1,8 @@
-// Numbers: digits at a place of a text, their value where it fits 64 bits, whole numbers, and their residues. The place is asked to be within the
-// text, as in `bytes`.
-ghost use Rattle.std.specs.Prelude.{◌≡◌, suc, ◌+◌, ◌*◌, ◌%◌, ◌≤◌, length, pos, nat_abs, None, MatchOption};
-ghost use Rattle.text_lexical.specs.Promised.{base_of, digit_of, digits_at, fitting, whole_meant, whole_for, Reduced};
-ghost use Rattle.text_lexical.specs.Numbers.{minus, is_negative};
+// Numbers: digits at a place of a text, their value where it fits 64 bits, whole numbers, their residues, and ranges. The place is asked to be
+// within the text, as in `bytes`.
+ghost use Rattle.std.specs.Prelude.{◌≡◌, suc, ◌+◌, ◌*◌, ◌%◌, ◌^◌, ◌≤◌, ◌<◌, length, pos, nat_abs, None, MatchOption};
+ghost use Rattle.text_lexical.specs.Promised.{base_of, digit_of, digits_at, fitting, whole_meant, whole_for, Reduced, range_meant, below_zero, IsRange};
+ghost use Rattle.text_lexical.specs.Numbers.{minus, is_negative, lies_in};
 
 // The radix by which digits are read.
 #[derive(Clone, Copy)]
@@ -138,5 +138,44 @@ impl Whole {
             return most - wrapped(self.magnitude() - 1, most);
         }
         wrapped(self.magnitude(), most)
+    }
+}
+
+// The numbers of a field: those of so many bits, half of them below zero if they are signed. A field's place in a word is no matter here.
+#[derive(Clone, Copy)]
+pub struct NumberRange {
+    pub width: u32,
+    pub signed: bool,
+}
+
+impl NumberRange {
+    // How many numbers there are, and so how many patterns of bits.
+    pub fn size(self) -> u32
+        requires { self.width < 32 }
+        ensures { result ≡ 2 ^ self.width }
+    {
+        1 << self.width
+    }
+
+    // How many of them are below zero: half, or none.
+    fn below_zero(self) -> u64
+        requires { IsRange self }
+        ensures { result ≡ below_zero (range_meant self) }
+    {
+        if !self.signed {
+            return 0;
+        }
+        u64::from(self.size()) / 2
+    }
+
+    // Whether a number is one of them.
+    pub fn holds(self, number: Whole) -> bool
+        requires { IsRange self }
+        ensures { result ≡ lies_in (range_meant self) (whole_meant number) }
+    {
+        if number.is_negative() {
+            return number.magnitude() <= self.below_zero();
+        }
+        number.magnitude() < u64::from(self.size()) - self.below_zero()
     }
 }

@@ -11,7 +11,6 @@ use borrow.Author.Tests.{le-leb}
 use Rattle.text_lexical.specs.Names.{Name, present}
 use Rattle.text.specs.Lines.{extended, lines, read_line}
 use Rattle.instruction.specs.Words.{word_of}
-use Rattle.image.specs.Settings.{begin}
 use Rattle.image.specs.Program.{header_size, image_length}
 use Rattle.image.specs.Assembling.{Effect, nothing, sets, codes, faulty, Context, first_context, read_on, context_after, reads_from, reads, words_of, address_in, Assembled, accepted, rejected, reading, fitted, assembling}
 use Rattle.image.specs.Listing.{text_of, listing_fault, written, listing}

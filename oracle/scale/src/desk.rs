@@ -250,16 +250,16 @@ mod tests {
     use super::*;
     use crate::interface::Crate;
 
-    /// The library with a fault: the image's last word has a number that is greater by 4.
-    struct Off;
+    /// One thing that is wrong in what a call leaves.
+    type Fault = fn(&mut Told<8>, &mut [u8]);
+
+    /// The library with a fault.
+    struct Off(Fault);
 
     impl Interface for Off {
         fn assemble(&mut self, source: &[u8], table: &mut [Label], image: &mut [u8]) -> Told<8> {
-            let told = Crate.assemble(source, table, image);
-            let at = HEADER + 4 * (told.1[0] as usize - 1);
-            let word = u32::from_le_bytes(image[at..at + 4].try_into().expect("a word"));
-            // The number of a branch begins at bit 15.
-            image[at..at + 4].copy_from_slice(&word.wrapping_add(4 << 15).to_le_bytes());
+            let mut told = Crate.assemble(source, table, image);
+            self.0(&mut told, image);
             told
         }
 
@@ -272,14 +272,43 @@ mod tests {
         }
     }
 
+    /// The image's last word has a number that is greater by 4.
+    fn four_more(told: &mut Told<8>, image: &mut [u8]) {
+        let at = HEADER + 4 * (told.1[0] as usize - 1);
+        let word = u32::from_le_bytes(image[at..at + 4].try_into().expect("a word"));
+        // The number of a branch begins at bit 15.
+        image[at..at + 4].copy_from_slice(&word.wrapping_add(4 << 15).to_le_bytes());
+    }
+
     #[test]
     fn a_wrong_distance_is_noticed() {
         for source in ["x: beq r1, r2, x", "ecall\nx: ecall\nbgeu r1, r2, x"] {
             let asked = Asked::new(source.as_bytes());
             let (labels, length) = enough(&asked);
             assert!(Desk::new(Crate).assemble(&asked, labels, length).is_ok());
-            let difference = Desk::new(Off).assemble(&asked, labels, length);
+            let difference = Desk::new(Off(four_more)).assemble(&asked, labels, length);
             assert!(difference.is_err_and(|text| text.contains("the image")));
+        }
+    }
+
+    /// As if a number's range were tested before the operands to its left, after those to its right, or
+    /// after a setting's key, or as if it had no line or were seen before its label.
+    #[test]
+    fn a_wrong_refusal_of_a_number_is_noticed() {
+        let faults: [(&str, Fault); 6] = [
+            ("addi r1, x, 70000", |told, _| told.0 = 35),
+            ("lw r1, 70000, r2)", |told, _| told.0 = 20),
+            (".config foo 256", |told, _| told.0 = 9),
+            (".config r1 256", |told, _| told.0 = 35),
+            ("x: addi r1, r0, 70000", |told, _| told.1[1] = 0),
+            ("slli r1, r2, 300", |told, _| told.1[5] = 0),
+        ];
+        for (source, fault) in faults {
+            let asked = Asked::new(source.as_bytes());
+            let (labels, length) = enough(&asked);
+            assert!(Desk::new(Crate).assemble(&asked, labels, length).is_ok());
+            let difference = Desk::new(Off(fault)).assemble(&asked, labels, length);
+            assert!(difference.is_err_and(|text| text.contains("the oracle")));
         }
     }
 }

@@ -19,9 +19,6 @@ use crate::lengths::more;
 /// Of one accepted pair in so many another is made with something falsified, where a byte tells them apart.
 const FALSIFIED: usize = 50;
 
-/// The refusal of a label that is too far from its branch, which is told by all lines together.
-const TOO_FAR: u32 = 34;
-
 /// What the two image buffers hold before the calls, so that a byte which no call writes differs.
 const FILLINGS: [u8; 2] = [0xA5, 0x5A];
 
@@ -204,7 +201,7 @@ fn accepts(source: &str) -> bool {
 }
 
 /// Whether both sources are accepted, each with buffers that suffice, half of them just so; or what differs. Only the
-/// edited source may be refused, and only where the reference refuses its line, or a label is too far.
+/// edited source may be refused, and only where the oracle refuses its line, with the distance in a label's place.
 fn compare<I: Interface>(
     interface: &mut I,
     edit: &Edit,
@@ -218,7 +215,7 @@ fn compare<I: Interface>(
     match answers {
         [Ok(one), Ok(other)] => settle(edit, &one, &other).map(|()| true),
         [Err(number), _] => Err(format!("{number} is given for the first source")),
-        [_, Err(number)] if edit.words[1].is_some() && number != TOO_FAR => {
+        [_, Err(number)] if edit.words[1].is_some() => {
             Err(format!("{number} is given for the edited source"))
         }
         _ => Ok(false),

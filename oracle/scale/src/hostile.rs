@@ -34,15 +34,38 @@ pub fn source(rng: &mut Rng) -> Vec<u8> {
     for _ in 0..rng.below(5) {
         match rng.below(10) {
             0 => aim(rng, &mut source),
+            1 => renumber(rng, &mut source),
             _ => change(rng, &mut source, piece),
         }
     }
     source
 }
 
+/// Whether a byte may stand in a name or a number.
+fn is_part(byte: u8) -> bool {
+    byte.is_ascii_alphanumeric() || byte == b'_'
+}
+
+/// Puts a number about the ends of a range in the place of one of a source, if it has any.
+fn renumber(rng: &mut Rng, source: &mut Vec<u8>) {
+    let begins =
+        |at: &usize| source[*at].is_ascii_digit() && (*at == 0 || !is_part(source[*at - 1]));
+    let digits: Vec<usize> = (0..source.len()).filter(begins).collect();
+    if digits.is_empty() {
+        return;
+    }
+    let digit = rng.pick(&digits);
+    let length = source[digit..]
+        .iter()
+        .take_while(|it| is_part(**it))
+        .count();
+    let signed = digit > 0 && source[digit - 1] == b'-';
+    let number = gen::about_some_end(rng);
+    source.splice(digit - usize::from(signed)..digit + length, number.bytes());
+}
+
 /// Puts a line into a source, or behind its end, that jumps to one of its labels, if it has any.
 fn aim(rng: &mut Rng, source: &mut Vec<u8>) {
-    let is_part = |byte: &u8| byte.is_ascii_alphanumeric() || *byte == b'_';
     let colons: Vec<usize> = (0..source.len()).filter(|at| source[*at] == b':').collect();
     if colons.is_empty() {
         return;
@@ -51,7 +74,7 @@ fn aim(rng: &mut Rng, source: &mut Vec<u8>) {
     let length = source[..colon]
         .iter()
         .rev()
-        .take_while(|it| is_part(it))
+        .take_while(|it| is_part(**it))
         .count();
     let jump = rng.pick(&[
         "\njal ra,",
@@ -115,12 +138,14 @@ fn good_word(rng: &mut Rng) -> u32 {
 
 /// Part of a source.
 fn piece(rng: &mut Rng) -> Vec<u8> {
-    let piece = match rng.below(8) {
+    let piece = match rng.below(10) {
         0 | 1 => rng.pick(&ALPHABET),
         2 => rng.pick(&GOOD_NUMBERS),
         3 => rng.pick(&ODD_NUMBERS),
         4 => rng.pick(&REGISTERS),
         5 => rng.pick(&ROWS).mnemonic,
+        6 => return gen::about_some_end(rng).as_bytes().to_vec(),
+        7 => return gen::numbered_line(rng),
         _ => rng.pick(&PIECES),
     };
     piece.into()

@@ -337,3 +337,21 @@ fn jumps_over(rng: &mut Rng, bytes: usize, name: fn(usize) -> String) -> Vec<u8>
     }
     ended(out, bytes)
 }
+
+#[cfg(test)]
+mod tests {
+    use super::*;
+    use oracle::{answer, Answer};
+
+    #[test]
+    fn every_source_is_accepted() {
+        for kind in KINDS {
+            for seed in 0..20 {
+                let mut rng = Rng::new(seed);
+                let bytes = 100 + rng.below(16_000);
+                let answer = answer(&kind.source(&mut rng, bytes));
+                assert!(matches!(answer, Answer::Accepted { .. }), "{}", kind.name);
+            }
+        }
+    }
+}

@@ -16,7 +16,7 @@ impl Call {
     fn has(self, number: usize) -> bool {
         let of_opening = matches!(number, 10..=13 | 24..=28);
         match self {
-            Call::Assembling => matches!(number, 1..=23 | 33..=34),
+            Call::Assembling => matches!(number, 1..=23 | 33..=35),
             Call::Opening => of_opening,
             Call::Listing => of_opening || (29..=32).contains(&number),
         }
@@ -27,7 +27,7 @@ impl Call {
 pub struct Tally([Row; 1 + LAST]);
 
 /// The last refusal's number.
-const LAST: usize = 34;
+const LAST: usize = 35;
 
 type Row = [u64; CALLS.len()];
 

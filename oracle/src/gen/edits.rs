@@ -1,6 +1,6 @@
 //! How a line that holds an instruction is drawn anew.
 
-use super::kinds::any_instruction;
+use super::kinds::{any_instruction, with_number};
 use super::rng::Rng;
 use super::spelling::{write_line, Token};
 use super::targets::{jump, odd_target};
@@ -20,9 +20,10 @@ pub fn redrawn_line(
     tokens.extend(match rng.below(20) {
         // Blanks and comments alone are others.
         0 | 1 => instruction.iter().map(|token| owned(token)).collect(),
-        // Most of these are refused.
+        // Most of these are refused, and some of the next.
         2 => jump(rng, odd_target),
-        3..=10 if !labels.is_empty() => jump(rng, |rng| owned(rng.pick(labels))),
+        3 => with_number(rng),
+        4..=11 if !labels.is_empty() => jump(rng, |rng| owned(rng.pick(labels))),
         _ => any_instruction(rng),
     });
     let mut out = Vec::new();

@@ -6,7 +6,7 @@ use super::spelling::{
     any_token, idle_directive, instruction, setting as good_setting, write_empty_line, write_line,
     write_tokens, Token, NEAR_MNEMONICS, NEAR_REGISTERS,
 };
-use crate::isa::{Form, Place, Row, KEYS, ROWS};
+use crate::isa::{Place, Row, KEYS, ROWS, SETTING};
 
 pub fn short_line(rng: &mut Rng) -> Vec<u8> {
     // Half of them at full length: the shorter ones are few.
@@ -84,8 +84,10 @@ pub fn near_miss(rng: &mut Rng) -> Vec<u8> {
     if !out.is_empty() && out.last() != Some(&b'\n') {
         out.push(b'\n');
     }
-    let row = rng.pick(&ROWS);
-    let mut tokens = instruction(rng, &row);
+    let mut tokens = match rng.percent(80) {
+        true => any_instruction(rng),
+        false => with_number(rng),
+    };
     if rng.percent(15) {
         tokens.splice(0..0, [label_name(rng, before), ":".into()]);
     }
@@ -130,22 +132,35 @@ fn spoil(rng: &mut Rng, tokens: &mut Vec<Token>) {
 pub fn number(rng: &mut Rng) -> Vec<u8> {
     let mut out = Vec::new();
     for _ in 0..1 + rng.below(2) {
-        let text = numbers::any(rng);
-        let tokens = match rng.below(4) {
-            0 => vec![".config".into(), rng.pick(&KEYS).into(), text],
-            _ => with_number(rng, text),
+        let mut tokens = match rng.below(4) {
+            0 => {
+                let number = numbers::any_for(rng, SETTING);
+                vec![".config".into(), rng.pick(&KEYS).into(), number]
+            }
+            _ => with_number(rng),
         };
+        if rng.percent(10) {
+            spoil(rng, &mut tokens);
+        }
         write_line(rng, &mut out, &tokens);
     }
     out
 }
 
-/// An instruction with this number.
-fn with_number(rng: &mut Rng, text: Token) -> Vec<Token> {
-    let row = loop {
+/// A line with an instruction whose number may not fit.
+pub fn numbered_line(rng: &mut Rng) -> Vec<u8> {
+    let tokens = with_number(rng);
+    let mut out = Vec::new();
+    write_line(rng, &mut out, &tokens);
+    out
+}
+
+/// An instruction with a number that may not fit.
+pub fn with_number(rng: &mut Rng) -> Vec<Token> {
+    let (row, field) = loop {
         let row: Row = rng.pick(&ROWS);
-        if row.form != Form::Registers && row.form != Form::Bare {
-            break row;
+        if let Some(field) = row.form.field() {
+            break (row, field);
         }
     };
     let mut tokens = instruction(rng, &row);
@@ -154,7 +169,7 @@ fn with_number(rng: &mut Rng, text: Token) -> Vec<Token> {
         .places()
         .iter()
         .position(|place| *place == Place::Number);
-    tokens[1 + place.expect("the form has a number")] = text;
+    tokens[1 + place.expect("the form has a number")] = numbers::any_for(rng, field);
     tokens
 }
 
@@ -221,9 +236,12 @@ pub fn setting(rng: &mut Rng) -> Vec<u8> {
                     "(",
                 ];
                 tokens[1] = rng.pick(&keys).into();
+                if rng.percent(30) {
+                    tokens[2] = numbers::about_an_end(rng, SETTING);
+                }
             }
             2 => tokens[2] = numbers::any(rng),
-            3 => tokens[2] = numbers::good(rng),
+            3 => tokens[2] = numbers::about_an_end(rng, SETTING),
             4 | 5 => tokens[2] = (rng.below(40) as i64 - 5).to_string().into(),
             6 => tokens[2] = any_token(rng),
             7 => spoil(rng, &mut tokens),

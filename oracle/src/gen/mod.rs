@@ -8,8 +8,8 @@ mod spelling;
 mod targets;
 
 pub use edits::redrawn_line;
-pub use kinds::damaged_image;
-pub use numbers::{GOOD_NUMBERS, ODD_NUMBERS};
+pub use kinds::{damaged_image, numbered_line};
+pub use numbers::{about_some_end, GOOD_NUMBERS, ODD_NUMBERS};
 pub use rng::Rng;
 
 #[derive(Clone, Copy, Debug, PartialEq, Eq)]
@@ -20,7 +20,8 @@ pub enum Kind {
     Program,
     /// A program in which one line has a token too many, too few, or wrong.
     NearMiss,
-    /// Numbers at their limits and in odd forms, as operands and as settings.
+    /// Numbers at the ends of their ranges, at a token's limits and in odd forms, as operands and as
+    /// settings.
     Number,
     /// Labels: repeated, alone, before instructions and before other things.
     Label,

@@ -1,10 +1,13 @@
-//! Numbers: at the limits of every width, and in the forms that are nearly numbers.
+//! Numbers: of every field, at the ends of its range and one past them, at the limits of what a token
+//! means, and in the forms that are nearly numbers.
 
 use std::borrow::Cow;
+use std::ops::RangeInclusive;
 
 use super::rng::Rng;
+use crate::isa::{Field, Form};
 
-/// Each is one token, within its limit.
+/// Each is one token, within a token's limit.
 #[rustfmt::skip]
 pub const GOOD_NUMBERS: [&str; 78] = [
     "0", "-0", "00", "-00", "007", "-007", "1", "-1", "2", "9", "10", "15", "16", "17", "30", "31",
@@ -33,7 +36,88 @@ pub const ODD_NUMBERS: [&str; 44] = [
     "0x 1", "0 x1", "0o17", "#1", "1#", "$1", "'1'", "1,000",
 ];
 
-/// The text of a number that a line takes.
+/// A base in which a number is written.
+#[derive(Clone, Copy)]
+enum Base {
+    Decimal,
+    Hex,
+    Binary,
+}
+
+impl Base {
+    fn any(rng: &mut Rng) -> Base {
+        rng.pick(&[Base::Decimal, Base::Decimal, Base::Hex, Base::Binary])
+    }
+
+    /// The numbers of a field.
+    fn range(self, field: Field) -> RangeInclusive<i64> {
+        match self {
+            Base::Decimal => field.decimals(),
+            Base::Hex | Base::Binary => 0..=*field.patterns().end() as i64,
+        }
+    }
+
+    /// A number's text, now and then with leading zeros. Only a decimal one has a sign.
+    fn spelled(self, rng: &mut Rng, number: i64) -> String {
+        let zeros = rng.pick(&["", "", "", "", "0", "000"]);
+        match self {
+            Base::Decimal => {
+                let signed = number < 0 || number == 0 && rng.percent(20);
+                let sign = if signed { "-" } else { "" };
+                format!("{sign}{zeros}{}", number.unsigned_abs())
+            }
+            Base::Hex if rng.percent(50) => format!("0x{zeros}{number:X}"),
+            Base::Hex => format!("0x{zeros}{number:x}"),
+            Base::Binary => format!("0b{zeros}{number:b}"),
+        }
+    }
+}
+
+/// The text of a number that is not negative, in any base.
+pub fn spelled(rng: &mut Rng, number: i64) -> Cow<'static, str> {
+    Base::any(rng).spelled(rng, number).into()
+}
+
+/// A number that fits a field.
+pub fn fitting(rng: &mut Rng, field: Field) -> Cow<'static, str> {
+    let base = Base::any(rng);
+    let (least, most) = base.range(field).into_inner();
+    let number = match rng.below(4) {
+        0 => rng.pick(&[least, most]),
+        1 => (rng.below(600) as i64 - 300).clamp(least, most),
+        _ => least + (rng.bits() % (most - least + 1) as u64) as i64,
+    };
+    base.spelled(rng, number).into()
+}
+
+/// A number at an end of a field's range, next to it, or one past it.
+pub fn about_an_end(rng: &mut Rng, field: Field) -> Cow<'static, str> {
+    let base = Base::any(rng);
+    let (least, most) = base.range(field).into_inner();
+    let end = match base {
+        Base::Decimal => rng.pick(&[least, most]),
+        Base::Hex | Base::Binary => most,
+    };
+    let number = end - 1 + rng.below(3) as i64;
+    base.spelled(rng, number).into()
+}
+
+/// A number about the ends of some form's field.
+pub fn about_some_end(rng: &mut Rng) -> Cow<'static, str> {
+    let form = rng.pick(&[Form::Immediate, Form::Shift, Form::Jump]);
+    about_an_end(rng, form.field().expect("it has a number"))
+}
+
+/// A number for a field that may not fit it, or what looks like a number.
+pub fn any_for(rng: &mut Rng, field: Field) -> Cow<'static, str> {
+    match rng.below(8) {
+        0 | 1 => any(rng),
+        2..=4 => about_an_end(rng, field),
+        _ => fitting(rng, field),
+    }
+}
+
+/// The text of a number of any size.
 pub fn good(rng: &mut Rng) -> Cow<'static, str> {
     match rng.below(8) {
         0 => rng.pick(&GOOD_NUMBERS).into(),

@@ -4,7 +4,7 @@ use std::borrow::Cow;
 
 use super::numbers;
 use super::rng::Rng;
-use crate::isa::{Place, Row, KEYS, REGISTERS};
+use crate::isa::{Place, Row, KEYS, REGISTERS, SETTING};
 
 pub type Token = Cow<'static, str>;
 
@@ -29,7 +29,8 @@ pub fn any_token(rng: &mut Rng) -> Token {
         3 | 4 => rng.pick(&REGISTERS).into(),
         5 => rng.pick(&NEAR_REGISTERS).into(),
         6 => numbers::any(rng),
-        7 => numbers::good(rng),
+        // It fits every field.
+        7 => numbers::fitting(rng, SETTING),
         8 => rng
             .pick(&[".config", ".text", ".r1", "._", ".Config", "."])
             .into(),
@@ -66,7 +67,10 @@ pub fn instruction(rng: &mut Rng, row: &Row) -> Vec<Token> {
     for place in row.form.places() {
         tokens.push(match place {
             Place::Register => rng.pick(&REGISTERS).into(),
-            Place::Number => numbers::good(rng),
+            Place::Number => {
+                let field = row.form.field().expect("its number has a field");
+                numbers::fitting(rng, field)
+            }
             Place::Mark(mark) => (*mark).into(),
         });
     }
@@ -81,15 +85,8 @@ pub fn setting(rng: &mut Rng) -> Vec<Token> {
         1 => 1 + rng.below(4),
         _ => 1 + rng.below(2),
     };
-    // A setting is taken modulo 256, so each value has many spellings.
-    let turns = rng.below(3) * 256;
-    let value = match rng.below(4) {
-        0 => format!("-{}", 256 + turns - value),
-        1 => format!("0x{:x}", value + turns),
-        2 => format!("{}", value + turns),
-        _ => format!("{value}"),
-    };
-    vec![".config".into(), KEYS[key].into(), value.into()]
+    let value = numbers::spelled(rng, value as i64);
+    vec![".config".into(), KEYS[key].into(), value]
 }
 
 /// A directive that does nothing, with anything behind it that is not a bad token.

@@ -1,6 +1,6 @@
 //! How the sources are made in which instructions name labels.
 
-use super::kinds::any_instruction;
+use super::kinds::{any_instruction, with_number};
 use super::rng::Rng;
 use super::spelling::{any_token, instruction, write_line, Token, NEAR_REGISTERS};
 use crate::isa::{Form, Place, Row, REGISTERS, ROWS};
@@ -72,6 +72,7 @@ fn content(rng: &mut Rng, names: &[&'static str], odd: bool) -> Vec<Token> {
         4 | 5 => any_instruction(rng),
         6 if odd => misplaced(rng, names),
         7 if odd => jump(rng, |rng| odd_target(rng)),
+        8 if odd => with_number(rng),
         _ => jump(rng, |rng| rng.pick(names).into()),
     }
 }

@@ -122,7 +122,8 @@ impl Run {
         }
     }
 
-    /// Sources up to 16 KB, as they are, with a line repeated, or with a byte changed.
+    /// Sources up to 16 KB, as they are, with a line repeated, with one more instruction whose number may
+    /// not fit, or with a byte changed.
     fn large_sources(&mut self, seeds: Range<u64>) {
         for kind in large::KINDS {
             self.begin(kind.name);
@@ -156,7 +157,16 @@ impl Run {
     fn limits(&mut self) {
         self.begin("about the limits");
         for words in MOST_WORDS - 1..=MOST_WORDS + 1 {
-            for last in ["", "last:", "last: ecall", "$", "l7:", "jal"] {
+            for last in [
+                "",
+                "last:",
+                "last: ecall",
+                "$",
+                "l7:",
+                "jal",
+                "addi r1, r0, 65536",
+                "last: slli r1, r2, -1",
+            ] {
                 self.source(&many_words(words, last), words as u64);
             }
         }
@@ -284,9 +294,9 @@ fn damaged(rng: &mut Rng, image: &[u8]) -> Vec<u8> {
     damaged
 }
 
-/// Nothing, a line repeated at the end, or a byte changed.
+/// Nothing, a line repeated at the end, one more instruction whose number may not fit, or a byte changed.
 fn spoil(rng: &mut Rng, source: &mut Vec<u8>) {
-    match rng.below(3) {
+    match rng.below(4) {
         0 => {
             let lines: Vec<&[u8]> = source.split(|byte| *byte == b'\n').collect();
             let line = rng.pick(&lines).to_vec();
@@ -296,6 +306,12 @@ fn spoil(rng: &mut Rng, source: &mut Vec<u8>) {
         1 => {
             let at = rng.below(source.len());
             source[at] = rng.below(128) as u8;
+        }
+        2 => {
+            let ends = (0..source.len()).filter(|at| source[*at] == b'\n');
+            let starts: Vec<usize> = [0].into_iter().chain(ends.map(|at| at + 1)).collect();
+            let at = rng.pick(&starts);
+            source.splice(at..at, gen::numbered_line(rng));
         }
         _ => {}
     }

@@ -12,5 +12,5 @@ returns-then-ne c = c.if-ne.true ∙ reach-any c.args.form (whole_meant c.args.d
 pub returns-else-ne : goal.returns-else-ne
 returns-else-ne c =
     let e : c.args.form ≡ Branch = search rules in
-    let w : c.layout.result.highest.width ≡ 17 = rw (c.layout.ensures, e) refl in
+    let w : c.range.result ≡ record { width = 17; signed = true } = rw (c.range.ensures.value, e) refl in
     rw w at c.holds.ensures ∙ reach-branch c.args.form (whole_meant c.args.distance) e

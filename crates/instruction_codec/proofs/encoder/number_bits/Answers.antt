@@ -9,12 +9,12 @@ pub returns-clause-value : goal.returns-clause-value
 returns-clause-value c =
     let f = c.args.field in
     let z = whole_meant c.args.number in
-    let e : c.from-most.result ≡ 2 ^ f.width - 1 = omega (arith, c.from-most.ensures, c.size.ensures) in
-    rw (residue_kept f.width c.from-most.result c.residue.result z e c.residue.ensures) (reduced_kept f z c.requires)
+    let e : c.from-most.result ≡ 2 ^ f.range.width - 1 = omega (arith, c.from-most.ensures, c.size.ensures) in
+    rw (residue_kept f.range.width c.from-most.result c.residue.result z e c.residue.ensures) (reduced_kept f z c.requires)
 
 pub returns-clause-room : goal.returns-clause-room
 returns-clause-room c =
     let f = c.args.field in
     let z = whole_meant c.args.number in
-    let e : c.from-most.result ≡ 2 ^ f.width - 1 = omega (arith, c.from-most.ensures, c.size.ensures) in
-    rw (residue_kept f.width c.from-most.result c.residue.result z e c.residue.ensures, reduced_kept f z c.requires) (reduced_fits f z c.requires)
+    let e : c.from-most.result ≡ 2 ^ f.range.width - 1 = omega (arith, c.from-most.ensures, c.size.ensures) in
+    rw (residue_kept f.range.width c.from-most.result c.residue.result z e c.residue.ensures, reduced_kept f z c.requires) (reduced_fits f z c.requires)

@@ -4,7 +4,7 @@ use Rattle.std.specs.Prelude.{Err}
 use lib.ListN.{get_or, drop}
 use Rattle.instruction.specs.Table.{places}
 use Rattle.instruction.specs.Operands.{takes_label}
-use Rattle.instruction.specs.Forms.{operand_list}
+use Rattle.instruction.specs.Forms.{operand_list, range_of}
 use Rattle.instruction.specs.declared.form.Operand.TheVariants.{RegisterComma}
 use Rattle.instruction_operands.specs.Sources.{form_of}
 use Rattle.instruction_operands.proofs.Sources.{MarkAhead, up-begin, next-up, room-ahead, register-next, amount-next, operand-refused, mark-none, mark-next, mark-refused, up-end}
@@ -19,8 +19,9 @@ pub returns-in_err-amount : goal.returns-in_err-amount
 returns-in_err-amount g c =
     let passed : c.from_residual.result ≡ Err c.in_err-amount.field-0.0 = search rules in
     let label = c.takes_label-label.ensures ∙ ap takes_label c.form-form.ensures in
+    let range = c.range.ensures.value ∙ ap range_of c.form-form.ensures in
     let q = next-up c.operands-operand-items.result.now c.loop-operand.operand-index RegisterComma c.loop-operand-test.true c.loop-operand.invariant in
-    rw passed (operand-refused g.met.S.OperandSource.laws g.S.OperandSource.Stands q (sym c.is_number.ensures ∙ c.if-is_number.true) (rw label at c.in_err-amount.ensures))
+    rw passed (operand-refused g.met.S.OperandSource.laws g.S.OperandSource.Stands q (sym c.is_number.ensures ∙ c.if-is_number.true) (rw (label, range) at c.in_err-amount.ensures))
 
 pub returns-in_err-registers : goal.returns-in_err-registers
 returns-in_err-registers g c =
@@ -45,11 +46,11 @@ returns-in_err-mark g c =
     let passed : c.from_residual-in_err-mark.result ≡ Err c.in_err-mark.field-0.0 = search rules in
     let label = c.takes_label-label.ensures ∙ ap takes_label c.form-form.ensures in
     let q = next-up c.operands-operand-items.result.now c.loop-operand.operand-index RegisterComma c.loop-operand-test.true c.loop-operand.invariant in
-    let ahead : MarkAhead O.Took O.Spells O.Stands (takes_label f) (places f) c.args.source.now c.if-is_number.source c.if-is_number.count c.if-is_number.registers c.if-is_number.amount
+    let ahead : MarkAhead O.Took O.Spells O.Stands (range_of f) (takes_label f) (places f) c.args.source.now c.if-is_number.source c.if-is_number.count c.if-is_number.registers c.if-is_number.amount
     (get_or c.operands-operand-items.result.now c.loop-operand.operand-index RegisterComma) (drop (c.loop-operand.operand-index + 1) c.operands-operand-items.result.now)
     = elim c.if-is_number.branch [
       | then-is_number+in_ok-amount w ↦ rw (w.source-is, w.registers-is, w.count-is, w.amount-is)
-          (amount-next L O.Stands w.in_ok-amount.amount q (sym c.is_number.ensures ∙ w.if-is_number.true) (rw label at w.in_ok-amount.ensures))
+          (amount-next L O.Stands w.in_ok-amount.amount q (sym c.is_number.ensures ∙ w.if-is_number.true) (rw (label, w.range.ensures.value ∙ ap range_of c.form-form.ensures) at w.in_ok-amount.ensures))
       | else-is_number+in_ok-registers w ↦ rw (w.source-is, w.registers-is, w.count-is, w.amount-is)
           (register-next L O.Stands w.in_ok-registers.field-0 q (sym c.is_number.ensures ∙ w.if-is_number.false) w.in_ok-registers.ensures)
     ] in
@@ -62,11 +63,11 @@ loop-operand-preserved g c =
     let f = form_of c.args.mnemonic in
     let label = c.takes_label-label.ensures ∙ ap takes_label c.form-form.ensures in
     let q = next-up c.operands-operand-items.result.now c.loop-operand.operand-index RegisterComma c.loop-operand-test.true c.loop-operand.invariant in
-    let ahead : MarkAhead O.Took O.Spells O.Stands (takes_label f) (places f) c.args.source.now c.if-is_number.source c.if-is_number.count c.if-is_number.registers c.if-is_number.amount
+    let ahead : MarkAhead O.Took O.Spells O.Stands (range_of f) (takes_label f) (places f) c.args.source.now c.if-is_number.source c.if-is_number.count c.if-is_number.registers c.if-is_number.amount
     (get_or c.operands-operand-items.result.now c.loop-operand.operand-index RegisterComma) (drop (c.loop-operand.operand-index + 1) c.operands-operand-items.result.now)
     = elim c.if-is_number.branch [
       | then-is_number+in_ok-amount w ↦ rw (w.source-is, w.registers-is, w.count-is, w.amount-is)
-          (amount-next L O.Stands w.in_ok-amount.amount q (sym c.is_number.ensures ∙ w.if-is_number.true) (rw label at w.in_ok-amount.ensures))
+          (amount-next L O.Stands w.in_ok-amount.amount q (sym c.is_number.ensures ∙ w.if-is_number.true) (rw (label, w.range.ensures.value ∙ ap range_of c.form-form.ensures) at w.in_ok-amount.ensures))
       | else-is_number+in_ok-registers w ↦ rw (w.source-is, w.registers-is, w.count-is, w.amount-is)
           (register-next L O.Stands w.in_ok-registers.field-0 q (sym c.is_number.ensures ∙ w.if-is_number.false) w.in_ok-registers.ensures)
     ] in

@@ -10,23 +10,23 @@ use Rattle.text.proofs.Numbers.{number-is, no-number-is, no-token, no-number, nu
 use Rattle.text.proofs.parser.number_at.Goals as goal
 
 pub returns-then-text-at : goal.returns-then-text-at
-returns-then-text-at c = number_none present c.args.text.now c.args.at present-naming (λ l. absurd (omega arith))
+returns-then-text-at c = number_none present c.args.text.now c.args.at c.args.range present-naming (λ l. absurd (omega arith))
 
 pub returns-in_err-token : goal.returns-in_err-token
-returns-in_err-token c = c.from_residual.ensures ∙ no-number-is present c.args.text.now c.args.at present-naming (sym c.in_err-token.was ∙ c.number.ensures)
+returns-in_err-token c = c.from_residual.ensures ∙ no-number-is present c.args.text.now c.args.at c.args.range present-naming (sym c.in_err-token.was ∙ c.number.ensures)
 
 pub returns-in_default : goal.returns-in_default
-returns-in_default c = no-token _ c.in_default.not-Found ∙ number-is present c.args.text.now c.args.at present-naming _ (sym c.in_ok-token.was ∙ c.number.ensures)
+returns-in_default c = no-token c.args.range _ c.in_default.not-Found ∙ number-is present c.args.text.now c.args.at c.args.range present-naming _ (sym c.in_ok-token.was ∙ c.number.ensures)
 
 pub returns-in_default-extract_number : goal.returns-in_default-extract_number
 returns-in_default-extract_number c =
     no-number c.in-Found.next c.extract_number.result c.in_default-extract_number.not-Ok
     ∙ ap (λ (x : Answer Whole Refusal). number_with x c.in-Found.next) c.extract_number.ensures
-    ∙ ap number_of (sym c.in-Found.is)
-    ∙ number-is present c.args.text.now c.args.at present-naming _ (sym c.in_ok-token.was ∙ c.number.ensures)
+    ∙ ap (number_of c.args.range) (sym c.in-Found.is)
+    ∙ number-is present c.args.text.now c.args.at c.args.range present-naming _ (sym c.in_ok-token.was ∙ c.number.ensures)
 
 pub returns : goal.returns
 returns c =
     ap (λ (x : Answer Whole Refusal). number_with x c.in-Found.next) (sym c.in-Ok.is ∙ c.extract_number.ensures)
-    ∙ ap number_of (sym c.in-Found.is)
-    ∙ number-is present c.args.text.now c.args.at present-naming _ (sym c.in_ok-token.was ∙ c.number.ensures)
+    ∙ ap (number_of c.args.range) (sym c.in-Found.is)
+    ∙ number-is present c.args.text.now c.args.at c.args.range present-naming _ (sym c.in_ok-token.was ∙ c.number.ensures)

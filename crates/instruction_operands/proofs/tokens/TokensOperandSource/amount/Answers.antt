@@ -18,7 +18,7 @@ returns-in_err-token c =
 pub returns-then-eq : goal.returns-then-eq
 returns-then-eq c =
     let (text, left) = c.in_ok-token.ensures in
-    label-next c.args.self.now c.take.new.self c.in_ok-token.token text left c.args.label c.if-label.true (identifier-is c.in_ok-token.token.kind (sym c.eq.ensures ∙ c.if-eq.true))
+    label-next c.args.self.now c.take.new.self c.in_ok-token.token text left c.args.range c.args.label c.if-label.true (identifier-is c.in_ok-token.token.kind (sym c.eq.ensures ∙ c.if-eq.true))
 
 pub returns-in_err-number : goal.returns-in_err-number
 returns-in_err-number c =
@@ -28,9 +28,9 @@ returns-in_err-number c =
       | else-label-via-else-label w ↦ λ l e. true≢false (sym l ∙ w.if-label.false)
     ] in
     let passed : c.from_residual-in_err-number.result ≡ Err c.in_err-number.field-0.0 = search rules in
-    rw passed (amount-refused c.args.self.now c.take.new.self c.in_ok-token.token text left c.args.label c.in_err-number.field-0.0 (sym c.in_err-number.was ∙ c.extract_number.ensures) other)
+    rw passed (amount-refused c.args.self.now c.take.new.self c.in_ok-token.token text left c.args.range c.args.label c.in_err-number.field-0.0 (sym c.in_err-number.was ∙ c.extract_number.ensures) other)
 
 pub returns : goal.returns
 returns c =
     let (text, left) = c.in_ok-token.ensures in
-    number-next c.args.self.now c.take.new.self c.in_ok-token.token text left c.args.label c.in_ok-number.number (sym c.in_ok-number.was ∙ c.extract_number.ensures)
+    number-next c.args.self.now c.take.new.self c.in_ok-token.token text left c.args.range c.args.label c.in_ok-number.number (sym c.in_ok-number.was ∙ c.extract_number.ensures)
