@@ -524,6 +524,13 @@ module _ {r : NumberRange} {spells : Target → List ℕ} {label : Bool} {all : 
       → (p : Place) × (ps : List Place) × MarkPlace p m.byte m.refusal × ((ts : List Token) (k : ℕ) → read_operands label (p ∷ ps) ts ≡ refused k → read_operands label all (pre ++ ts) ≡ refused k)
   marking-refuses q e = let (p, (m, y)) = mark-ahead q e in (p, _, m, partly-refuses y)
 
+  -- There is a place for the token of each operand that is left, and for that of the mark after it.
+  pub operand-within : Reading r spells label all pre count rs a (o ∷ os) → length pre < length all
+  operand-within q = let n = next_of q.ahead in omega (arith, q.partly.sum, ap length n.splits)
+
+  pub mark-within : {m : Mark} → Marking r spells label all pre count rs a o os → mark_of o ≡ Some m → length pre < length all
+  mark-within q e = let (p, (m, y)) = mark-ahead q e in omega (arith, y.sum)
+
   -- There is room for a register.
   pub register-room : Reading r spells label all pre count rs a (o ∷ os) → is_number o ≡ false → count < 3
   register-room q letter =
