@@ -25,10 +25,10 @@ pub struct Gap {
 }
 
 // The index of the label that is spelled as a part of the source, among the first `count` entries of a table, or where it would be entered.
-// This is `Labels::find` on the parts of a `Labels`: table and roots are shared here, since nothing is changed. The part of the source is
-// given by two numbers, since a label would be passed through memory; it is compiled in line for the same reason.
+// This is `Labels::find` on the parts of a `Labels`, for whoever is lent them apart: table and roots are shared here, since nothing is changed.
+// The part of the source is given by two numbers, since a label would be passed through memory; it is compiled in line for the same reason.
 #[inline(always)]
-fn find(
+pub fn find(
     source: &[u8],
     table: &[Label],
     roots: &[u32],
