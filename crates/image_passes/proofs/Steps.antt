@@ -6,7 +6,7 @@ use mathlib.Core.Bool.{Bool, true, false, ◌||◌}
 use mathlib.Core.Option.{Option, none, some}
 use mathlib.Core.List.{List}
 use lib.Dec.{ltb}
-use borrow.Author.Tests.{ltb-true}
+use borrow.Author.Tests.{le-ltb, ltb-true}
 use Rattle.std.specs.Prelude.{Result, Ok, Err}
 use Rattle.refusal.specs.Refusals.{number_of, refusal_at}
 use Rattle.refusal.specs.declared.refusal.Refusal.{Refusal}
@@ -39,6 +39,11 @@ use Rattle.image_passes.proofs.Reaching.{comes_to}
 -- A refusal is the one with its number.
 pub refusal_back : (r : Refusal) → refusal_at (number_of r) ≡ r
 refusal_back r = number-back r
+
+-- After 32,768 words one more is refused.
+pub word-many : (names : Bool) (f : Found) → 32768 ≤ f.words → Err TooManyWords ≡ one_more names f
+unfolding one_more most_words
+word-many names f h = rw (one_more, le-ltb f.words 32768 h)
 
 -- A state after a line that is not refused, its label aside, where there are so many words then.
 abbrev pub grown : State → MeantEffect → ℕ → State
