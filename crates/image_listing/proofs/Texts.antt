@@ -6,8 +6,8 @@ use mathlib.Core.List.{List, [], ◌∷◌, ◌++◌, map, flat_map, append_asso
 use Prim.Native.Nat.{ℕ, zero, suc, ◌+◌, ◌-◌, ◌*◌, ◌/◌, ◌^◌, ◌≤◌, ◌<◌}
 use native.Mathlib.Numerals.{add-one}
 use native.Mathlib.Omega.{arith}
-use lib.ListN.{length, take, drop, get_or, get_or-map, length-map, length-append, drop_of_length-le}
-use lib.Seq.{drop-cons}
+use lib.ListN.{length, take, drop, get_or, get_or-map, length-map, length-append, length-drop, drop_of_length-le}
+use lib.Seq.{drop-cons, drop-drop}
 use borrow.Author.Tests.{le-leb, lt-leb}
 use Rattle.std.specs.Prelude.{Ok, Err, Result as Answer}
 use Rattle.std.specs.Int.{from_le_bytes, w32}
@@ -22,7 +22,7 @@ use Rattle.instruction.specs.Text.{instruction_text}
 use Rattle.instruction.proofs.Decoding.{decoded-fits, decoded-reduced}
 use Rattle.instruction.proofs.Text.{text-length}
 use Rattle.image.specs.Settings.{Settings, limb_bits_key, data_limbs_key, addr_limbs_key}
-use Rattle.image.specs.Program.{header_size, Header, header_of, code_of, data_of}
+use Rattle.image.specs.Program.{header_size, Header, number_at, header_of, code_of, data_of}
 use Rattle.image.specs.Opening.{Opened as MeantOpened, opening_fault, opening}
 use Rattle.image.specs.Listing.{words_of, line_text, setting_text, settings_text, word_text, text_of}
 use Rattle.image.specs.Listing.{Listing as Answered, refusal, is_usual, words_fault, listing_fault, rejected, written, listing}
@@ -57,6 +57,32 @@ chunked (suc k) (a ∷ []) h = absurd (omega arith)
 chunked (suc k) (a ∷ b ∷ []) h = absurd (omega arith)
 chunked (suc k) (a ∷ b ∷ c ∷ []) h = absurd (omega arith)
 chunked (suc k) (a ∷ b ∷ c ∷ d ∷ s) h = ap₂ (λ (x : ℕ) (y : List ℕ). x ∷ y) (sym (from-four a b c d)) (chunked k s (omega arith))
+
+-- The first word of bytes, and the others.
+words-next : (x : List ℕ) → 4 ≤ length x → words_of x ≡ unlittle (take 4 x) ∷ words_of (drop 4 x)
+unfolding words_of
+words-next [] h = absurd (omega arith)
+words-next (a ∷ []) h = absurd (omega arith)
+words-next (a ∷ b ∷ []) h = absurd (omega arith)
+words-next (a ∷ b ∷ c ∷ []) h = absurd (omega arith)
+words-next (a ∷ b ∷ c ∷ d ∷ x) h = refl
+
+-- The word at a place, and those behind it.
+pub words-from : (b : List ℕ) (at : ℕ) → at + 4 ≤ length b → words_of (drop at b) ≡ number_at at 4 b ∷ words_of (drop (at + 4) b)
+unfolding number_at
+words-from b at h =
+    words-next (drop at b) (omega (arith, length-drop at b))
+    ∙ ap (λ (x : List ℕ). unlittle (take 4 (drop at b)) ∷ words_of x) (drop-drop 4 at b)
+
+-- At the end there is none.
+pub words-end : (b : List ℕ) (at : ℕ) → length b ≤ at → words_of (drop at b) ≡ []
+unfolding words_of
+words-end b at h = ap words_of (drop_of_length-le b h)
+
+-- A word that is refused has no line.
+pub word_none : (w n : ℕ) → instruction_of w ≡ refused n → word_text w ≡ []
+unfolding word_text
+word_none w n e = rw (word_text, e)
 
 -- ---- the lines of words, put
 
@@ -153,7 +179,7 @@ word-bound w = go (instruction_of w) refl
     go (value i) e =
         let l = text-length i (decoded-fits w i e) (decoded-reduced w i e) in
         omega (arith, ap length (word_line w i e), line-length (instruction_text i), l)
-    go (refused n) e = let l : word_text w ≡ [] = rw (word_text, e) refl in omega (arith, ap length l)
+    go (refused n) e = omega (arith, ap length (word_none w n e))
 
 words-bound : (ws : List ℕ) → length (flat_map word_text ws) ≤ 22 * length ws
 unfolding flat_map
