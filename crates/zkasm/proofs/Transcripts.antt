@@ -34,7 +34,7 @@ use Rattle.zkasm.proofs.Printing.{output_long}
 
 -- ---- one read
 
-failure-none : (number : ℤ) → count_of (failure_of number) ≡ 0
+pub failure-none : (number : ℤ) → count_of (failure_of number) ≡ 0
 unfolding failure_of count_of
 failure-none (pos n) = go (eqb n interruption)
   where
