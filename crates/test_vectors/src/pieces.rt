@@ -79,7 +79,9 @@ fn put_repeated<S: Spelling>(
 }
 
 // Reads the bytes of all lines from a place on into the room, and answers them. There are fewer lines than bytes in the list.
-pub(crate) fn put_lines<'a, S: Spelling>(cursor: &mut Cursor, room: &'a mut [u8]) -> &'a [u8] {
+pub(crate) fn put_lines<'a, S: Spelling>(cursor: &mut Cursor, room: &'a mut [u8]) -> &'a [u8]
+    ensures { length result.now ≤ length room.old }
+{
     let mut filled = 0;
     for _ in 0..cursor.list.len() {
         if cursor.has_tag(S::TAG) {
