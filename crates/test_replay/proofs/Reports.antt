@@ -56,6 +56,30 @@ module _ {old new : Report} {text : List ℕ} (p : Put old text new) where
 pub put-none : (r : Report) → Put r [] r
 put-none r = record { holds = refl; ends = sym (rw (add-zero r.end) (min-eq_left r.within)); same_room = refl }
 
+-- A report of a place past its room's end, as `Report::at` makes one.
+pub put-past : (r : Report) (at : ℕ) (text : List ℕ) → r.end ≡ min at (length r.room.now) → length r.room.now ≤ at → Put r text r
+put-past r at text e h = record { holds = sym (sets-out r.room.now r.end text (omega (arith, e))); ends = omega (arith, e); same_room = refl }
+
+-- A text that was put into a report which `Report::at` made of a room and any place, past its end too: what the room then has, by room and
+-- place, and where the text ends, within the room, said twice, as a use of the room's part up to there asks it.
+pub placed : (room : List ℕ) (at : ℕ) (text : List ℕ) {made new : Report} → made.end ≡ min at (length room) → made.room.now ≡ room → Put made text new
+    → (new.room.now ≡ sets room at text) × (new.end ≡ min (at + length text) (length room)) × (new.end ≤ length new.room.now)
+    × (new.end ≡ length (take new.end new.room.now))
+placed room at text {made} {new} e r p =
+    let w = new.within in
+    let part : new.end ≡ length (take new.end new.room.now) = sym (length-take-le new.end new.room.now w) in
+    elim (dec_le at (length room)) [
+      | yes h ↦
+          let place : made.end ≡ at = e ∙ min-eq_left h in
+          (rw (r, place) at p.holds, rw (r, place) at p.ends, w, part)
+      | no h ↦
+          let past = lt_of_not-le h in
+          let place : made.end ≡ length room = e ∙ min-eq_right (omega arith) in
+          let held : new.room.now ≡ sets room (length room) text = rw (r, place) at p.holds in
+          let ended : new.end ≡ min (length room + length text) (length room) = rw (r, place) at p.ends in
+          (held ∙ sets-out room (length room) text (omega arith) ∙ sym (sets-out room at text (omega arith)), omega (arith, ended), w, part)
+    ]
+
 -- As much of a text as there is room for, put as one part.
 pub put_part : (old : List ℕ) (at n : ℕ) (text : List ℕ) → at ≤ length old → n ≡ min (length text) (length old - at)
     → (put_mid at n old (take n text) ≡ sets old at text) × (at + n ≡ min (at + length text) (length old))

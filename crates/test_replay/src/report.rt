@@ -13,8 +13,18 @@ pub struct Report<'a> {
 }
 
 impl<'a> Report<'a> {
-    ghost use Rattle.std.specs.Prelude.{◌≡◌, take};
+    ghost use Rattle.std.specs.Prelude.{◌≡◌, min, take};
     ghost use Rattle.test_replay.specs.Report.{decimal, filled, difference_text, Put};
+
+    // A report whose text ends at a place, or at the room's end where the place is past it.
+    pub fn at(room: &'a mut [u8], end: usize) -> Report<'a>
+        ensures end { result.end ≡ min end (length room.old) }
+        ensures room { result.room.now ≡ room.old }
+        ensures same_room { result.room.ghost_name ≡ room.entry.ghost_name }
+    {
+        let end = end.min(room.len());
+        Report { room, end }
+    }
 
     // A report without a text as yet.
     pub fn new(room: &'a mut [u8]) -> Report<'a>
@@ -22,7 +32,7 @@ impl<'a> Report<'a> {
         ensures room { result.room.now ≡ room.old }
         ensures same_room { result.room.ghost_name ≡ room.entry.ghost_name }
     {
-        Report { room, end: 0 }
+        Report::at(room, 0)
     }
 
     pub fn text(&self) -> &[u8]
