@@ -1,4 +1,6 @@
 // The answers of the three operations, as the list has them and as they are given.
+ghost use Rattle.std.specs.Prelude.{◌≡◌};
+ghost use Rattle.test_vectors.specs.Answers.{same_answer};
 
 // The refusals that a smaller table or buffer brings, by their numbers in the list. They are numbers, as `Answer` has them: the enum of
 // refusals is of a crate under test, and no number is taken from one here.
@@ -10,7 +12,7 @@ pub(crate) const TEXT_TOO_SHORT: u64 = 32;
 
 // The number of the refusal, 0 where there is none, and the other values in the order of the exported functions' answers. A value that
 // a case does not carry is 0. All are numbers, as the list and the exported functions have them, and are compared as such.
-#[derive(Clone, Copy, PartialEq)]
+#[derive(Clone, Copy)]
 pub struct Answer<const N: usize> {
     pub number: u64,
     pub values: [u64; N],
@@ -26,6 +28,15 @@ pub type OpenAnswer = Answer<12>;
 pub type ListAnswer = Answer<3>;
 
 impl<const N: usize> Answer<N> {
+    // Whether the number and each of the values are those of another answer. A derived comparison would say as much, but no contract would rest
+    // on it, and one that always says yes would be proved.
+    #[tactic(auto, unfolding(crate::specs::Answers::same_answer), using(crate::proofs::Answers::pointwise_same))]
+    pub(crate) fn is(self, other: Answer<N>) -> bool
+        ensures { result ≡ same_answer self.entry other.entry }
+    {
+        self.number == other.number && self.values == other.values
+    }
+
     pub(crate) fn is_refused(self) -> bool {
         self.number != 0
     }

@@ -11,7 +11,7 @@ fn is_listed_by<O: Operations>(wanted: Listing, buffer: &mut [u8]) -> bool {
     let end = room::guarded(wanted.room);
     room::fill(buffer, end);
     let n = room::part(buffer, wanted.room);
-    O::list(wanted.image, &mut buffer[..n]) == wanted.answer
+    O::list(wanted.image, &mut buffer[..n]).is(wanted.answer)
         && room::holds(buffer, wanted.text, end)
 }
 
@@ -52,7 +52,7 @@ fn is_listed_in_all(wanted: Listing, buffer: &mut [u8]) -> bool {
 
 // Whether an image has this header, also by the function of `capi`.
 fn is_opened(image: &[u8], header: OpenAnswer) -> bool {
-    Library::open(image) == header && Exports::open(image) == header
+    Library::open(image).is(header) && Exports::open(image).is(header)
 }
 
 // Whether a text is assembled to its image, with no table and with an image buffer that is just long enough.

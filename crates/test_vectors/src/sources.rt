@@ -18,7 +18,7 @@ fn is_assembled_by<O: Operations>(wanted: Assembling, buffer: &mut [u8]) -> bool
     let n = room::part(buffer, wanted.room);
     let mut table = blank_table();
     let answer = O::assemble(wanted.source, &mut table[..wanted.table], &mut buffer[..n]);
-    answer == wanted.answer
+    answer.is(wanted.answer)
         && has_labels(&table, wanted.labels, wanted.answer.labels())
         && room::holds(buffer, wanted.image, end)
 }
