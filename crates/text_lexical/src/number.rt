@@ -69,8 +69,10 @@ fn with_digit(value: Option<u64>, base: u32, digit: u32) -> Option<u64>
         .checked_add(u64::from(digit))
 }
 
-// The digits of a radix from `begin` on, the highest first, in one pass.
-pub fn digits_at(text: &[u8], begin: usize, radix: Radix) -> Digits
+// The digits of a radix from `begin` on, the highest first, in one pass. It is compiled in line, once for each radix: with a base that is known
+// a digit takes a shift or two sums, and with one that is looked up a multiplication that is tested, three times as long.
+#[inline(always)]
+fn digits_of(text: &[u8], begin: usize, radix: Radix) -> Digits
     requires { begin ≤ length text.now }
     ensures { result ≡ digits_at text.now begin radix }
 {
@@ -84,6 +86,18 @@ pub fn digits_at(text: &[u8], begin: usize, radix: Radix) -> Digits
     Digits {
         value,
         end: text.len(),
+    }
+}
+
+// The digits of a radix from `begin` on.
+pub fn digits_at(text: &[u8], begin: usize, radix: Radix) -> Digits
+    requires { begin ≤ length text.now }
+    ensures { result ≡ digits_at text.now begin radix }
+{
+    match radix {
+        Radix::Binary => digits_of(text, begin, Radix::Binary),
+        Radix::Decimal => digits_of(text, begin, Radix::Decimal),
+        Radix::Hex => digits_of(text, begin, Radix::Hex),
     }
 }
 

@@ -1,7 +1,7 @@
--- `text_lexical::number::digits_at` meets its contract.
+-- `text_lexical::number::digits_of` meets its contract.
 use Rattle.std.proofs.Common.{◌≡◌, ◌∙◌, sym, arith, length}
 use Rattle.text_lexical.proofs.Values.{passed_none, passed-end, passed-step, digit-none}
-use Rattle.text_lexical.proofs.number.digits_at.Goals as goal
+use Rattle.text_lexical.proofs.number.digits_of.Goals as goal
 
 pub loop-end-init : goal.loop-end-init
 loop-end-init c = passed_none _ _ _
