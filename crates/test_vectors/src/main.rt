@@ -24,31 +24,44 @@ use test_replay::report::Report;
 use test_replay::room::room;
 use test_replay::tally::{Outcome, Tally, agrees};
 
-// What a record's parts are read into, with a room for a text that is kept, and the buffers that are lent.
+// What a record's parts are read into, a source or a text into one room, and the buffers that are lent.
 #[derive(Drop)]
 struct Rooms<'a> {
     source: &'a mut [u8],
-    text: &'a mut [u8],
     image: &'a mut [u8],
     image_buffer: &'a mut [u8],
     text_buffer: &'a mut [u8],
 }
 
-fn source_outcome(place: Cursor, rooms: &mut Rooms) -> Outcome {
-    let Some(wanted) = record::source_at(place, rooms.source, rooms.image) else {
+// The text of an accepted source's image goes where the source was, which is not needed any more: a room of its own would be a quarter more of the
+// stack that the program takes. The rooms are handed on one by one, since two of them are lent twice.
+fn source_outcome(
+    place: Cursor,
+    source: &mut [u8],
+    image: &mut [u8],
+    image_buffer: &mut [u8],
+    text_buffer: &mut [u8],
+) -> Outcome {
+    let Some(wanted) = record::source_at(place, source, image) else {
         return Outcome::Differs;
     };
-    if !sources::agrees(wanted, rooms.text, rooms.image_buffer, rooms.text_buffer) {
+    if !sources::agrees(wanted, image_buffer) {
         return Outcome::Differs;
     }
-    match wanted.answer.number {
-        0 => Outcome::Assembled,
-        number => Outcome::Refused(number),
+    let answer = wanted.answer;
+    if answer.is_refused() {
+        return Outcome::Refused(answer.number);
     }
+    let length = wanted.image.len();
+    let n = room::part(image, length);
+    if !sources::is_listed(answer, &image[..n], source, image_buffer, text_buffer) {
+        return Outcome::Differs;
+    }
+    Outcome::Assembled
 }
 
 fn image_outcome(place: Cursor, rooms: &mut Rooms) -> Outcome {
-    let Some(wanted) = record::image_at(place, rooms.text, rooms.image) else {
+    let Some(wanted) = record::image_at(place, rooms.source, rooms.image) else {
         return Outcome::Differs;
     };
     if !images::agrees(wanted, rooms.image_buffer, rooms.text_buffer) {
@@ -64,7 +77,13 @@ fn image_outcome(place: Cursor, rooms: &mut Rooms) -> Outcome {
 // length of the text buffer.
 fn outcome(place: Cursor, rooms: &mut Rooms) -> Outcome {
     if place.has_tag(b's') || place.has_tag(b'x') {
-        return source_outcome(place, rooms);
+        return source_outcome(
+            place,
+            rooms.source,
+            rooms.image,
+            rooms.image_buffer,
+            rooms.text_buffer,
+        );
     }
     image_outcome(place, rooms)
 }
@@ -97,15 +116,13 @@ fn main(rt: HostRuntime) -> io::Result<()> {
     let n = read_full(&mut rt.stdin(), &mut list)?;
     // a source that is too long by 64 bytes
     let mut source = room::<1048640>();
-    // the text of 32,768 words, and what is looked at after it
-    let mut text = room::<721152>();
     // an image of one word too many, and what is looked at after it
     let mut image = room::<131328>();
     let mut image_buffer = room::<131328>();
+    // the text of 32,768 words, and what is looked at after it
     let mut text_buffer = room::<721152>();
     let rooms = Rooms {
         source: &mut source,
-        text: &mut text,
         image: &mut image,
         image_buffer: &mut image_buffer,
         text_buffer: &mut text_buffer,

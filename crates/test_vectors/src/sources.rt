@@ -106,41 +106,36 @@ fn header_of(answer: AssembleAnswer) -> OpenAnswer {
     ])
 }
 
-// Lists an accepted source's image. The list has no text for it, so the text is kept, and it has to be the same with every buffer and
-// to be assembled to the image again.
-fn is_listed(
-    wanted: Assembling,
+// Whether an accepted source's image is listed, and comes back from its text. The list has no text for it, so the text is kept, and it has to be
+// the same with every buffer and to be assembled to the image again.
+pub(crate) fn is_listed(
+    assembled: AssembleAnswer,
+    image: &[u8],
     kept: &mut [u8],
     image_buffer: &mut [u8],
     text_buffer: &mut [u8],
 ) -> bool {
-    let answer = Library::list(wanted.image, text_buffer);
+    let answer = Library::list(image, text_buffer);
     if answer.is_refused() {
         return false;
     }
     let [length, ..] = answer.values;
     let length = length as usize;
-    let image = Image {
-        header: header_of(wanted.answer),
+    let wanted = Image {
+        header: header_of(assembled),
         listing: Listing {
-            image: wanted.image,
+            image,
             room: room::guarded(length),
             answer,
             text: room::kept(text_buffer, kept, length),
         },
     };
-    crate::images::agrees(image, image_buffer, text_buffer)
+    crate::images::agrees(wanted, image_buffer, text_buffer)
 }
 
-// Whether a source's record is answered as the list has it, and its image comes back from its text.
-pub(crate) fn agrees(
-    wanted: Assembling,
-    kept: &mut [u8],
-    image_buffer: &mut [u8],
-    text_buffer: &mut [u8],
-) -> bool {
-    is_assembled(wanted, image_buffer)
-        && is_assembled_with_tables(wanted, image_buffer)
-        && is_assembled_in_all(wanted, image_buffer)
-        && (wanted.answer.is_refused() || is_listed(wanted, kept, image_buffer, text_buffer))
+// Whether a source's record is answered as the list has it.
+pub(crate) fn agrees(wanted: Assembling, buffer: &mut [u8]) -> bool {
+    is_assembled(wanted, buffer)
+        && is_assembled_with_tables(wanted, buffer)
+        && is_assembled_in_all(wanted, buffer)
 }
