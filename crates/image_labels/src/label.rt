@@ -129,6 +129,7 @@ impl Labels<'_> {
         for entry in &mut self.table[..self.count] {
             *entry = crate::tree::plain(*entry);
         }
+        // the roots stay as they are, since no label is looked up any more
     }
 }
 
