@@ -55,7 +55,9 @@ fn blank_table() -> [Label; TABLE_ROOM] {
     [blank; TABLE_ROOM]
 }
 
-// An input assembled, with a table of so many labels.
+// An input assembled, with a table of so many labels. It is told to be a call: in line, an input that is too long would take stack for table and
+// buckets too.
+#[inline(never)]
 fn assemble(input: &[u8], image: &mut [u8]) -> Result<Assembled, AssembleError>
     ensures { AssemblesInput input.now image.old image.new result }
 {
