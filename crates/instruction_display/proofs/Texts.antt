@@ -66,7 +66,7 @@ operands-length Branch rs n h = omega (arith, places-length (places Branch) rs n
 operands-length Jump rs n h = omega (arith, places-length (places Jump) rs n h)
 operands-length System rs n h = omega arith
 
--- The text of a form, with any registers, a number or none, and any mnemonic: its own form may be another.
+-- The text of a form, with any registers, a number or none, and any mnemonic, of another form too, has at most 39 bytes.
 pub form-bound : (f : Form) (m : Mnemonic) (rs : List Register) (n : Option ℤ) → SixtyFour n → length (form_text f m (map index_of rs) n) ≤ 39
 unfolding form_text
 form-bound f m rs n h = rw length-append (omega (arith, operands-length f rs n (number-text-length n h), (mnemonic-short m).few))

@@ -100,8 +100,8 @@ decimal-none b e l h = no_both (rw (le-leb 48 b l, le-leb b 57 h)) (digit-none D
 
 -- Digits that have been passed, and the value of them all.
 pub record Passed (radix : Radix) (s : List ℕ) (begin : ℕ) (value : CodeOption ℕ) (end : ℕ) : Type 0 where
-  digits : every (is_digit_of radix) (take (end - begin) (drop begin s)) ≡ true
-  value-is : value ≡ fitting (value_of (base_of radix) (take (end - begin) (drop begin s)))
+  pub digits : every (is_digit_of radix) (take (end - begin) (drop begin s)) ≡ true
+  pub value-is : value ≡ fitting (value_of (base_of radix) (take (end - begin) (drop begin s)))
 
 pub passed_none : (radix : Radix) (s : List ℕ) (begin : ℕ) → Passed radix s begin (Some 0) begin
 unfolding every value_of value_from fitting

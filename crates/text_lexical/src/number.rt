@@ -1,8 +1,9 @@
 // Numbers: digits at a place of a text, their value where it fits 64 bits, whole numbers, their residues, and ranges. The place is asked to be
 // within the text, as in `bytes`.
-ghost use Rattle.std.specs.Prelude.{◌≡◌, suc, ◌+◌, ◌*◌, ◌%◌, ◌^◌, ◌≤◌, ◌<◌, length, pos, nat_abs, None, MatchOption};
-ghost use Rattle.text_lexical.specs.Promised.{base_of, digit_of, digits_at, fitting, whole_meant, whole_for, Reduced, range_meant, below_zero, IsRange};
-ghost use Rattle.text_lexical.specs.Numbers.{minus, is_negative, lies_in};
+ghost use Rattle.std.specs.Prelude.{◌≡◌, suc, ◌+◌, ◌-◌, ◌*◌, ◌%◌, ◌^◌, ◌≤◌, ◌<◌, true, length, take, drop, pos, nat_abs, None, MatchOption};
+ghost use Rattle.text_lexical.specs.Bytes.{every};
+ghost use Rattle.text_lexical.specs.Promised.{base_of, digit_of, is_digit_of, digits_at, fitting, whole_meant, whole_for, Reduced, range_meant, below_zero, IsRange};
+ghost use Rattle.text_lexical.specs.Numbers.{value_of, minus, is_negative, lies_in};
 
 // The radix by which digits are read.
 #[derive(Clone, Copy)]
@@ -60,7 +61,7 @@ pub(crate) fn decimal(b: u8) -> Option<u8>
     Some(digit as u8)
 }
 
-// The value of digits with one more, where it fits. The compiler makes one multiplication with a test of it, and no division.
+// The value of digits with one more, where it fits: a product that is tested and a sum, without a division.
 fn with_digit(value: Option<u64>, base: u32, digit: u32) -> Option<u64>
     ensures { MatchOption value (result ≡ None) (λ v. result ≡ fitting (v * base + digit)) }
 {
@@ -69,22 +70,46 @@ fn with_digit(value: Option<u64>, base: u32, digit: u32) -> Option<u64>
         .checked_add(u64::from(digit))
 }
 
-// The digits of a radix from `begin` on, the highest first, in one pass. It is compiled in line, once for each radix: with a base that is known
-// a digit takes a shift or two sums, and with one that is looked up a multiplication that is tested, three times as long.
+// The digits of a radix from `begin` on where the value of those before `at` does not fit: only their end is left to find.
+fn too_large(text: &[u8], begin: usize, at: usize, radix: Radix) -> Digits
+    requires at_in_text { (begin ≤ at) × (at ≤ length text.now) }
+    requires all_digits { every (is_digit_of radix) (take (at - begin) (drop begin text.now)) ≡ true }
+    requires large { None ≡ fitting (value_of (base_of radix) (take (at - begin) (drop begin text.now))) }
+    ensures { result ≡ digits_at text.now begin radix }
+{
+    for end in at..text.len() {
+        let Some(_) = radix.digit(text[end]) else {
+            return Digits { value: None, end };
+        };
+    }
+    Digits {
+        value: None,
+        end: text.len(),
+    }
+}
+
+// The digits of a radix from `begin` on, the highest first, in one pass. It is compiled in line, once for each radix, and leaves where a value is
+// too large: with a base that is known, a digit that fits takes a shift or two sums, and no choice between values is carried to the next.
 #[inline(always)]
 fn digits_of(text: &[u8], begin: usize, radix: Radix) -> Digits
     requires { begin ≤ length text.now }
     ensures { result ≡ digits_at text.now begin radix }
 {
-    let mut value = Some(0);
+    let mut value = 0;
     for end in begin..text.len() {
         let Some(digit) = radix.digit(text[end]) else {
-            return Digits { value, end };
+            return Digits {
+                value: Some(value),
+                end,
+            };
         };
-        value = with_digit(value, radix.base(), digit);
+        let Some(more) = with_digit(Some(value), radix.base(), digit) else {
+            return too_large(text, begin, end + 1, radix);
+        };
+        value = more;
     }
     Digits {
-        value,
+        value: Some(value),
         end: text.len(),
     }
 }
